@@ -1,0 +1,5 @@
+pub mod Euclid
+pub mod Lists
+pub mod Microframes
+pub mod RingFacts
+pub mod Steps
