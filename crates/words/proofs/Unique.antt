@@ -1,0 +1,69 @@
+-- Each public function's promise leaves one answer: two that keep it, at the same arguments, are equal. Each line is over the
+-- function's own contract, so it fails where the promise is weakened. Assumes nothing.
+use Prim.Native.Nat.{ℕ}
+use mathlib.Core.List.{List}
+use mathlib.Core.Path.{_≡_, refl, sym, _∙_}
+use contract.Lifetimes.{Lfts}
+use denote.Triple.Clauses.{Lasts, atExit}
+use borrow.Fn.Kinds.{PK, RK, Out, Dens, resT, endedOf}
+use Rattle.words.proofs.channel
+use Rattle.words.proofs.descriptor
+use Rattle.words.proofs.descriptor.DmaDescriptor
+use Rattle.words.proofs.interrupt
+
+-- a promise fixes the result, and what lies behind each reference at the exit
+abbrev pub Unique : (n : ℕ) (ps : List (PK n)) (r : RK n) → Out n ps r → Type 0
+Unique n ps r Post =
+    (κs : Lfts n) (a : Dens κs ps) (x y : resT r κs .Denot) (u v : Lasts (endedOf n ps r) κs a)
+    → Post κs a x (atExit (endedOf n ps r) κs a u)
+    → Post κs a y (atExit (endedOf n ps r) κs a v)
+    → (x ≡ y) × (u ≡ v)
+
+-- a promise that is an equation of the result
+pub equal : {A L : Type 0} {x y e : A} {u v : L} → u ≡ v → x ≡ e → y ≡ e → (x ≡ y) × (u ≡ v)
+equal l p q = (p ∙ sym q, l)
+
+pub hcchar-unique : Unique 0 channel.hcchar.Kinds.ps channel.hcchar.Kinds.r channel.hcchar.Reads.Post
+hcchar-unique κs a x y u v = equal refl
+
+pub hctsiz-ddma-unique : Unique 0 channel.hctsiz_ddma.Kinds.ps channel.hctsiz_ddma.Kinds.r channel.hctsiz_ddma.Reads.Post
+hctsiz-ddma-unique κs a x y u v = equal refl
+
+pub initial-len-unique : Unique 0 descriptor.initial_len.Kinds.ps descriptor.initial_len.Kinds.r descriptor.initial_len.Reads.Post
+initial-len-unique κs a x y u v = equal refl
+
+pub new-iso-unique : Unique 0 DmaDescriptor.new_iso.Kinds.ps DmaDescriptor.new_iso.Kinds.r DmaDescriptor.new_iso.Reads.Post
+new-iso-unique κs a x y u v = equal refl
+
+pub new-setup-unique : Unique 0 DmaDescriptor.new_setup.Kinds.ps DmaDescriptor.new_setup.Kinds.r DmaDescriptor.new_setup.Reads.Post
+new-setup-unique κs a x y u v = equal refl
+
+pub new-in-unique : Unique 0 DmaDescriptor.new_in.Kinds.ps DmaDescriptor.new_in.Kinds.r DmaDescriptor.new_in.Reads.Post
+new-in-unique κs a x y u v = equal refl
+
+pub new-out-unique : Unique 0 DmaDescriptor.new_out.Kinds.ps DmaDescriptor.new_out.Kinds.r DmaDescriptor.new_out.Reads.Post
+new-out-unique κs a x y u v = equal refl
+
+pub is-active-unique : Unique 0 DmaDescriptor.is_active.Kinds.ps DmaDescriptor.is_active.Kinds.r DmaDescriptor.is_active.Reads.Post
+is-active-unique κs a x y u v = equal refl
+
+pub remaining-unique : Unique 0 DmaDescriptor.remaining.Kinds.ps DmaDescriptor.remaining.Kinds.r DmaDescriptor.remaining.Reads.Post
+remaining-unique κs a x y u v = equal refl
+
+pub iso-remaining-unique : Unique 0 DmaDescriptor.iso_remaining.Kinds.ps DmaDescriptor.iso_remaining.Kinds.r DmaDescriptor.iso_remaining.Reads.Post
+iso-remaining-unique κs a x y u v = equal refl
+
+pub iso-status-error-unique : Unique 0 DmaDescriptor.iso_status_error.Kinds.ps DmaDescriptor.iso_status_error.Kinds.r DmaDescriptor.iso_status_error.Reads.Post
+iso-status-error-unique κs a x y u v = equal refl
+
+pub hcint-xfercompl-unique : Unique 0 interrupt.hcint_xfercompl.Kinds.ps interrupt.hcint_xfercompl.Kinds.r interrupt.hcint_xfercompl.Reads.Post
+hcint-xfercompl-unique κs a x y u v = equal refl
+
+pub hcint-chhltd-unique : Unique 0 interrupt.hcint_chhltd.Kinds.ps interrupt.hcint_chhltd.Kinds.r interrupt.hcint_chhltd.Reads.Post
+hcint-chhltd-unique κs a x y u v = equal refl
+
+pub hcint-fault-unique : Unique 0 interrupt.hcint_fault.Kinds.ps interrupt.hcint_fault.Kinds.r interrupt.hcint_fault.Reads.Post
+hcint-fault-unique κs a x y u v = equal refl
+
+pub iso-hcintmsk-unique : Unique 0 interrupt.iso_hcintmsk.Kinds.ps interrupt.iso_hcintmsk.Kinds.r interrupt.iso_hcintmsk.Reads.Post
+iso-hcintmsk-unique κs a x y u v = equal refl
