@@ -3,3 +3,4 @@ pub mod Lists
 pub mod Microframes
 pub mod RingFacts
 pub mod Steps
+pub mod Unique

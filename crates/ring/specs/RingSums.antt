@@ -4,6 +4,10 @@ use mathlib.Core.List.{List, [], _∷_, _++_}
 use Prim.Native.Nat.{ℕ, zero, suc, _+_, _-_, _*_, _/_, _%_, _^_, max}
 use lib.Dec.{eqb, leb}
 use lib.ListN.{length, replicate}
+use Rattle.words.specs.declared.types.Direction.{Direction}
+use Rattle.words.specs.declared.types.Direction.the-variants.{Out, In}
+use Rattle.words.specs.declared.types.Dwc2Pid.{Dwc2Pid}
+use Rattle.words.specs.declared.types.Dwc2Pid.the-variants.{Data0, Data1, Data2, MData}
 use Rattle.ring.specs.Gcd.{gcd}
 use Rattle.ring.specs.declared.speed.Speed.{Speed}
 use Rattle.ring.specs.declared.speed.Speed.the-variants.{High, Full, Low}
@@ -93,6 +97,29 @@ serviceFrames start interval speed = walk 64 (frameStep speed interval) (start %
 -- the list as a count and 64 bytes, those behind it zero
 abbrev pub frameTable : List ℕ → IsoServiceFrames
 frameTable frames = record { count = length frames; frames = frames ++ replicate (64 - length frames) 0 }
+
+-- "PID: high-speed IN gives DATA0, DATA1, DATA2 for mult 1, 2, 3", where "mult 0 counts as 1"; above 3 as for 3
+abbrev pub pidIn : ℕ → Dwc2Pid
+pidIn zero = Data0
+pidIn (suc zero) = Data0
+pidIn (suc (suc zero)) = Data1
+pidIn (suc (suc (suc m))) = Data2
+
+-- "OUT gives DATA0 for mult 1, else MDATA"
+abbrev pub pidOut : ℕ → Dwc2Pid
+pidOut zero = Data0
+pidOut (suc zero) = Data0
+pidOut (suc (suc m)) = MData
+
+abbrev pub pidHigh : Direction → ℕ → Dwc2Pid
+pidHigh In mult = pidIn mult
+pidHigh Out mult = pidOut mult
+
+-- "full speed DATA0"
+abbrev pub pidOf : Speed → Direction → ℕ → Dwc2Pid
+pidOf High direction mult = pidHigh direction mult
+pidOf Full direction mult = Data0
+pidOf Low direction mult = Data0
 
 -- "The next request number after 2^64 − 1 is 1."
 abbrev pub nextNumber : ℕ → ℕ

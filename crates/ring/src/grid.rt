@@ -2,7 +2,7 @@
 ghost use mathlib.Core.Path.{_≡_};
 ghost use Prim.Native.Nat.{_<_, max};
 ghost use Rattle.ring.specs.Gcd.{gcd as Gcd·gcd};
-ghost use Rattle.ring.specs.RingSums.{ringSize, gridStep, capacity, gridSlot};
+ghost use Rattle.ring.specs.RingSums.{ringSize, gridStep, capacity, gridGap, gridSlot};
 use crate::speed::Speed;
 use crate::speed::iso_ring_size;
 
@@ -29,15 +29,25 @@ fn grid_step(interval: u16, ring: u16) -> u16
     gcd(at_least_one(interval), at_least_one(ring))
 }
 
+// How far the cursor's grid lies ahead of the target: (td_last - target) mod step, which is never negative.
+fn grid_gap(step: u16, td_last: u16, target: u16) -> u16
+    requires { ⌜ 0 < step ⌝ }
+    ensures { λ r. ⌜ r ≡ gridGap step «td_last» target ⌝ }
+{
+    let ahead = td_last % step;
+    let behind = step - target % step;
+    ((ahead as u32 + behind as u32) % step as u32) as u16
+}
+
 // The slot at which to insert: the first at or after `target` on the grid of the cursor `td_last`. A service takes place where
 // the descriptor index has the remainder of the channel's start, so any other slot is never visited.
 pub fn advance_along_grid(td_last: u16, target: u16, interval: u16, ring: u16) -> u16
     ensures { λ r. ⌜ r ≡ gridSlot «td_last» target interval ring ⌝ }
 {
-    let step = grid_step(interval, ring) as u32;
-    let delta = (td_last as u32 % step + (step - target as u32 % step)) % step;
-    let size = at_least_one(ring) as u32;
-    ((target as u32 + delta) % size) as u16
+    let step = grid_step(interval, ring);
+    let gap = grid_gap(step, td_last, target);
+    let size = at_least_one(ring);
+    ((target as u32 + gap as u32) % size as u32) as u16
 }
 
 // The most packets in flight: one less than the slots that the grid has, so that the cursor never meets a slot in use.

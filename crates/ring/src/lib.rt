@@ -1,6 +1,7 @@
 // The sums of the descriptor ring: document 01, "Ring sums". Every function answers for every input, and none has a `requires`.
 mod frames;
 mod grid;
+mod pid;
 mod request;
 mod speed;
 
@@ -12,6 +13,7 @@ pub use frames::iso_starting_frame;
 pub use grid::advance_along_grid;
 pub use grid::gcd;
 pub use grid::iso_max_packets;
+pub use pid::iso_pid;
 pub use request::next_request_id;
 pub use speed::Speed;
 pub use speed::iso_max_xfer_size;

@@ -22,7 +22,7 @@ returns : tie.Need-returns
 returns c =
     let a = c .before .before .before .before .args in
     let ahead : c .before .before .wrapping-add-u32 .result ≡ (a .raw-frame + microframesAhead (a .raw-frame)) % 2 ^ 32 =
-        c .before .before .wrapping-add-u32 .ensures ∙ ap (λ (k : ℕ). (a .raw-frame + k) % 2 ^ 32) (c .before .before .before .microframes-ahead .ensures) in
+    c .before .before .wrapping-add-u32 .ensures ∙ ap (λ (k : ℕ). (a .raw-frame + k) % 2 ^ 32) (c .before .before .before .microframes-ahead .ensures) in
     c .at-speed .ensures .0 ∙ ap₂ (λ (h f : ℕ). atSpeed (a .speed) (h / 8) (f % 2 ^ 16)) ahead (c .before .wrapping-add-u322 .ensures)
 
 pub iso-starting-frame-spec : {M : Type 1} → statement M

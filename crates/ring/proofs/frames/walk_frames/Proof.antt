@@ -51,7 +51,7 @@ module _ (first step : ℕ) (below : first < 64) where
   last count h same =
       ⊎-elim (λ (e : suc count ≡ turns step). add-one count ∙ e)
       (λ (l : suc count < turns step). absurd (steps-apart 64 step (omega arith) first 0 (count + 1) (omega arith) (omega arith)
-        (sym begins ∙ sym same ∙ ap (slotAt 64 first step) (sym (zero-add (count + 1))))))
+      (sym begins ∙ sym same ∙ ap (slotAt 64 first step) (sym (zero-add (count + 1))))))
       (eq-or-lt-of-le h)
 
   -- one more entry
@@ -59,7 +59,7 @@ module _ (first step : ℕ) (below : first < 64) where
   stores count h =
       let fits : count < length (entries first step) = subst (λ (n : ℕ). count < n) (sym (length-slotsFrom 64 first step 0 (turns step))) h in
       let entry : getD (entries first step) count 0 ≡ slotAt 64 first step count =
-          getD-slotsFrom 64 first step 0 (turns step) count h ∙ ap (slotAt 64 first step) (zero-add count) in
+      getD-slotsFrom 64 first step 0 (turns step) count h ∙ ap (slotAt 64 first step) (zero-add count) in
       ap (set (written first step count) count) (sym entry)
       ∙ ap (λ (k : ℕ). set (written first step count) k (getD (entries first step) count 0)) (sym (zero-add count))
       ∙ paste-suc (replicate 64 0) 0 (entries first step) count 0 (omega (arith, few step)) fits
@@ -119,16 +119,17 @@ loop-less c = omega arith
 
 loop-again : tie.Need-loop-again Inv-loop μ-loop
 loop-again c =
-    let a = c .before .before .args in
-    (not-last (a .first) (a .step) (c .before .before .pre .0) (c .before .loop .count) (c .before .loop .inv .0) (λ same. c .loop-test .left (next-frame (c .before) ∙ same)),
-    next-frame (c .before),
-    next-table (c .before))
+    let a = c .before .before .args in (
+      not-last (a .first) (a .step) (c .before .before .pre .0) (c .before .loop .count) (c .before .loop .inv .0) (λ same. c .loop-test .left (next-frame (c .before) ∙ same)),
+      next-frame (c .before),
+      next-table (c .before),
+    )
 
 returns : tie.Need-returns Inv-loop μ-loop
 returns c =
     let a = c .before .before .args in
     let all : c .before .loop .count + 1 ≡ turns (a .step) =
-        last (a .first) (a .step) (c .before .before .pre .0) (c .before .loop .count) (c .before .loop .inv .0) (sym (next-frame (c .before)) ∙ c .loop-test .taken) in
+    last (a .first) (a .step) (c .before .before .pre .0) (c .before .loop .count) (c .before .loop .inv .0) (sym (next-frame (c .before)) ∙ c .loop-test .taken) in
     ap (tabled (c .before .loop .count + 1)) (next-table (c .before)) ∙ table (a .first) (a .step) (c .before .before .pre .0) (c .before .loop .count + 1) all
 
 pub walk-frames-spec : {M : Type 1} → statement M

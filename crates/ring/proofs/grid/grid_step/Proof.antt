@@ -21,7 +21,7 @@ returns : tie.Need-returns
 returns c =
     let a = c .before .before .before .args in
     let e : c .gcd .result ≡ gridStep (a .interval) (a .ring) =
-        c .gcd .ensures ∙ ap₂ gcd (c .before .before .at-least-one .ensures) (c .before .at-least-one2 .ensures) in
+    c .gcd .ensures ∙ ap₂ gcd (c .before .before .at-least-one .ensures) (c .before .at-least-one2 .ensures) in
     (e, subst⁻¹ (λ (g : ℕ). 0 < g) e (grid-step-pos (a .interval) (a .ring)))
 
 pub grid-step-spec : {M : Type 1} → statement M

@@ -1,0 +1,36 @@
+-- Document 01, "Worked numbers": what 01 says beside what the definitions give, one row for each P.
+use Prim.Native.Nat.{ℕ}
+use mathlib.Core.List.{List, [], _∷_, map}
+use Rattle.ring.specs.RingSums.{schinfo, capacity, startingFrame, frameSlot, gridSlot}
+use Rattle.ring.specs.declared.speed.Speed.the-variants.{High, Full}
+
+pub record Row : Type 0 where
+  pub says : List ℕ
+  pub gives : List ℕ
+
+infix 60 _⊜_
+abbrev pub _⊜_ : List ℕ → List ℕ → Row
+says ⊜ gives = record { says = says; gives = gives }
+
+-- "P1 SCHINFO, high speed, intervals 0, 1, 2, 3, 4, 8: 255, 255, 85, 73, 17, 1."
+abbrev pub p1 : Row
+p1 = (255 ∷ 255 ∷ 85 ∷ 73 ∷ 17 ∷ 1 ∷ []) ⊜ map (schinfo High) (0 ∷ 1 ∷ 2 ∷ 3 ∷ 4 ∷ 8 ∷ [])
+
+-- "P2 capacity: high speed 1, 6, 128, 256: 255, 127, 1, 0."
+abbrev pub p2 : Row
+p2 = (255 ∷ 127 ∷ 1 ∷ 0 ∷ []) ⊜ map (λ i. capacity i 256) (1 ∷ 6 ∷ 128 ∷ 256 ∷ [])
+
+-- "P3 start, high speed, raw 4, 5, 4,294,967,295: 1, 2, 1; full speed 65,534: 0."
+abbrev pub p3 : Row
+p3 = (1 ∷ 2 ∷ 1 ∷ 0 ∷ []) ⊜ (startingFrame High 4 ∷ startingFrame High 5 ∷ startingFrame High 4_294_967_295 ∷ startingFrame Full 65_534 ∷ [])
+
+-- "P4 slot: high 31, 32: 248, 0; full 64: 0."
+abbrev pub p4 : Row
+p4 = (248 ∷ 0 ∷ 0 ∷ []) ⊜ (frameSlot High 31 ∷ frameSlot High 32 ∷ frameSlot Full 64 ∷ [])
+
+-- "P5 grid, interval 4, R 64: (c 5, t 16) 17; (2, 63) 2; (3, 63) 63."
+abbrev pub p5 : Row
+p5 = (17 ∷ 2 ∷ 63 ∷ []) ⊜ (gridSlot 5 16 4 64 ∷ gridSlot 2 63 4 64 ∷ gridSlot 3 63 4 64 ∷ [])
+
+abbrev pub table : List Row
+table = p1 ∷ p2 ∷ p3 ∷ p4 ∷ p5 ∷ []
