@@ -1,0 +1,5 @@
+pub mod Chains
+pub mod Control
+pub mod Data
+pub mod Refusals
+pub mod Split
