@@ -2,8 +2,9 @@
 use mathlib.Core.Path.{_≡_, refl}
 use mathlib.Core.List.{map}
 use Rattle.ring.specs.Gcd.{gcd}
+use Rattle.plan.specs.DataStages.{stagesFrom}
 use Rattle.worked.specs.Table.{table}
 
 pub worked-numbers : map (λ row. row .says) table ≡ map (λ row. row .gives) table
-unfolding gcd
+unfolding gcd stagesFrom
 worked-numbers = refl

@@ -1,8 +1,15 @@
 -- Document 01, "Worked numbers": what 01 says beside what the definitions give, one row for each P.
 use Prim.Native.Nat.{ℕ}
-use mathlib.Core.List.{List, [], _∷_, map}
+use mathlib.Core.Bool.{false}
+use mathlib.Core.List.{List, [], _∷_, _++_, map}
+use lib.ListN.{length}
+use Rattle.words.specs.declared.types.Direction.the-variants.{Out}
 use Rattle.ring.specs.RingSums.{schinfo, capacity, startingFrame, frameSlot, gridSlot}
 use Rattle.ring.specs.declared.speed.Speed.the-variants.{High, Full}
+use Rattle.plan.specs.Planning.{lengths}
+use Rattle.plan.specs.DataStages.{dataStages}
+use Rattle.plan.specs.declared.types.DataKind.the-variants.{Bulk}
+use Rattle.plan.specs.declared.types.DataRequest.{DataRequest}
 
 pub record Row : Type 0 where
   pub says : List ℕ
@@ -32,5 +39,27 @@ p4 = (248 ∷ 0 ∷ 0 ∷ []) ⊜ (frameSlot High 31 ∷ frameSlot High 32 ∷ f
 abbrev pub p5 : Row
 p5 = (17 ∷ 2 ∷ 63 ∷ []) ⊜ (gridSlot 5 16 4 64 ∷ gridSlot 2 63 4 64 ∷ gridSlot 3 63 4 64 ∷ [])
 
+-- a bulk OUT of so many bytes in packets of 512
+abbrev pub diskRequest : ℕ → DataRequest
+diskRequest len =
+    record {
+      kind = Bulk;
+      direction = Out;
+      «port_speed» = High;
+      device = 1;
+      endpoint = 2;
+      «max_packet_size» = 512;
+      «odd_frame» = false;
+      toggle = record { 0 = false };
+      base = 0;
+      len = len;
+    }
+
+-- "P7 m 512: 0 gives [0]; 130,560 one chunk; 130,561 gives [130,560, 1]; 33,423,360 one stage, one byte more two."
+abbrev pub p7 : Row
+p7 =
+    (0 ∷ 130_560 ∷ 130_560 ∷ 1 ∷ 1 ∷ 2 ∷ [])
+    ⊜ (lengths 0 512 ++ lengths 130_560 512 ++ lengths 130_561 512 ++ map (λ len. length (dataStages (diskRequest len))) (33_423_360 ∷ 33_423_361 ∷ []))
+
 abbrev pub table : List Row
-table = p1 ∷ p2 ∷ p3 ∷ p4 ∷ p5 ∷ []
+table = p1 ∷ p2 ∷ p3 ∷ p4 ∷ p5 ∷ p7 ∷ []

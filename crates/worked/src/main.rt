@@ -1,5 +1,6 @@
 // Document 01's worked numbers through the code: each on a line beside what the code answers. The claim that the definitions
 // give them stands in proofs/Claim.antt.
+mod planning;
 mod ring_sums;
 mod row;
 
