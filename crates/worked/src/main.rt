@@ -5,10 +5,6 @@ mod ring_sums;
 mod row;
 
 fn main() {
-    let wrong = ring_sums::p1()
-        + ring_sums::p2()
-        + ring_sums::p3()
-        + ring_sums::p4()
-        + ring_sums::p5();
+    let wrong = ring_sums::all() + planning::p7();
     row::last(wrong);
 }

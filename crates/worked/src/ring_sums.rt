@@ -3,7 +3,13 @@ ghost use Prim.Native.Nat.{_≤_};
 use crate::row::row;
 use ring::Speed;
 
-pub(crate) fn p1() -> u32
+pub(crate) fn all() -> u32
+    ensures { λ r. ⌜ r ≤ 20 ⌝ }
+{
+    p1() + p2() + p3() + p4() + p5()
+}
+
+fn p1() -> u32
     ensures { λ r. ⌜ r ≤ 6 ⌝ }
 {
     row(
@@ -38,7 +44,7 @@ pub(crate) fn p1() -> u32
         )
 }
 
-pub(crate) fn p2() -> u32
+fn p2() -> u32
     ensures { λ r. ⌜ r ≤ 4 ⌝ }
 {
     row(
@@ -63,7 +69,7 @@ pub(crate) fn p2() -> u32
         )
 }
 
-pub(crate) fn p3() -> u32
+fn p3() -> u32
     ensures { λ r. ⌜ r ≤ 4 ⌝ }
 {
     row(
@@ -88,7 +94,7 @@ pub(crate) fn p3() -> u32
         )
 }
 
-pub(crate) fn p4() -> u32
+fn p4() -> u32
     ensures { λ r. ⌜ r ≤ 3 ⌝ }
 {
     row(
@@ -108,7 +114,7 @@ pub(crate) fn p4() -> u32
         )
 }
 
-pub(crate) fn p5() -> u32
+fn p5() -> u32
     ensures { λ r. ⌜ r ≤ 3 ⌝ }
 {
     row(
