@@ -10,7 +10,7 @@ use Rattle.words.specs.declared.types.Dwc2EpType.the-variants.{Control}
 use Rattle.words.specs.declared.types.Dwc2Pid.the-variants.{Data1, Setup}
 use Rattle.words.specs.Field.{bits, bit, _≔_, word}
 use Rattle.words.specs.Numbers.{directionNumber}
-use Rattle.words.specs.Words.{initialLen, hccharWord}
+use Rattle.words.specs.Words.{initialLen, hccharWord, isBeyond}
 use Rattle.plan.specs.declared.control.SetupPacket.{SetupPacket}
 use Rattle.plan.specs.declared.types.ControlRequest.{ControlRequest}
 use Rattle.plan.specs.declared.types.ControlSetup.{ControlSetup}
@@ -23,7 +23,7 @@ use Rattle.plan.specs.declared.types.RequestType.{RequestType}
 use Rattle.plan.specs.declared.types.Recipient.{Recipient}
 use Rattle.plan.specs.Numbers.{requestTypeNumber, recipientNumber}
 use Rattle.plan.specs.Planning.{stageOf, laidOut}
-use Rattle.plan.specs.Refusals.{_⇒_, firstOf, isShort, isBad, isBeyond, ifPlanned}
+use Rattle.plan.specs.Refusals.{_⇒_, firstOf, isShort, isBad, ifPlanned}
 use Rattle.plan.specs.DataStages.{isIn, blankStage}
 
 -- "Packet size m is the given one, raised to 1 (control: 8 ..)"

@@ -8,7 +8,7 @@ use Rattle.words.specs.declared.types.Direction.{Direction}
 use Rattle.words.specs.declared.types.Direction.the-variants.{Out, In}
 use Rattle.words.specs.declared.types.Dwc2EpType.{Dwc2EpType}
 use Rattle.words.specs.declared.types.Dwc2EpType.the-variants.{Bulk, Interrupt}
-use Rattle.words.specs.Words.{packets, initialLen, hccharWord}
+use Rattle.words.specs.Words.{packets, initialLen, hccharWord, isBeyond}
 use Rattle.ring.specs.declared.speed.Speed.{Speed}
 use Rattle.ring.specs.declared.speed.Speed.the-variants.{High, Full, Low}
 use Rattle.plan.specs.declared.toggle.DataToggle.{DataToggle}
@@ -21,7 +21,7 @@ use Rattle.plan.specs.declared.types.Dwc2StageRole.the-variants.{Data}
 use Rattle.plan.specs.declared.types.PlanAnswer.{PlanAnswer}
 use Rattle.plan.specs.declared.types.PlanAnswer.the-variants.{Planned, ShortBuffer, BadEndpoint, TooManyDescriptors, AddressLimit}
 use Rattle.plan.specs.Planning.{chunkOf, splitOf, pidOfToggle, advanced, stageOf, laidOut}
-use Rattle.plan.specs.Refusals.{_⇒_, firstOf, isShort, isBad, isBeyond, ifPlanned}
+use Rattle.plan.specs.Refusals.{_⇒_, firstOf, isShort, isBad, ifPlanned}
 
 abbrev pub isIn : Direction → Bool
 isIn Out = false

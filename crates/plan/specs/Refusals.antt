@@ -1,7 +1,7 @@
 -- Document 01, "Refusal numbers": "Planning checks 17, 18, 19, 20, 11". The order of a list of tests is the order of 01.
 use mathlib.Core.Bool.{Bool, true, false, _||_, cond}
 use mathlib.Core.List.{List, [], _∷_}
-use Prim.Native.Nat.{ℕ, _+_}
+use Prim.Native.Nat.{ℕ}
 use lib.Dec.{ltb}
 use Rattle.plan.specs.declared.types.PlanAnswer.{PlanAnswer}
 use Rattle.plan.specs.declared.types.PlanAnswer.the-variants.{Planned, ShortBuffer, BadEndpoint, ControlTooLong, TooManyDescriptors, AddressLimit}
@@ -30,10 +30,6 @@ isShort words = ltb words 2048
 -- 18: "endpoint over 15, device over 127, packet over 2,047"
 abbrev pub isBad : ℕ → ℕ → ℕ → Bool
 isBad endpoint device packet = ltb 15 endpoint || (ltb 127 device || ltb 2047 packet)
-
--- 11: "base plus length .. exceeds 4,294,967,295"
-abbrev pub isBeyond : ℕ → ℕ → Bool
-isBeyond base bytes = ltb 4_294_967_295 (base + bytes)
 
 abbrev pub isPlanned : PlanAnswer → Bool
 isPlanned Planned = true

@@ -9,7 +9,6 @@ ghost use Rattle.plan.specs.ControlPlan.{controlSize, statusDirection, s
 use crate::data::blank_stage;
 use crate::data::is_in;
 use crate::refusals::is_bad;
-use crate::refusals::is_beyond;
 use crate::refusals::is_planned;
 use crate::stage::build_stage_descs;
 use crate::types::ControlRequest;
@@ -70,9 +69,9 @@ fn control_beyond(request: ControlRequest) -> bool
     let bytes = words::initial_len(request.len as u32, m, is_in(direction));
     let has_data = request.len > 0;
     let status_in = is_in(status_direction(has_data, direction));
-    let setup = is_beyond(request.setup_dma, 8);
-    let data = is_beyond(request.data_dma, bytes);
-    let status = is_beyond(request.status_dma, m as u64);
+    let setup = words::is_beyond(request.setup_dma, 8);
+    let data = words::is_beyond(request.data_dma, bytes);
+    let status = words::is_beyond(request.status_dma, m as u64);
     setup | ((has_data & data) | (status_in & status))
 }
 

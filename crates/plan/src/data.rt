@@ -6,7 +6,6 @@ ghost use Rattle.plan.specs.declared.types.PlanAnswer.the-variants.{Plan
 ghost use Rattle.plan.specs.Planning.{laidOut};
 ghost use Rattle.plan.specs.DataStages.{isIn, isLow, epTypeOf, oddOf, sizeOf, dataHcchar, dataStage, blankStage, blankPlan, withStage, dataAnswer, dataStages, plannedData, dataPlan, dataArray};
 use crate::refusals::is_bad;
-use crate::refusals::is_beyond;
 use crate::refusals::is_planned;
 use crate::split::packet_count;
 use crate::split::split_dma_lengths;
@@ -53,7 +52,7 @@ fn data_answer(request: DataRequest, words: usize) -> PlanAnswer
     }
     let direction = request.direction;
     let bytes = words::initial_len(request.len as u32, m, is_in(direction));
-    if is_beyond(request.base, bytes) {
+    if words::is_beyond(request.base, bytes) {
         return PlanAnswer::AddressLimit;
     }
     PlanAnswer::Planned

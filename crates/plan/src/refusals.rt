@@ -1,6 +1,6 @@
 // The tests that planning calls share: document 01, "Refusal numbers".
 ghost use mathlib.Core.Path.{_≡_};
-ghost use Rattle.plan.specs.Refusals.{isPlanned, isBad, isBeyond};
+ghost use Rattle.plan.specs.Refusals.{isPlanned, isBad};
 use crate::types::PlanAnswer;
 
 pub(crate) fn is_planned(answer: PlanAnswer) -> bool
@@ -20,14 +20,4 @@ pub(crate) fn is_bad(endpoint: u8, device: u8, packet: u16) -> bool
     ensures { λ r. ⌜ r ≡ isBad endpoint device packet ⌝ }
 {
     (endpoint > 15) | ((device > 127) | (packet > 2_047))
-}
-
-// Only a whole transfer within 32 bits of address may be handed to the controller.
-pub(crate) fn is_beyond(base: u64, bytes: u64) -> bool
-    ensures { λ r. ⌜ r ≡ isBeyond base bytes ⌝ }
-{
-    if base > 4_294_967_295 {
-        return true;
-    }
-    bytes > 4_294_967_295 - base
 }

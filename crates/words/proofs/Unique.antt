@@ -6,6 +6,7 @@ use mathlib.Core.Path.{_≡_, refl, sym, _∙_}
 use contract.Lifetimes.{Lfts}
 use denote.Triple.Clauses.{Lasts, atExit}
 use borrow.Fn.Kinds.{PK, RK, Out, Dens, resT, endedOf}
+use Rattle.words.proofs.address
 use Rattle.words.proofs.channel
 use Rattle.words.proofs.descriptor
 use Rattle.words.proofs.descriptor.DmaDescriptor
@@ -22,6 +23,9 @@ Unique n ps r Post =
 -- a promise that is an equation of the result
 pub equal : {A L : Type 0} {x y e : A} {u v : L} → u ≡ v → x ≡ e → y ≡ e → (x ≡ y) × (u ≡ v)
 equal l p q = (p ∙ sym q, l)
+
+pub is-beyond-unique : Unique 0 address.is_beyond.Kinds.ps address.is_beyond.Kinds.r address.is_beyond.Reads.Post
+is-beyond-unique κs a x y u v = equal refl
 
 pub hcchar-unique : Unique 0 channel.hcchar.Kinds.ps channel.hcchar.Kinds.r channel.hcchar.Reads.Post
 hcchar-unique κs a x y u v = equal refl

@@ -2,7 +2,7 @@
 use Prim.Native.Nat.{ℕ, _+_, _-_, _*_, _/_, max}
 use mathlib.Core.Bool.{Bool, true, false}
 use mathlib.Core.List.{List, [], _∷_}
-use lib.Dec.{eqb}
+use lib.Dec.{eqb, ltb}
 use Rattle.words.specs.Field.{Field, Entry, bits, bit, _≔_, get, word}
 use Rattle.words.specs.Numbers.{flagOf, directionNumber, epTypeNumber, pidNumber, faultBit}
 use Rattle.words.specs.declared.types.Direction.{Direction}
@@ -165,3 +165,7 @@ maskEntries dir =
 
 abbrev pub isoHcintmsk : Direction → ℕ
 isoHcintmsk dir = word (maskEntries dir)
+
+-- 01, "Planning transfers": "We refuse if base plus length .. exceeds 4,294,967,295"
+abbrev pub isBeyond : ℕ → ℕ → Bool
+isBeyond base bytes = ltb 4_294_967_295 (base + bytes)

@@ -1,10 +1,12 @@
 // Descriptor and register words: document 01, "Words". Every function is total: a value too wide for its field is cut to it.
+mod address;
 mod channel;
 mod descriptor;
 mod interrupt;
 mod numbers;
 mod types;
 
+pub use address::is_beyond;
 pub use channel::hcchar;
 pub use channel::hctsiz_ddma;
 pub use descriptor::DmaDescriptor;

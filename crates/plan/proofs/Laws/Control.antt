@@ -12,7 +12,7 @@ use lib.ListN.{length}
 use Rattle.words.specs.declared.types.Direction.{Direction}
 use Rattle.words.specs.declared.types.Direction.the-variants.{Out, In}
 use Rattle.words.specs.declared.types.Dwc2Pid.{Dwc2Pid}
-use Rattle.words.specs.Words.{initialLen}
+use Rattle.words.specs.Words.{initialLen, isBeyond}
 use Rattle.plan.specs.declared.types.ControlRequest.{ControlRequest}
 use Rattle.plan.specs.declared.types.ControlSetup.{ControlSetup}
 use Rattle.plan.specs.declared.types.Dwc2ControlPlan.{Dwc2ControlPlan}
@@ -20,7 +20,7 @@ use Rattle.plan.specs.declared.types.Dwc2StageRole.{Dwc2StageRole}
 use Rattle.plan.specs.declared.types.Dwc2TransferStage.{Dwc2TransferStage}
 use Rattle.plan.specs.declared.types.PlanAnswer.the-variants.{Planned, ShortBuffer, BadEndpoint, ControlTooLong, AddressLimit}
 use Rattle.plan.specs.Planning.{chunkOf, splitOf, stageOf, laidStage, laidOut}
-use Rattle.plan.specs.Refusals.{_⇒_, isShort, isBad, isBeyond}
+use Rattle.plan.specs.Refusals.{_⇒_, isShort, isBad}
 use Rattle.plan.specs.StageLength.{StageFits}
 use Rattle.plan.specs.DataStages.{isIn, blankStage}
 use Rattle.plan.specs.ControlPlan.{controlSize, statusDirection, statusAddr, statusWay, hasData, setupStage, dataStageOf, statusStage, pickStages, pickStage, controlStages, isTooLong, controlBeyond, controlAnswer, plannedControl, setupBytes}

@@ -11,7 +11,7 @@ use borrow.Author.Tests.{le-leb, lt-leb, ltb-false}
 use lib.ListN.{length, drop, replicate, set}
 use lib.Seq.{sets, sets-eq}
 use Rattle.words.specs.Field.{get}
-use Rattle.words.specs.Words.{packets, initialLen, packetSize}
+use Rattle.words.specs.Words.{packets, initialLen, packetSize, isBeyond}
 use Rattle.words.proofs.Laws.Words.{hcchar-fields}
 use Rattle.ring.proofs.Lists.{drop-replicate}
 use Rattle.plan.specs.declared.types.DataRequest.{DataRequest}
@@ -23,7 +23,7 @@ use Rattle.plan.specs.declared.toggle.DataToggle.{DataToggle}
 use Rattle.plan.specs.Planning.{chunkOf, splitOf, advanced, laidStage, laidOut}
 use Rattle.plan.specs.DataStages.{isIn, epTypeOf, isLow, oddOf, sizeOf, dataHcchar, dataStage, pickStages, stagesFrom, toggleAfter, blankStage, stageTable, blankPlan, withStage, dataAnswer}
 use Rattle.plan.specs.StageLength.{StageFits}
-use Rattle.plan.specs.Refusals.{_⇒_, isShort, isBad, isBeyond}
+use Rattle.plan.specs.Refusals.{_⇒_, isShort, isBad}
 use Rattle.plan.proofs.Laws.Refusals.{none-holds, neither}
 use Rattle.plan.proofs.Laws.Split.{last-within}
 

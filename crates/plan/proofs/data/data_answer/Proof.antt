@@ -6,10 +6,10 @@ use native.Mathlib.Omega.{arith}
 use lib.Dec.{ltb}
 use borrow.Author.Needs.{needs}
 use borrow.Author.Tests.{lt-ltb, le-ltb}
-use Rattle.words.specs.Words.{initialLen}
+use Rattle.words.specs.Words.{initialLen, isBeyond}
 use Rattle.plan.specs.declared.split.DmaSplit.{DmaSplit}
 use Rattle.plan.specs.Planning.{splitOf}
-use Rattle.plan.specs.Refusals.{isShort, isBad, isBeyond}
+use Rattle.plan.specs.Refusals.{isShort, isBad}
 use Rattle.plan.specs.DataStages.{isIn, sizeOf}
 use Rattle.plan.proofs.Laws.Data.{few-fit}
 use Rattle.plan.proofs.data.data_answer.Statement.{statement}

@@ -5,8 +5,8 @@ use native.Mathlib.Decide.{decLt}
 use native.Mathlib.Omega.{arith}
 use lib.Dec.{ltb}
 use borrow.Author.Tests.{lt-ltb, le-ltb}
-use Rattle.plan.proofs.refusals.is_beyond.Statement.{statement}
-use Rattle.plan.proofs.refusals.is_beyond.Tie as tie
+use Rattle.words.proofs.address.is_beyond.Statement.{statement}
+use Rattle.words.proofs.address.is_beyond.Tie as tie
 
 moved : (limit base bytes : ℕ) → base ≤ limit → ltb (limit - base) bytes ≡ ltb limit (base + bytes)
 moved limit base bytes h = go (decLt (limit - base) bytes)
