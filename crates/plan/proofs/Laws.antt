@@ -1,5 +1,6 @@
 pub mod Chains
 pub mod Control
 pub mod Data
+pub mod Layout
 pub mod Refusals
 pub mod Split

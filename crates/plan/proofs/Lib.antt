@@ -1,3 +1,4 @@
 -- The laws of planning, and that each promise leaves one answer.
 pub mod Laws
+pub mod Theorems
 pub mod Unique
