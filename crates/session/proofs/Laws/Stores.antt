@@ -1,0 +1,237 @@
+-- The laws of a submission's loops: one packet and the rest of them, stored into the ring and into the table of plans, counted and looked up.
+-- Each loop's invariant says that what is still to be done gives the goal; a law for each way out of a turn keeps it. Assumes nothing.
+use mathlib.Core.Path.{_≡_, refl, sym, ap, _∙_}
+use mathlib.Core.Bool.{Bool, true, false, _||_, cond, or-true, or-false, or-assoc}
+use mathlib.Core.List.{List, [], _∷_}
+use Prim.Native.Nat.{ℕ, zero, suc, _+_, _-_, _*_, _%_, _≤_, _<_}
+use native.Mathlib.Nat.{add-zero, zero-add, mul-suc}
+use native.Mathlib.Numerals.{add-one}
+use native.Mathlib.Omega.{arith}
+use lib.Dec.{eqb, ltb}
+use lib.ListN.{length, getD, set, take, drop, length-drop, length-set, replicate, getD-replicate, drop-of-length-le}
+use lib.Seq.{sets, slice, drop-cons, take-all, take-nil, slice-empty, slice-cons, getD-set-same, getD-set-other}
+use borrow.Author.Tests.{lt-ltb, le-ltb, eq-eqb, ne-eqb, ltb-false, eqb-true, eqb-false}
+use Rattle.words.specs.Words.{isoStatus}
+use Rattle.words.specs.declared.descriptor.DmaDescriptor.{DmaDescriptor}
+use Rattle.ring.specs.RingSums.{slotAt, slotsFrom}
+use Rattle.ring.proofs.Steps.{next-slot}
+use Rattle.session.specs.declared.types.IsoPacketPlan.{IsoPacketPlan}
+use Rattle.session.specs.declared.types.TransferStatus.the-variants.{Completed}
+use Rattle.session.specs.Session.{blankPlan}
+use Rattle.session.specs.Submit.{Store, stored, isLast, storesFrom, plansFrom, sum, firstLong, isHeld, anyHeld}
+
+-- ---- lists and slots
+
+-- what is left from i on is the element there and what is left from i + 1 on
+pub drop-more : (xs : List ℕ) (i : ℕ) → i < length xs → drop i xs ≡ getD xs i 0 ∷ drop (i + 1) xs
+drop-more xs i h = rw (add-one, drop-cons xs i 0)
+
+-- the slot after packet i's is packet i + 1's
+pub slot-more : (R insert step i slot r : ℕ) → slot ≡ slotAt R insert step i → r ≡ (slot + step) % R → r ≡ slotAt R insert step (i + 1)
+slot-more R insert step i slot r e f = f ∙ ap (λ (x : ℕ). (x + step) % R) e ∙ next-slot R insert step i ∙ ap (slotAt R insert step) (sym (add-one i))
+
+-- a packet is the last one just where its number and one is the count
+pub last-flag : (xs : List ℕ) (a b : ℕ) → length xs ≡ b - a → a ≤ b → eqb a b ≡ isLast xs
+last-flag [] a b e h = eq-eqb a b (omega arith)
+last-flag (x ∷ xs) a b e h = ne-eqb a b (λ q. omega arith)
+
+-- ---- the words of a submission
+
+-- words stored leave the ring as long as it was
+pub length-stored : (xs : List Store) (ring : List ℕ) → length (stored xs ring) ≡ length ring
+length-stored [] ring = refl
+length-stored (x ∷ xs) ring = length-stored xs (set ring (x .word) (x .value)) ∙ length-set ring (x .word) (x .value)
+
+module _ (R insert step : ℕ) where
+  -- a submission stores two words for each packet
+  pub length-storesFrom : (i addr : ℕ) (lengths : List ℕ) → length (storesFrom R insert step i addr lengths) ≡ 2 * length lengths
+  length-storesFrom i addr [] = refl
+  length-storesFrom i addr (l ∷ ls) = omega (arith, length-storesFrom (suc i) (addr + l) ls)
+
+  -- the words of packet i and those of the packets after it
+  pub stores-more : (i addr : ℕ) (lengths : List ℕ) → i < length lengths
+      → storesFrom R insert step i addr (drop i lengths)
+      ≡ record { word = 2 * slotAt R insert step i + 1; value = addr }
+      ∷ record { word = 2 * slotAt R insert step i; value = isoStatus (getD lengths i 0) (eqb (i + 1) (length lengths)) }
+      ∷ storesFrom R insert step (i + 1) (addr + getD lengths i 0) (drop (i + 1) lengths)
+  stores-more i addr lengths h =
+      let flag = last-flag (drop (i + 1) lengths) (i + 1) (length lengths) (length-drop (i + 1) lengths) (omega arith) in
+      rw (drop-more lengths i h, flag, add-one i)
+
+  -- with as many words as the packets have, a submission is the whole plan
+  pub whole-plan : (i addr k : ℕ) (lengths ring : List ℕ) → 2 * length lengths ≤ k
+      → stored (take k (storesFrom R insert step i addr lengths)) ring ≡ stored (storesFrom R insert step i addr lengths) ring
+  whole-plan i addr k lengths ring h =
+      let all : length (storesFrom R insert step i addr lengths) ≤ k = omega (arith, length-storesFrom i addr lengths) in
+      ap (λ (xs : List Store). stored xs ring) (take-all k (storesFrom R insert step i addr lengths) all)
+
+-- no word may be stored any more: the ring stays
+pub stored-none : (left : ℕ) (xs : List Store) (ring : List ℕ) → left ≡ 0 → ring ≡ stored (take left xs) ring
+stored-none left xs ring e = rw e
+
+module _ (R insert step i addr : ℕ) (lengths : List ℕ) where
+  -- no packet is left: the ring stays
+  pub stored-end : (left : ℕ) (ring : List ℕ) → length lengths ≤ i → ring ≡ stored (take left (storesFrom R insert step i addr (drop i lengths))) ring
+  stored-end left ring h = rw (drop-of-length-le lengths h, take-nil {A = Store} left)
+
+  module _ (slot : ℕ) (d : DmaDescriptor) (h : i < length lengths) (at : slot ≡ slotAt R insert step i)
+      (made : d ≡ record { status = isoStatus (getD lengths i 0) (eqb (i + 1) (length lengths)); paddr = addr }) where
+    -- one word may be stored: the address of packet i
+    pub stored-one : (left : ℕ) (ring one : List ℕ) → left ≡ 1 → one ≡ set ring (2 * slot + 1) (d .paddr)
+        → one ≡ stored (take left (storesFrom R insert step i addr (drop i lengths))) ring
+    stored-one left ring one e p = rw (p, made, at, e, stores-more R insert step i addr lengths h)
+
+    -- two or more may be: the address and the status of packet i, and what is left of the plan after them
+    pub stored-two : (left : ℕ) (ring one two : List ℕ) → 2 ≤ left → one ≡ set ring (2 * slot + 1) (d .paddr) → two ≡ set one (2 * slot) (d .status)
+        → stored (take (left - 2) (storesFrom R insert step (i + 1) (addr + getD lengths i 0) (drop (i + 1) lengths))) two
+        ≡ stored (take left (storesFrom R insert step i addr (drop i lengths))) ring
+    stored-two zero ring one two l p q = absurd (omega arith)
+    stored-two (suc zero) ring one two l p q = absurd (omega arith)
+    stored-two (suc (suc left)) ring one two l p q =
+        let n : suc (suc left) - 2 ≡ left = omega arith in
+        rw (q, p, made, at, n, stores-more R insert step i addr lengths h)
+
+-- ---- the plans of a submission
+
+-- a packet's plan as it is submitted
+abbrev pub newPlan : ℕ → ℕ → IsoPacketPlan
+newPlan len slot = record { planned = len; «desc_index» = slot; actual = 0; status = Completed }
+
+module _ (R insert step : ℕ) where
+  -- a plan for each packet
+  pub length-plansFrom : (i : ℕ) (lengths : List ℕ) → length (plansFrom R insert step i lengths) ≡ length lengths
+  length-plansFrom i [] = refl
+  length-plansFrom i (l ∷ ls) = ap suc (length-plansFrom (suc i) ls)
+
+  -- plan k is packet i + k's
+  pub getD-plansFrom : (i : ℕ) (lengths : List ℕ) (k : ℕ) → k < length lengths
+      → getD (plansFrom R insert step i lengths) k blankPlan ≡ newPlan (getD lengths k 0) (slotAt R insert step (i + k))
+  getD-plansFrom i [] k h = absurd (omega arith)
+  getD-plansFrom i (l ∷ ls) zero h = rw add-zero
+  getD-plansFrom i (l ∷ ls) (suc k) h =
+      let less : k < length ls = omega arith in
+      let on : suc i + k ≡ i + suc k = omega arith in
+      getD-plansFrom (suc i) ls k less ∙ ap (λ (j : ℕ). newPlan (getD ls k 0) (slotAt R insert step j)) on
+
+  -- the slot and the length of plan k of a submission
+  pub plan-of : (lengths : List ℕ) (k : ℕ) → k < length lengths
+      → (getD (plansFrom R insert step 0 lengths) k blankPlan .«desc_index» ≡ slotAt R insert step k) × (getD (plansFrom R insert step 0 lengths) k blankPlan .planned ≡ getD lengths k 0)
+  plan-of lengths k h =
+      let e = getD-plansFrom 0 lengths k h in
+      (ap (λ (p : IsoPacketPlan). p .«desc_index») e ∙ ap (slotAt R insert step) (zero-add k), ap (λ (p : IsoPacketPlan). p .planned) e)
+
+module _ (R insert step i : ℕ) (lengths : List ℕ) where
+  -- no packet is left: the table stays
+  pub plans-end : (table : List IsoPacketPlan) (to : ℕ) → length lengths ≤ i → table ≡ sets table to (plansFrom R insert step i (drop i lengths))
+  plans-end table to h = rw (drop-of-length-le lengths h)
+
+  -- the plan of packet i, and those after it behind it
+  pub plans-more : (table : List IsoPacketPlan) (to slot : ℕ) → i < length lengths → slot ≡ slotAt R insert step i
+      → sets (set table to (newPlan (getD lengths i 0) slot)) (to + 1) (plansFrom R insert step (i + 1) (drop (i + 1) lengths))
+      ≡ sets table to (plansFrom R insert step i (drop i lengths))
+  plans-more table to slot h at = rw (drop-more lengths i h, at, add-one to, add-one i)
+
+-- ---- lengths
+
+-- the sum of what is left is the length there and the sum of what is left after it; past the end it is 0
+pub sum-more : (lengths : List ℕ) (i : ℕ) → i < length lengths → sum (drop i lengths) ≡ getD lengths i 0 + sum (drop (i + 1) lengths)
+sum-more lengths i h = rw (drop-more lengths i h)
+
+pub sum-end : (lengths : List ℕ) (i : ℕ) → length lengths ≤ i → sum (drop i lengths) ≡ 0
+sum-end lengths i h = rw (drop-of-length-le lengths h)
+
+-- the first long packet of what is left: here, further on, or none
+pub long-here : (limit : ℕ) (lengths : List ℕ) (i : ℕ) → i < length lengths → limit < getD lengths i 0 → firstLong limit (drop i lengths) ≡ 0
+long-here limit lengths i h l = rw (drop-more lengths i h, lt-ltb limit (getD lengths i 0) l)
+
+pub long-later : (limit : ℕ) (lengths : List ℕ) (i : ℕ) → i < length lengths → getD lengths i 0 ≤ limit
+    → firstLong limit (drop i lengths) ≡ suc (firstLong limit (drop (i + 1) lengths))
+long-later limit lengths i h l = rw (drop-more lengths i h, le-ltb limit (getD lengths i 0) l)
+
+pub long-end : (limit : ℕ) (lengths : List ℕ) (i : ℕ) → length lengths ≤ i → firstLong limit (drop i lengths) ≡ 0
+long-end limit lengths i h = rw (drop-of-length-le lengths h)
+
+-- the first long packet is one of them, or their number
+pub firstLong-within : (limit : ℕ) (lengths : List ℕ) → firstLong limit lengths ≤ length lengths
+firstLong-within limit [] = omega arith
+firstLong-within limit (l ∷ ls) = within (ltb limit l) (firstLong-within limit ls)
+  where
+    within : (b : Bool) → firstLong limit ls ≤ length ls → cond b 0 (suc (firstLong limit ls)) ≤ suc (length ls)
+    within true h = omega arith
+    within false h = omega arith
+
+-- where no packet is long, the first is not, and none after it is
+first-short : (limit l n m : ℕ) (b : Bool) → ltb limit l ≡ b → suc n ≤ cond b 0 (suc m) → (l ≤ limit) × (n ≤ m)
+first-short limit l n m true e h = absurd (omega arith)
+first-short limit l n m false e h = (ltb-false limit l e, omega arith)
+
+-- where there is no long packet, every length is within the limit
+pub none-long : (limit : ℕ) (lengths : List ℕ) → length lengths ≤ firstLong limit lengths → (k : ℕ) → k < length lengths → getD lengths k 0 ≤ limit
+none-long limit [] e k h = absurd (omega arith)
+none-long limit (l ∷ ls) e zero h = first-short limit l (length ls) (firstLong limit ls) (ltb limit l) refl e .0
+none-long limit (l ∷ ls) e (suc k) h = none-long limit ls (first-short limit l (length ls) (firstLong limit ls) (ltb limit l) refl e .1) k (omega arith)
+
+-- lengths within the limit have a sum within as many limits
+pub sum-within : (limit : ℕ) (lengths : List ℕ) → ((k : ℕ) → k < length lengths → getD lengths k 0 ≤ limit) → sum lengths ≤ limit * length lengths
+sum-within limit [] h = omega arith
+sum-within limit (l ∷ ls) h =
+    let first : l ≤ limit = h 0 (omega arith) in
+    let rest : sum ls ≤ limit * length ls = sum-within limit ls (λ k m. h (suc k) (omega arith)) in
+    omega (arith, mul-suc limit (length ls))
+
+-- where there is no long packet, the sum is within as many limits as there are packets
+pub sum-none-long : (limit : ℕ) (lengths : List ℕ) → length lengths ≤ firstLong limit lengths → sum lengths ≤ limit * length lengths
+sum-none-long limit lengths e = sum-within limit lengths (none-long limit lengths e)
+
+-- ---- slots held
+
+-- no slot is left to look up
+pub held-end : (R insert step i n : ℕ) (ps : List IsoPacketPlan) → n ≤ i → anyHeld ps (slotsFrom R insert step i (n - i)) ≡ false
+held-end R insert step i n ps h =
+    let e : n - i ≡ 0 = omega arith in
+    rw e
+
+-- packet i's slot, and those of the packets after it
+pub held-more : (R insert step i n : ℕ) (ps : List IsoPacketPlan) → i < n
+    → anyHeld ps (slotsFrom R insert step i (n - i)) ≡ (isHeld ps (slotAt R insert step i) || anyHeld ps (slotsFrom R insert step (i + 1) (n - (i + 1))))
+held-more R insert step i n ps h =
+    let e : n - i ≡ suc (n - (i + 1)) = omega arith in
+    rw (e, add-one i)
+
+-- packet i's slot is held, so one is; it is not, so the others decide
+module _ (R insert step i n : ℕ) (ps : List IsoPacketPlan) (slot : ℕ) (marked : Bool) (h : i < n) (at : slot ≡ slotAt R insert step i) (same : marked ≡ isHeld ps slot) where
+  pub held-here : marked ≡ true → true ≡ anyHeld ps (slotsFrom R insert step i (n - i))
+  held-here e = rw (held-more R insert step i n ps h, ← at, ← same, e)
+
+  pub held-later : marked ≡ false → anyHeld ps (slotsFrom R insert step (i + 1) (n - (i + 1))) ≡ anyHeld ps (slotsFrom R insert step i (n - i))
+  held-later e = rw (held-more R insert step i n ps h, ← at, ← same, e)
+
+-- the marks after one slot more, where it is below 256 and where it is not
+module _ (held marked : List Bool) (slot k : ℕ) (below : k < 256) where
+  mark-by : (b : Bool) → eqb slot k ≡ b → length held ≡ 256 → getD (set held slot true) k false ≡ (getD held k false || b)
+  mark-by true q n =
+      let e : slot ≡ k = eqb-true slot k q in
+      let h : k < length held = omega arith in
+      rw (e, or-true, getD-set-same held k true false h)
+  mark-by false q n = rw (or-false, getD-set-other held slot k true false (λ e. eqb-false slot k q (sym e)))
+
+  pub mark-set : length held ≡ 256 → marked ≡ set held slot true → getD marked k false ≡ (getD held k false || eqb slot k)
+  mark-set n e = rw e (mark-by (eqb slot k) refl n)
+
+  pub mark-out : 256 ≤ slot → marked ≡ held → getD marked k false ≡ (getD held k false || eqb slot k)
+  mark-out l e = rw (e, ne-eqb slot k (λ q. omega arith), or-false)
+
+-- before the first mark, and after the last
+pub marks-none : (ps : List IsoPacketPlan) (k : ℕ) → k < 256 → (getD (replicate 256 false) k false || isHeld ps k) ≡ isHeld ps k
+marks-none ps k h = rw (getD-replicate 256 k false false h)
+
+pub marks-all : (held : List Bool) (plans : List IsoPacketPlan) (i to k : ℕ) → i ≡ to → getD held k false ≡ (getD held k false || isHeld (slice i to plans) k)
+marks-all held plans i to k e = rw (e, slice-empty to plans, or-false)
+
+-- the marks with those still to be set: one plan more
+pub mark-more : (held marked : List Bool) (plans : List IsoPacketPlan) (i to slot k : ℕ) → i < to → to ≤ length plans → slot ≡ getD plans i blankPlan .«desc_index»
+    → getD marked k false ≡ (getD held k false || eqb slot k)
+    → (getD marked k false || isHeld (slice (i + 1) to plans) k) ≡ (getD held k false || isHeld (slice i to plans) k)
+mark-more held marked plans i to slot k h fits at e =
+    rw (e, slice-cons i to plans blankPlan h fits, add-one i, at)
+    (or-assoc (getD held k false) (eqb (getD plans i blankPlan .«desc_index») k) (isHeld (slice (suc i) to plans) k))

@@ -1,0 +1,3 @@
+-- The laws of a session's record, and that each promise leaves one answer.
+pub mod Laws
+pub mod Unique

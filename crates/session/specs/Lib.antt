@@ -1,0 +1,5 @@
+pub mod Numbers
+pub mod Open
+pub mod Record
+pub mod Session
+pub mod Submit

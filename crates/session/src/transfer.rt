@@ -1,0 +1,52 @@
+// What a submission is given and what it answers.
+use crate::types::IsoChannelState;
+use ring::IsoServiceFrames;
+
+// A request as the caller brings it, beside the lengths of its packets: what kind it is, its buffer, the frame readings, whether a
+// channel is to be had, whether the port is connected before programming and before enabling, and how many words may be stored.
+pub struct IsoTransfer {
+    pub isochronous: bool,
+    pub has_buffer: bool,
+    pub buffer_len: u32,
+    pub base: u64,
+    pub start_reading: u32,
+    pub frame_reading: u32,
+    pub channel_free: bool,
+    pub gate_program: bool,
+    pub gate_enable: bool,
+    pub words: u32,
+}
+
+// The way that a submission goes: refused with nothing altered, refused with its number spent, unplugged at a gate, cut, or
+// accepted.
+pub enum SubmitWay {
+    Refuse(u16),
+    TooLong(u32),
+    Spend(u16),
+    Early,
+    Cut,
+    Late,
+    Accept,
+}
+
+pub enum SubmitAnswer {
+    Accepted(u64),
+    Cut,
+    Refused(u16),
+    PacketTooLong(u32),
+}
+
+// What the caller programs where the submission was the first; else not `first`, and zeros.
+pub struct IsoChannelStart {
+    pub first: bool,
+    pub hcchar: u32,
+    pub hctsiz: u32,
+    pub hcintmsk: u32,
+    pub frames: IsoServiceFrames,
+}
+
+pub struct Submitted {
+    pub answer: SubmitAnswer,
+    pub start: IsoChannelStart,
+    pub session: IsoChannelState,
+}
