@@ -1,3 +1,7 @@
+pub mod Admitted
+pub mod Checks
+pub mod Guarded
+pub mod Kept
 pub mod Lists
 pub mod Record
 pub mod Stores

@@ -1,3 +1,4 @@
--- The laws of a session's record, and that each promise leaves one answer.
+-- The laws of a session's record, the facts of a submission, and that each promise leaves one answer.
+pub mod Facts
 pub mod Laws
 pub mod Unique

@@ -15,3 +15,12 @@ open-unique κs a x y u v = equal-both
 
 pub is-bad-record-unique : Unique 0 functions.is_bad_record.Kinds.ps functions.is_bad_record.Kinds.r functions.is_bad_record.Reads.Post
 is-bad-record-unique κs a x y u v = equal refl
+
+-- and of the words that were lent as the fourth
+equal-fourth :
+    {A : Type 0} {x y e : A} {l : List ℕ} {u v : Unit {0} × (Unit {0} × (Unit {0} × (List ℕ × Unit {0})))}
+    → (x ≡ e) × (u .1 .1 .1 .0 ≡ l) → (y ≡ e) × (v .1 .1 .1 .0 ≡ l) → (x ≡ y) × (u ≡ v)
+equal-fourth p q = (p .0 ∙ sym (q .0), ap (λ (words : List ℕ). (tt, (tt, (tt, (words, tt))))) (p .1 ∙ sym (q .1)))
+
+pub submit-unique : Unique 2 functions.submit.Kinds.ps functions.submit.Kinds.r functions.submit.Reads.Post
+submit-unique κs a x y u v = equal-fourth

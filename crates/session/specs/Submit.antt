@@ -153,10 +153,9 @@ abbrev pub spendNumber : Bool → Bool → Bool → Bool → ℕ
 spendNumber sums limit channel clash = firstOf (sums ⇒ 10 ∷ limit ⇒ 11 ∷ channel ⇒ 12 ∷ clash ⇒ 13 ∷ [])
 
 -- "Checked in this order for submit: 17, 18, 1 to 14." The first ten alter nothing
-abbrev pub entryRefusal : IsoChannelState → IsoTransfer → ℕ → ℕ → ℕ
-entryRefusal s t n words =
-    firstOf
-    (ltb words (ringWords (s .cfg)) ⇒ 17
+abbrev pub entryChecks : IsoChannelState → IsoTransfer → ℕ → ℕ → List Check
+entryChecks s t n words =
+    ltb words (ringWords (s .cfg)) ⇒ 17
     ∷ isBadRecord s ⇒ 18
     ∷ hasReason (s .fatal) ⇒ 1
     ∷ isLow (s .cfg .speed) ⇒ 2
@@ -166,21 +165,26 @@ entryRefusal s t n words =
     ∷ (isOver s n && eqb (s .head .done) (s .head .count)) ⇒ 6
     ∷ isOver s n ⇒ 7
     ∷ (ltb 64 (s .head .count + 1) || ltb 1024 (allPackets s + n)) ⇒ 8
-    ∷ [])
+    ∷ []
+
+abbrev pub entryRefusal : IsoChannelState → IsoTransfer → ℕ → ℕ → ℕ
+entryRefusal s t n words = firstOf (entryChecks s t n words)
 
 -- 9: the first packet that is too long
 abbrev pub tooLong : IsoChannelState → List ℕ → ℕ
 tooLong s lengths = firstLong (packetLimit (s .cfg .speed)) lengths
 
 -- 10 to 13, which spend a number as 9 does
-abbrev pub spendRefusal : IsoChannelState → IsoTransfer → List ℕ → List ℕ → ℕ
-spendRefusal s t lengths ring =
-    firstOf
-    (not (eqb (sum lengths) (t .«buffer_len»)) ⇒ 10
+abbrev pub spendChecks : IsoChannelState → IsoTransfer → List ℕ → List ℕ → List Check
+spendChecks s t lengths ring =
+    not (eqb (sum lengths) (t .«buffer_len»)) ⇒ 10
     ∷ isBeyond (t .base) (sum lengths) ⇒ 11
     ∷ (not (s .head .live) && not (t .«channel_free»)) ⇒ 12
     ∷ isClash s t ring (length lengths) ⇒ 13
-    ∷ [])
+    ∷ []
+
+abbrev pub spendRefusal : IsoChannelState → IsoTransfer → List ℕ → List ℕ → ℕ
+spendRefusal s t lengths ring = firstOf (spendChecks s t lengths ring)
 
 abbrev pub pickWay : Bool → SubmitWay → SubmitWay → SubmitWay
 pickWay true a b = a

@@ -160,7 +160,7 @@ pub record Sound (s : IsoChannelState) : Type 0 where
   pub idle-done : s .head .live ≡ false → s .head .done ≡ s .head .count
   pub idle-nothing : s .head .live ≡ false → s .fatal ≡ Nothing
 
-no-reason : (f : IsoFatal) → hasReason f ≡ false → f ≡ Nothing
+pub no-reason : (f : IsoFatal) → hasReason f ≡ false → f ≡ Nothing
 no-reason Nothing e = refl
 no-reason (Reason r) e = let z : _≡_ {A = ℕ} 0 1 = cc in absurd (omega arith)
 

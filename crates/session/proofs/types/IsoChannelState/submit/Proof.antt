@@ -9,14 +9,15 @@ use Rattle.session.specs.declared.transfer.SubmitAnswer.the-variants as 
 use Rattle.session.specs.Session.{slots, cleared}
 use Rattle.session.specs.Submit.{stepOf, stored, storesFrom, insertOf, submitWay, answeredBy, acceptedAnswer}
 use Rattle.session.proofs.Laws.Stores.{whole-plan}
-use Rattle.session.proofs.Laws.Ways.{Admitted, admitted, isGate, acceptable, answer-by, ring-by, accept-words}
+use Rattle.session.proofs.Laws.Admitted.{Admitted, gate-admitted, isGate, acceptable, told-of}
+use Rattle.session.proofs.Laws.Ways.{answer-by, ring-by}
 use borrow.Author.Needs.{needs}
 use Rattle.session.proofs.types.IsoChannelState.submit.Statement.{statement}
 use Rattle.session.proofs.types.IsoChannelState.submit.Tie as tie
 
 -- what a submission says that passed every refusal
 facts : (c : tie.After-submit-way) (way : SubmitWay) → way ≡ submitWay (c .before .before .before .before .args .self) (c .before .before .before .before .args .transfer) (c .before .before .before .before .args .lengths .now) (c .before .before .before .before .args .ring .now) → T (isGate way) → Admitted (c .before .before .before .before .args .self) (c .before .before .before .before .args .transfer) (c .before .before .before .before .args .lengths .now) (c .before .before .before .before .args .ring .now)
-facts c = admitted (c .before .before .before .before .args .self) (c .before .before .before .before .args .transfer) (c .before .before .before .before .args .lengths .now) (c .before .before .before .before .args .ring .now)
+facts c = gate-admitted (c .before .before .before .before .args .self) (c .before .before .before .before .args .transfer) (c .before .before .before .before .args .lengths .now) (c .before .before .before .before .args .ring .now)
 
 submit-way-requires : tie.Need-submit-way-requires
 submit-way-requires c κs = search needs
@@ -53,7 +54,7 @@ ring-words-requires c κs = search needs
 
 clear-ring-requires : tie.Need-clear-ring-requires
 clear-ring-requires c κs =
-    subst⁻¹ (λ (n : ℕ). n ≤ length (c .before .before .before .before .before .before .before .before .args .ring .now)) (c .ring-words .ensures .0) (facts (c .before .before .before .before) Early (sym (c .before .before .enum-told .given .1) ∙ c .before .before .before .before .submit-way .ensures) tt .entry .long)
+    subst⁻¹ (λ (n : ℕ). n ≤ length (c .before .before .before .before .before .before .before .before .args .ring .now)) (c .ring-words .ensures .0) (facts (c .before .before .before .before) Early (sym (c .before .before .enum-told .given .1) ∙ c .before .before .before .before .submit-way .ensures) tt .entry .ring-long)
 
 unplug-requires : tie.Need-unplug-requires
 unplug-requires c κs = search needs
@@ -66,10 +67,10 @@ enum-told-2 c = search needs
 
 place-requires : tie.Need-place-requires
 place-requires c κs =
-    facts (c .before .before .before) Cut (sym (c .before .enum-told2 .given .1) ∙ c .before .before .before .submit-way .ensures) tt .entry .good
+    facts (c .before .before .before) Cut (sym (c .before .enum-told2 .given .1) ∙ c .before .before .before .submit-way .ensures) tt .entry .record-good
 
 store-requires : tie.Need-store-requires
-store-requires c κs = facts (c .before .before .before .before .before) Cut (sym (c .before .before .before .enum-told2 .given .1) ∙ c .before .before .before .before .before .submit-way .ensures) tt .near
+store-requires c κs = facts (c .before .before .before .before .before) Cut (sym (c .before .before .before .enum-told2 .given .1) ∙ c .before .before .before .before .before .submit-way .ensures) tt .address
 
 answered-requires-5 : tie.Need-answered-requires-5
 answered-requires-5 c κs = search needs
@@ -82,7 +83,7 @@ ring-words-requires-2 c κs = search needs
 
 clear-ring-requires-2 : tie.Need-clear-ring-requires-2
 clear-ring-requires-2 c κs =
-    subst⁻¹ (λ (n : ℕ). n ≤ length (c .before .before .before .before .before .before .before .before .args .ring .now)) (c .ring-words2 .ensures .0) (facts (c .before .before .before .before) Late (sym (c .before .before .enum-told3 .given .1) ∙ c .before .before .before .before .submit-way .ensures) tt .entry .long)
+    subst⁻¹ (λ (n : ℕ). n ≤ length (c .before .before .before .before .before .before .before .before .args .ring .now)) (c .ring-words2 .ensures .0) (facts (c .before .before .before .before) Late (sym (c .before .before .enum-told3 .given .1) ∙ c .before .before .before .before .submit-way .ensures) tt .entry .ring-long)
 
 unplug-requires-2 : tie.Need-unplug-requires-2
 unplug-requires-2 c κs = search needs
@@ -95,10 +96,10 @@ enum-told-4 c = search needs
 
 place-requires-2 : tie.Need-place-requires-2
 place-requires-2 c κs =
-    facts (c .before .before .before) Accept (sym (c .before .enum-told4 .given .1) ∙ c .before .before .before .submit-way .ensures) tt .entry .good
+    facts (c .before .before .before) Accept (sym (c .before .enum-told4 .given .1) ∙ c .before .before .before .submit-way .ensures) tt .entry .record-good
 
 store-requires-2 : tie.Need-store-requires-2
-store-requires-2 c κs = facts (c .before .before .before .before .before) Accept (sym (c .before .before .before .enum-told4 .given .1) ∙ c .before .before .before .before .before .submit-way .ensures) tt .near
+store-requires-2 c κs = facts (c .before .before .before .before .before) Accept (sym (c .before .before .before .enum-told4 .given .1) ∙ c .before .before .before .before .before .submit-way .ensures) tt .address
 
 accepted-requires : tie.Need-accepted-requires
 accepted-requires c κs =
@@ -154,7 +155,7 @@ returns-7 c = (
   answer-by (c .before .before .before .before .before .before .before .before .before .before .before .before .before .args .self) (c .before .before .before .before .before .before .before .before .before .before .before .before .before .args .transfer) (c .before .before .before .before .before .before .before .before .before .before .before .before .before .args .lengths .now) (c .before .before .before .before .before .before .before .before .before .before .before .before .before .args .ring .now) (sym (c .before .before .before .before .before .before .before .enum-told4 .given .1) ∙ c .before .before .before .before .before .before .before .before .before .submit-way .ensures) (c .accepted .ensures ∙ ap (λ (i : ℕ). acceptedAnswer (c .before .before .before .before .before .before .before .before .before .before .before .before .before .args .self) (c .before .before .before .before .before .before .before .before .before .before .before .before .before .args .transfer) i (c .before .before .before .before .before .before .before .before .before .before .before .before .before .args .lengths .now)) (c .before .before .before .before .before .place2 .ensures)),
   ring-by (c .before .before .before .before .before .before .before .before .before .before .before .before .before .args .self) (c .before .before .before .before .before .before .before .before .before .before .before .before .before .args .transfer) (c .before .before .before .before .before .before .before .before .before .before .before .before .before .args .lengths .now) (c .before .before .before .before .before .before .before .before .before .before .before .before .before .args .ring .now) (sym (c .before .before .before .before .before .before .before .enum-told4 .given .1) ∙ c .before .before .before .before .before .before .before .before .before .submit-way .ensures)
       (c .before .before .before .store2 .ensures ∙ ap (λ (i : ℕ). stored (take (c .before .before .before .before .before .before .before .before .before .before .before .before .before .args .transfer .words) (storesFrom (slots (c .before .before .before .before .before .before .before .before .before .before .before .before .before .args .self .cfg)) i (stepOf (c .before .before .before .before .before .before .before .before .before .before .before .before .before .args .self .cfg)) 0 (c .before .before .before .before .before .before .before .before .before .before .before .before .before .args .transfer .base) (c .before .before .before .before .before .before .before .before .before .before .before .before .before .args .lengths .now))) (c .before .before .before .before .before .before .before .before .before .before .before .before .before .args .ring .now)) (c .before .before .before .before .before .place2 .ensures)
-      ∙ whole-plan (slots (c .before .before .before .before .before .before .before .before .before .before .before .before .before .args .self .cfg)) (insertOf (c .before .before .before .before .before .before .before .before .before .before .before .before .before .args .self) (c .before .before .before .before .before .before .before .before .before .before .before .before .before .args .transfer) (c .before .before .before .before .before .before .before .before .before .before .before .before .before .args .ring .now)) (stepOf (c .before .before .before .before .before .before .before .before .before .before .before .before .before .args .self .cfg)) 0 (c .before .before .before .before .before .before .before .before .before .before .before .before .before .args .transfer .base) (c .before .before .before .before .before .before .before .before .before .before .before .before .before .args .transfer .words) (c .before .before .before .before .before .before .before .before .before .before .before .before .before .args .lengths .now) (c .before .before .before .before .before .before .before .before .before .before .before .before .before .args .ring .now) (accept-words (c .before .before .before .before .before .before .before .before .before .before .before .before .before .args .self) (c .before .before .before .before .before .before .before .before .before .before .before .before .before .args .transfer) (c .before .before .before .before .before .before .before .before .before .before .before .before .before .args .lengths .now) (c .before .before .before .before .before .before .before .before .before .before .before .before .before .args .ring .now) (sym (c .before .before .before .before .before .before .before .enum-told4 .given .1) ∙ c .before .before .before .before .before .before .before .before .before .submit-way .ensures))),
+      ∙ whole-plan (slots (c .before .before .before .before .before .before .before .before .before .before .before .before .before .args .self .cfg)) (insertOf (c .before .before .before .before .before .before .before .before .before .before .before .before .before .args .self) (c .before .before .before .before .before .before .before .before .before .before .before .before .before .args .transfer) (c .before .before .before .before .before .before .before .before .before .before .before .before .before .args .ring .now)) (stepOf (c .before .before .before .before .before .before .before .before .before .before .before .before .before .args .self .cfg)) 0 (c .before .before .before .before .before .before .before .before .before .before .before .before .before .args .transfer .base) (c .before .before .before .before .before .before .before .before .before .before .before .before .before .args .transfer .words) (c .before .before .before .before .before .before .before .before .before .before .before .before .before .args .lengths .now) (c .before .before .before .before .before .before .before .before .before .before .before .before .before .args .ring .now) (told-of (c .before .before .before .before .before .before .before .before .before .before .before .before .before .args .self) (c .before .before .before .before .before .before .before .before .before .before .before .before .before .args .transfer) (c .before .before .before .before .before .before .before .before .before .before .before .before .before .args .lengths .now) (c .before .before .before .before .before .before .before .before .before .before .before .before .before .args .ring .now) Accept (sym (sym (c .before .before .before .before .before .before .before .enum-told4 .given .1) ∙ c .before .before .before .before .before .before .before .before .before .submit-way .ensures)) .1)),
 )
 
 pub submit-spec : {M : Type 1} → statement M

@@ -5,7 +5,8 @@ use native.Mathlib.Omega.{arith}
 use lib.ListN.{length}
 use Rattle.session.specs.Submit.{firstLong, entryRefusal, tooLong, spendRefusal, gateWay}
 use Rattle.session.proofs.Laws.Record.{room-few}
-use Rattle.session.proofs.Laws.Ways.{Entered, entered, refuse-way, long-way, spend-way, gated-way}
+use Rattle.session.proofs.Laws.Admitted.{Entered, entered}
+use Rattle.session.proofs.Laws.Ways.{refuse-way, long-way, spend-way, gated-way}
 use borrow.Author.Needs.{needs}
 use Rattle.session.proofs.types.IsoChannelState.submit_way.Statement.{statement}
 use Rattle.session.proofs.types.IsoChannelState.submit_way.Tie as tie
@@ -14,11 +15,11 @@ use Rattle.session.proofs.types.IsoChannelState.submit_way.Tie as tie
 none : (c : tie.Else1) → entryRefusal (c .before .before .before .before .args .self) (c .before .before .before .before .args .transfer) (length (c .before .before .before .before .args .lengths .now)) (length (c .before .before .before .before .args .ring .now)) ≡ 0
 none c = sym (c .before .entry-refusal .ensures) ∙ c .if1 .left
 
-facts : (c : tie.Else1) → Entered (c .before .before .before .before .args .self) (length (c .before .before .before .before .args .lengths .now)) (length (c .before .before .before .before .args .ring .now))
+facts : (c : tie.Else1) → Entered (c .before .before .before .before .args .self) (c .before .before .before .before .args .transfer) (length (c .before .before .before .before .args .lengths .now)) (length (c .before .before .before .before .args .ring .now))
 facts c = entered (c .before .before .before .before .args .self) (c .before .before .before .before .args .transfer) (length (c .before .before .before .before .args .lengths .now)) (length (c .before .before .before .before .args .ring .now)) (none c)
 
 few : (c : tie.Else1) → length (c .before .before .before .before .args .lengths .now) ≤ 255
-few c = omega (arith, facts c .room-left, room-few (c .before .before .before .before .args .self .cfg))
+few c = omega (arith, facts c .capacity, room-few (c .before .before .before .before .args .self .cfg))
 
 long-is : (c : tie.After-first-long) → c .first-long .result ≡ tooLong (c .before .before .before .before .before .before .before .args .self) (c .before .before .before .before .before .before .before .args .lengths .now)
 long-is c = c .first-long .ensures ∙ ap (λ (limit : ℕ). firstLong limit (c .before .before .before .before .before .before .before .args .lengths .now)) (c .before .iso-max-xfer-size .ensures)
@@ -44,7 +45,7 @@ returns-2 c =
     long-way (c .before .first-long .result) (entryRefusal (c .before .before .before .before .before .before .before .before .args .self) (c .before .before .before .before .before .before .before .before .args .transfer) (length (c .before .before .before .before .before .before .before .before .args .lengths .now)) (length (c .before .before .before .before .before .before .before .before .args .ring .now))) (tooLong (c .before .before .before .before .before .before .before .before .args .self) (c .before .before .before .before .before .before .before .before .args .lengths .now)) (length (c .before .before .before .before .before .before .before .before .args .lengths .now)) (spendRefusal (c .before .before .before .before .before .before .before .before .args .self) (c .before .before .before .before .before .before .before .before .args .transfer) (c .before .before .before .before .before .before .before .before .args .lengths .now) (c .before .before .before .before .before .before .before .before .args .ring .now)) (gateWay (c .before .before .before .before .before .before .before .before .args .self) (c .before .before .before .before .before .before .before .before .args .transfer) (length (c .before .before .before .before .before .before .before .before .args .lengths .now))) (none (c .before .before .before .before)) (long-is (c .before)) (c .if2 .taken)
 
 spend-refusal-requires : tie.Need-spend-refusal-requires
-spend-refusal-requires c κs = (facts (c .before .before .before .before) .good, omega (arith, few (c .before .before .before .before)))
+spend-refusal-requires c κs = (facts (c .before .before .before .before) .record-good, omega (arith, few (c .before .before .before .before)))
 
 returns-3 : tie.Need-returns-3
 returns-3 c =
