@@ -1,1 +1,2 @@
+pub mod Camera
 pub mod Table
