@@ -1,11 +1,12 @@
-// Refusal 18: document 01, "Refusal numbers". The entries in use are walked, not the whole tables.
+// Refusal 18: document 01, "Refusal numbers". The entries in use are walked where they stand: a table handed on would
+// be copied.
 ghost use mathlib.Core.Path.{_≡_};
+ghost use mathlib.Core.Bool.{cond};
 ghost use Prim.Native.Nat.{_≤_};
-ghost use lib.Seq.{slice};
-ghost use Rattle.session.specs.Record.{isBadConfig, isBadRequest, anyBadRequest, isBadPlan, anyBadPlan, isBadRecord};
+ghost use lib.Dec.{ltb};
+ghost use Rattle.session.specs.Record.{isBadConfig, isBadRequest, isBadPlan, isBadRecord};
 ghost use Rattle.session.specs.Session.{hasReason};
 ghost use Rattle.session.specs.Session.{room as Session·room};
-use crate::tables::packets_of;
 use crate::tables::wide;
 use crate::types::IsoChannelState;
 use crate::types::IsoConfig;
@@ -36,40 +37,10 @@ fn is_bad_request(request: IsoRequest) -> bool
     (request.packets == 0) | (request.packets > 255)
 }
 
-fn any_bad_request(requests: [IsoRequest; 64], count: u16) -> bool
-    requires { ⌜ count ≤ 64 ⌝ }
-    ensures { λ r. ⌜ r ≡ anyBadRequest (slice 0 count requests) ⌝ }
-{
-    let mut i: usize = 0;
-    let end = count as usize;
-    while i < end {
-        if is_bad_request(requests[i]) {
-            return true;
-        }
-        i += 1;
-    }
-    false
-}
-
 fn is_bad_plan(limit: u16, slots: u16, plan: IsoPacketPlan) -> bool
     ensures { λ r. ⌜ r ≡ isBadPlan limit slots plan ⌝ }
 {
     (plan.planned > limit) | ((plan.actual > plan.planned) | (plan.desc_index >= slots))
-}
-
-fn any_bad_plan(limit: u16, slots: u16, plans: [IsoPacketPlan; 1024], count: u32) -> bool
-    requires { ⌜ count ≤ 1024 ⌝ }
-    ensures { λ r. ⌜ r ≡ anyBadPlan limit slots (slice 0 count plans) ⌝ }
-{
-    let mut i: usize = 0;
-    let end = count as usize;
-    while i < end {
-        if is_bad_plan(limit, slots, plans[i]) {
-            return true;
-        }
-        i += 1;
-    }
-    false
 }
 
 pub(crate) fn has_reason(fatal: IsoFatal) -> bool
@@ -79,6 +50,16 @@ pub(crate) fn has_reason(fatal: IsoFatal) -> bool
         IsoFatal::Nothing => false,
         IsoFatal::Reason(_) => true,
     }
+}
+
+// The packets of the request at `at`, where it is pending.
+fn wide_from(done: u16, at: u16, packets: u16) -> u32
+    ensures { λ r. ⌜ (r ≡ cond (ltb at done) 0 packets) × (r ≤ packets) ⌝ }
+{
+    if at < done {
+        return 0;
+    }
+    wide(packets)
 }
 
 impl IsoChannelState {
@@ -91,20 +72,30 @@ impl IsoChannelState {
         if is_bad_config(cfg) | ((head.count < head.done) | (head.count > 64)) {
             return true;
         }
-        let requests = self.requests;
-        if any_bad_request(requests, head.count) {
-            return true;
+        let mut all: u32 = 0;
+        let mut pending: u32 = 0;
+        let mut i: u16 = 0;
+        while i < head.count {
+            let request = self.requests[i as usize];
+            if is_bad_request(request) {
+                return true;
+            }
+            all += wide(request.packets);
+            pending += wide_from(head.done, i, request.packets);
+            i += 1;
         }
-        let all = packets_of(requests, 0, head.count);
-        let pending = packets_of(requests, head.done, head.count);
         if (all > 1_024) | (pending > wide(room(cfg))) {
             return true;
         }
         let speed = cfg.speed;
         let slots = iso_ring_size(speed);
-        let plans = self.plans;
-        if any_bad_plan(iso_max_xfer_size(speed), slots, plans, all) {
-            return true;
+        let limit = iso_max_xfer_size(speed);
+        let mut j: u32 = 0;
+        while j < all {
+            if is_bad_plan(limit, slots, self.plans[j as usize]) {
+                return true;
+            }
+            j += 1;
         }
         let fatal = self.fatal;
         (head.td_last >= slots) | (!head.live & ((head.done < head.count) | has_reason(fatal)))

@@ -1,14 +1,14 @@
 -- Laws of a session's record: what the record check says in plain facts, and the sums over the entries in use.
 use mathlib.Core.Path.{_≡_, refl, _∙_, sym, ap}
-use mathlib.Core.Bool.{Bool, true, false, not, _||_, _&&_}
+use mathlib.Core.Bool.{Bool, true, false, not, _||_, _&&_, cond}
 use mathlib.Core.List.{List, [], _∷_, _++_}
-use Prim.Native.Nat.{ℕ, zero, suc, _+_, _≤_, _<_}
+use Prim.Native.Nat.{ℕ, zero, suc, _+_, _-_, _≤_, _<_}
 use native.Mathlib.Nat.{zero-add, div-le-self}
 use native.Mathlib.Omega.{arith}
 use lib.Dec.{eqb, leb, ltb}
 use lib.ListN.{length, getD}
 use lib.Seq.{slice}
-use borrow.Author.Tests.{ltb-false, leb-false, eqb-false, le-ltb, lt-leb, ne-eqb}
+use borrow.Author.Tests.{ltb-true, ltb-false, leb-false, eqb-false, le-ltb, lt-leb, ne-eqb}
 use Rattle.ring.specs.RingSums.{ringSize, packetLimit, gridStep}
 use Rattle.ring.specs.declared.speed.Speed.{Speed}
 use Rattle.ring.specs.declared.speed.Speed.the-variants.{High, Full, Low}
@@ -55,6 +55,26 @@ pub packets-split :
     → packetsOf (slice 0 count l) ≡ packetsOf (slice 0 done l) + packetsOf (slice done count l)
 packets-split done count l h k =
     ap packetsOf (slice-split 0 done count l (omega arith) h k) ∙ packets-append (slice 0 done l) (slice done count l)
+
+-- the packets of the pending ones, in a walk from the first request on: before the first pending one nothing is counted
+pub pending-next :
+    (done i t : ℕ) (l : List IsoRequest) → i < t → t ≤ length l
+    → packetsOf (slice (done + (i - done)) t l) ≡ cond (ltb i done) 0 (getD l i blankRequest .packets) + packetsOf (slice (done + ((i + 1) - done)) t l)
+pending-next done i t l h k = go (ltb i done) refl
+  where
+    go : (b : Bool) → ltb i done ≡ b
+        → packetsOf (slice (done + (i - done)) t l) ≡ cond b 0 (getD l i blankRequest .packets) + packetsOf (slice (done + ((i + 1) - done)) t l)
+    go true e =
+        let less : i < done = ltb-true i done e in
+        let same : done + (i - done) ≡ done + ((i + 1) - done) = omega arith in
+        ap (λ (f : ℕ). packetsOf (slice f t l)) same ∙ sym (zero-add (packetsOf (slice (done + ((i + 1) - done)) t l)))
+    go false e =
+        let past : done ≤ i = ltb-false i done e in
+        let here : done + (i - done) ≡ i = omega arith in
+        let next : i + 1 ≡ done + ((i + 1) - done) = omega arith in
+        ap (λ (f : ℕ). packetsOf (slice f t l)) here
+        ∙ packets-next i t l h k
+        ∙ ap (λ (f : ℕ). getD l i blankRequest .packets + packetsOf (slice f t l)) next
 
 -- a walk that asks each request: it ends at a bad one, goes on past a good one, and finds none where nothing is left
 pub request-here :
