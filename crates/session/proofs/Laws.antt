@@ -1,9 +1,14 @@
 pub mod Admitted
 pub mod Checks
+pub mod Ended
 pub mod Guarded
 pub mod Kept
 pub mod Lists
+pub mod Polled
+pub mod Polls
 pub mod Record
+pub mod Replies
+pub mod Settled
 pub mod Stores
 pub mod Tests
 pub mod Ways

@@ -6,21 +6,28 @@ use Prim.Native.Nat.{ℕ}
 use Rattle.words.proofs.Unique.{Unique, equal}
 use Rattle.session.proofs.types.IsoChannelState as functions
 
--- a promise that is an equation of the result and one of the words that were lent as the second argument
-pub equal-both : {A : Type 0} {x y e : A} {l : List ℕ} {u v : Unit {0} × (List ℕ × Unit {0})} → (x ≡ e) × (u .1 .0 ≡ l) → (y ≡ e) × (v .1 .0 ≡ l) → (x ≡ y) × (u ≡ v)
-equal-both p q = (p .0 ∙ sym (q .0), ap (λ (words : List ℕ). (tt, (words, tt))) (p .1 ∙ sym (q .1)))
+-- a promise that is an equation of the result and one of the words that were lent; `at` puts them in the place of their argument
+equal-both :
+    {A L : Type 0} {x y e : A} {l m n : List ℕ} (at : List ℕ → L) → (x ≡ e) × (m ≡ l) → (y ≡ e) × (n ≡ l) → (x ≡ y) × (at m ≡ at n)
+equal-both at p q = (p .0 ∙ sym (q .0), ap at (p .1 ∙ sym (q .1)))
 
 pub open-unique : Unique 1 functions.open.Kinds.ps functions.open.Kinds.r functions.open.Reads.Post
-open-unique κs a x y u v = equal-both
+open-unique κs a x y u v = equal-both (λ (words : List ℕ). (tt, (words, tt)))
 
 pub is-bad-record-unique : Unique 0 functions.is_bad_record.Kinds.ps functions.is_bad_record.Kinds.r functions.is_bad_record.Reads.Post
 is-bad-record-unique κs a x y u v = equal refl
 
--- and of the words that were lent as the fourth
-equal-fourth :
-    {A : Type 0} {x y e : A} {l : List ℕ} {u v : Unit {0} × (Unit {0} × (Unit {0} × (List ℕ × Unit {0})))}
-    → (x ≡ e) × (u .1 .1 .1 .0 ≡ l) → (y ≡ e) × (v .1 .1 .1 .0 ≡ l) → (x ≡ y) × (u ≡ v)
-equal-fourth p q = (p .0 ∙ sym (q .0), ap (λ (words : List ℕ). (tt, (tt, (tt, (words, tt))))) (p .1 ∙ sym (q .1)))
-
 pub submit-unique : Unique 2 functions.submit.Kinds.ps functions.submit.Kinds.r functions.submit.Reads.Post
-submit-unique κs a x y u v = equal-fourth
+submit-unique κs a x y u v = equal-both (λ (words : List ℕ). (tt, (tt, (tt, (words, tt)))))
+
+pub poll-channel-unique : Unique 1 functions.poll_channel.Kinds.ps functions.poll_channel.Kinds.r functions.poll_channel.Reads.Post
+poll-channel-unique κs a x y u v = equal-both (λ (words : List ℕ). (tt, (tt, (words, tt))))
+
+pub cancel-unique : Unique 0 functions.cancel.Kinds.ps functions.cancel.Kinds.r functions.cancel.Reads.Post
+cancel-unique κs a x y u v = equal refl
+
+pub reset-unique : Unique 0 functions.reset.Kinds.ps functions.reset.Kinds.r functions.reset.Reads.Post
+reset-unique κs a x y u v = equal refl
+
+pub recover-unique : Unique 1 functions.recover.Kinds.ps functions.recover.Kinds.r functions.recover.Reads.Post
+recover-unique κs a x y u v = equal-both (λ (words : List ℕ). (tt, (words, tt)))

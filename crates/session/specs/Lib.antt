@@ -1,5 +1,9 @@
+pub mod Cancel
+pub mod End
 pub mod Numbers
 pub mod Open
+pub mod Poll
 pub mod Record
 pub mod Session
+pub mod Settle
 pub mod Submit

@@ -5,6 +5,8 @@ use Rattle.session.specs.declared.types.OpenAnswer.{OpenAnswer}
 use Rattle.session.specs.declared.types.OpenAnswer.the-variants.{Opened, ShortRing, BadConfig}
 use Rattle.session.specs.declared.transfer.SubmitAnswer.{SubmitAnswer}
 use Rattle.session.specs.declared.transfer.SubmitAnswer.the-variants.{Accepted, Cut, Refused, PacketTooLong}
+use Rattle.session.specs.declared.reply.IsoAnswer.{IsoAnswer}
+use Rattle.session.specs.declared.reply.IsoAnswer.the-variants as answer
 
 abbrev pub openNumber : OpenAnswer → ℕ
 openNumber Opened = 0
@@ -23,3 +25,8 @@ submitValue (Accepted id) = id
 submitValue Cut = 0
 submitValue (Refused n) = 0
 submitValue (PacketTooLong index) = index
+
+-- poll, cancel, reset and recovery
+abbrev pub answerNumber : IsoAnswer → ℕ
+answerNumber answer.Done = 0
+answerNumber (answer.Refused n) = n

@@ -1,8 +1,15 @@
 // The camera session: document 01, "The session". One endpoint, opened once; the session goes in as a value and comes back as one,
 // the descriptor ring is lent. No public function has a `requires`: what cannot be done is refused with 01's number.
+mod cancel;
+mod end;
 mod open;
 mod place;
+mod poll;
 mod record;
+mod recover;
+mod reply;
+mod reset;
+mod settle;
 mod store;
 mod submit;
 mod tables;
@@ -11,6 +18,10 @@ mod types;
 mod way;
 
 pub use open::Opened;
+pub use reply::IsoAnswer;
+pub use reply::IsoEvent;
+pub use reply::IsoReply;
+pub use reply::PollWay;
 pub use transfer::IsoChannelStart;
 pub use transfer::IsoTransfer;
 pub use transfer::SubmitAnswer;

@@ -1,12 +1,13 @@
--- Laws of lists that know nothing of sessions: how a slice loses its first element, ends, splits, is read and grows, and how a run of stores is read.
+-- Laws of lists that know nothing of sessions: how a slice loses its first element, ends, splits, is read and grows, how a run of stores is read, and
+-- how a part of a list is changed in place.
 use mathlib.Core.Path.{_≡_, refl, _∙_, sym, ap, subst, subst⁻¹}
-use mathlib.Core.List.{List, [], _∷_, _++_}
+use mathlib.Core.List.{List, [], _∷_, _++_, map}
 use Prim.Native.Nat.{ℕ, zero, suc, _+_, _≤_, _<_}
 use native.Mathlib.Nat.{add-zero, le-trans, min-le-left}
 use native.Mathlib.Numerals.{add-one}
 use native.Mathlib.Omega.{arith}
 use lib.ListN.{length, getD, set, take, drop, length-take, length-set, take-append-drop, drop-of-length-le}
-use lib.Seq.{sets, slice, take-suc-set, getD-set-same, getD-set-other, slice-cons, length-take-le, take-take, drop-append-le, getD-drop, getD-take}
+use lib.Seq.{sets, slice, length-sets, take-suc-set, take-set-lt, drop-set-lt, getD-set-same, getD-set-other, slice-cons, length-take-le, take-take, drop-append-le, getD-drop, getD-take}
 
 module _ {ℓ} {A : Type ℓ} where
   -- a slice is its first element and the slice from the next on
@@ -67,3 +68,50 @@ module _ {ℓ} {A : Type ℓ} where
       let on : i + suc k ≡ suc i + k = omega arith in
       ap (λ (n : ℕ). getD (sets (set l i a) (suc i) vs) n d) on
       ∙ getD-sets-in vs (set l i a) (suc i) k d (omega arith) (omega (arith, length-set l i a))
+
+  pub getD-sets-after : (vs l : List A) (i k : ℕ) (d : A) → i + length vs ≤ k → getD (sets l i vs) k d ≡ getD l k d
+  getD-sets-after [] l i k d h = refl
+  getD-sets-after (a ∷ vs) l i k d h = getD-sets-after vs (set l i a) (suc i) k d (omega arith) ∙ getD-set-other l i k a d (omega arith)
+
+  -- a run of stores is the part that it stored
+  pub slice-sets : (vs l : List A) (i : ℕ) → i + length vs ≤ length l → slice i (i + length vs) (sets l i vs) ≡ vs
+  slice-sets [] l i h = slice-past i (i + 0) l (omega arith)
+  slice-sets (a ∷ vs) l i h =
+      let long : i + suc (length vs) ≤ length (sets (set l i a) (suc i) vs) = omega (arith, length-sets (set l i a) (suc i) vs, length-set l i a) in
+      let first : getD (sets (set l i a) (suc i) vs) i a ≡ a = getD-sets-before vs (set l i a) (suc i) i a (omega arith) ∙ getD-set-same l i a a (omega arith) in
+      let to : i + suc (length vs) ≡ suc i + length vs = omega arith in
+      slice-cons i (i + suc (length vs)) (sets (set l i a) (suc i) vs) a (omega arith) long
+      ∙ ap (λ (x : A). x ∷ slice (suc i) (i + suc (length vs)) (sets (set l i a) (suc i) vs)) first
+      ∙ ap (λ (n : ℕ). a ∷ slice (suc i) n (sets (set l i a) (suc i) vs)) to
+      ∙ ap (λ (xs : List A). a ∷ xs) (slice-sets vs (set l i a) (suc i) (omega (arith, length-set l i a)))
+
+  -- an element of a list whose elements were changed
+  pub getD-map-in : (f : A → A) (l : List A) (k : ℕ) (d e : A) → k < length l → getD (map f l) k e ≡ f (getD l k d)
+  getD-map-in f [] k d e h = absurd (omega arith)
+  getD-map-in f (x ∷ l) zero d e h = refl
+  getD-map-in f (x ∷ l) (suc k) d e h = getD-map-in f l k d e (omega arith)
+
+  -- a store before a slice leaves it
+  pub slice-after-set : (f t i : ℕ) (l : List A) (a : A) → i < f → i < t → slice f t (set l i a) ≡ slice f t l
+  slice-after-set f t i l a h k = ap (drop f) (take-set-lt t l i a k) ∙ drop-set-lt f (take t l) i a h
+
+  -- one turn of a walk that changes each entry of a part in place: what is left to change, applied to the list now, is what was left before
+  pub amend-next :
+      (f : A → A) (i t : ℕ) (l : List A) (d : A) → i < t → t ≤ length l
+      → sets l i (map f (slice i t l)) ≡ sets (set l i (f (getD l i d))) (i + 1) (map f (slice (i + 1) t (set l i (f (getD l i d)))))
+  amend-next f i t l d h k =
+      let v : A = f (getD l i d) in
+      ap (λ (vs : List A). sets l i (map f vs)) (slice-next i t l d h k)
+      ∙ ap (λ (n : ℕ). sets (set l i v) n (map f (slice (i + 1) t l))) (sym (add-one i))
+      ∙ ap (λ (vs : List A). sets (set l i v) (i + 1) (map f vs)) (sym (slice-after-set (i + 1) t i l v (omega arith) h))
+
+  -- the same with the new entry by a name of its own
+  pub amend-by :
+      (f : A → A) (i t : ℕ) (l : List A) (d v : A) → i < t → t ≤ length l → v ≡ f (getD l i d)
+      → sets (set l i v) (i + 1) (map f (slice (i + 1) t (set l i v))) ≡ sets l i (map f (slice i t l))
+  amend-by f i t l d v h k e =
+      ap (λ (x : A). sets (set l i x) (i + 1) (map f (slice (i + 1) t (set l i x)))) e ∙ sym (amend-next f i t l d h k)
+
+  -- and where nothing is left, the list is as it is
+  pub amend-past : (f : A → A) (i t : ℕ) (l : List A) → t ≤ i → sets l i (map f (slice i t l)) ≡ l
+  amend-past f i t l h = ap (λ (vs : List A). sets l i (map f vs)) (slice-past i t l h)

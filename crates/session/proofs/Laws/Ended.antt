@@ -1,0 +1,217 @@
+-- A sound record stays sound when its session ends, is recovered, reset or cancelled: what the record check asks of a request is its number of packets,
+-- and none of these calls changes one.
+use mathlib.Core.Path.{_≡_, refl, _∙_, sym, ap}
+use mathlib.Core.Bool.{Bool, true, false}
+use mathlib.Core.List.{List, [], _∷_, map}
+use Prim.Native.Nat.{ℕ, zero, suc, _+_, _-_, _≤_, _<_}
+use native.Mathlib.Omega.{arith}
+use lib.Dec.{ltb}
+use lib.ListN.{length, getD, set, take, drop, length-set, length-map, List·getD-map}
+use lib.Seq.{sets, slice, length-sets, length-slice, map-set-same}
+use borrow.Author.Tests.{ltb-true, ltb-false}
+use Rattle.ring.proofs.RingFacts.{ring-size-pos}
+use Rattle.session.specs.declared.types.IsoChannelState.{IsoChannelState}
+use Rattle.session.specs.declared.types.IsoHaltReason.{IsoHaltReason}
+use Rattle.session.specs.declared.types.IsoHaltReason.the-variants as reason
+use Rattle.session.specs.declared.types.IsoOutcome.{IsoOutcome}
+use Rattle.session.specs.declared.types.IsoOutcome.the-variants as outcome
+use Rattle.session.specs.declared.types.IsoRequest.{IsoRequest}
+use Rattle.session.specs.declared.reply.IsoAnswer.the-variants as answer
+use Rattle.session.specs.declared.reply.IsoReply.{IsoReply}
+use Rattle.session.specs.Session.{blankRequest, ringWords, packetsOf, allPackets, pendingPackets, hasReason}
+use Rattle.session.specs.Record.{isBadRecord}
+use Rattle.session.specs.Submit.{sum}
+use Rattle.session.specs.End.{withOutcome, endedRequests, ended}
+use Rattle.session.specs.Poll.{reply, pickReply, refusedReply, withReason, recovered, isEmpty, atStart, resetReply}
+use Rattle.session.specs.Cancel.{requestAt, withCancelled, cancelled}
+use Rattle.session.proofs.Laws.Record.{Sound, GoodRequest, packets-past}
+use Rattle.session.proofs.Laws.Lists.{getD-slice, getD-sets-in, getD-map-in, amend-next, amend-past}
+
+-- ---- lists of which a part is changed in place
+
+module _ {A B : Type 0} (p : A → B) where
+  map-take : (n : ℕ) (l : List A) → map p (take n l) ≡ take n (map p l)
+  map-take zero l = refl
+  map-take (suc n) [] = refl
+  map-take (suc n) (a ∷ l) = ap (λ (r : List B). p a ∷ r) (map-take n l)
+
+  map-drop : (n : ℕ) (l : List A) → map p (drop n l) ≡ drop n (map p l)
+  map-drop zero l = refl
+  map-drop (suc n) [] = refl
+  map-drop (suc n) (a ∷ l) = map-drop n l
+
+  map-slice : (f t : ℕ) (l : List A) → map p (slice f t l) ≡ slice f t (map p l)
+  map-slice f t l = map-drop f (take t l) ∙ ap (drop f) (map-take t l)
+
+  -- what a change of an element leaves, a change of a part of a list leaves
+  pub map-amend :
+      (f : A → A) (d : A) → ((a : A) → p (f a) ≡ p a) → (n i t : ℕ) (l : List A) → i + n ≡ t → t ≤ length l
+      → map p (sets l i (map f (slice i t l))) ≡ map p l
+  map-amend f d keeps zero i t l e k = ap (map p) (amend-past f i t l (omega arith))
+  map-amend f d keeps (suc n) i t l e k =
+      let v : A = f (getD l i d) in
+      ap (map p) (amend-next f i t l d (omega arith) k)
+      ∙ map-amend f d keeps n (i + 1) t (set l i v) (omega arith) (omega (arith, length-set l i v))
+      ∙ map-set-same p l i v d (keeps (getD l i d))
+
+module _ {A : Type 0} where
+  -- an entry of the part that was changed
+  pub getD-amended :
+      (f : A → A) (i t k : ℕ) (l : List A) (d : A) → i ≤ k → k < t → t ≤ length l
+      → getD (sets l i (map f (slice i t l))) k d ≡ f (getD l k d)
+  getD-amended f i t k l d h u fits =
+      let j = k - i in
+      let at : i + j ≡ k = omega arith in
+      let many : length (map f (slice i t l)) ≡ t - i = length-map (slice i t l) f ∙ length-slice i t l fits in
+      ap (λ (n : ℕ). getD (sets l i (map f (slice i t l))) n d) (sym at)
+      ∙ getD-sets-in (map f (slice i t l)) l i j d (omega (arith, many)) (omega (arith, many))
+      ∙ getD-map-in f (slice i t l) j d d (omega (arith, length-slice i t l fits))
+      ∙ ap f (getD-slice i t j l d (omega arith) ∙ ap (λ (n : ℕ). getD l n d) at)
+
+-- ---- tables of requests with the same numbers of packets
+
+abbrev pub packets : IsoRequest → ℕ
+packets r = r .packets
+
+packets-sum : (l : List IsoRequest) → packetsOf l ≡ sum (map packets l)
+packets-sum [] = refl
+packets-sum (r ∷ l) = ap (λ (n : ℕ). r .packets + n) (packets-sum l)
+
+module _ (l m : List IsoRequest) (same : map packets m ≡ map packets l) where
+  pub packets-kept : (f t : ℕ) → packetsOf (slice f t m) ≡ packetsOf (slice f t l)
+  packets-kept f t =
+      packets-sum (slice f t m)
+      ∙ ap sum (map-slice packets f t m ∙ ap (slice f t) same ∙ sym (map-slice packets f t l))
+      ∙ sym (packets-sum (slice f t l))
+
+  pub request-kept : (i : ℕ) → GoodRequest (getD l i blankRequest) → GoodRequest (getD m i blankRequest)
+  request-kept i g =
+      let e : getD m i blankRequest .packets ≡ getD l i blankRequest .packets =
+      sym (List·getD-map packets m i blankRequest) ∙ ap (λ (ns : List ℕ). getD ns i 0) same ∙ List·getD-map packets l i blankRequest in
+      record { some = omega (arith, g .some, e); few = omega (arith, g .few, e) }
+
+-- ---- the end of a session
+
+module _ (o : IsoOutcome) (s : IsoChannelState) (g : Sound s) where
+  pub ended-packets : map packets (endedRequests o s) ≡ map packets (s .requests)
+  ended-packets =
+      map-amend packets (withOutcome o) blankRequest (λ r. refl) (s .head .count - s .head .done) (s .head .done) (s .head .count) (s .requests)
+      (omega (arith, g .done-in)) (omega (arith, g .count-in, g .requests-long))
+
+  ended-all : allPackets (ended o s) ≡ allPackets s
+  ended-all = packets-kept (s .requests) (endedRequests o s) ended-packets 0 (s .head .count)
+
+  pub ended-sound : Sound (ended o s)
+  ended-sound =
+      let none : pendingPackets (ended o s) ≡ 0 = packets-past (s .head .count) (s .head .count) (endedRequests o s) (omega arith) in
+      record {
+        requests-long = length-sets (s .requests) (s .head .done) (map (withOutcome o) (slice (s .head .done) (s .head .count) (s .requests))) ∙ g .requests-long;
+        plans-long = g .plans-long;
+        config = g .config;
+        done-in = omega arith;
+        count-in = g .count-in;
+        request = λ i h. request-kept (s .requests) (endedRequests o s) ended-packets i (g .request i h);
+        all-few = omega (arith, ended-all, g .all-few);
+        pending-few = omega (arith, none);
+        plan = λ i h. g .plan i (omega (arith, ended-all));
+        cursor = ring-size-pos (s .cfg .speed);
+        idle-done = λ off. refl;
+        idle-nothing = λ off. refl;
+      }
+
+-- ---- the cursor at 0, a result cancelled, a reason
+
+pub reset-sound : (s : IsoChannelState) → Sound s → Sound (atStart s)
+reset-sound s g =
+    record {
+      requests-long = g .requests-long;
+      plans-long = g .plans-long;
+      config = g .config;
+      done-in = g .done-in;
+      count-in = g .count-in;
+      request = g .request;
+      all-few = g .all-few;
+      pending-few = g .pending-few;
+      plan = g .plan;
+      cursor = ring-size-pos (s .cfg .speed);
+      idle-done = g .idle-done;
+      idle-nothing = g .idle-nothing;
+    }
+
+module _ (at : ℕ) (s : IsoChannelState) (g : Sound s) where
+  abbrev amended : IsoRequest
+  amended = withOutcome outcome.Cancelled (getD (s .requests) at blankRequest)
+
+  amended-packets : map packets (set (s .requests) at amended) ≡ map packets (s .requests)
+  amended-packets = map-set-same packets (s .requests) at amended blankRequest refl
+
+  amended-sums : (f : ℕ) → packetsOf (slice f (s .head .count) (set (s .requests) at amended)) ≡ packetsOf (slice f (s .head .count) (s .requests))
+  amended-sums f = packets-kept (s .requests) (set (s .requests) at amended) amended-packets f (s .head .count)
+
+  pub amended-sound : Sound (withCancelled at s)
+  amended-sound =
+      record {
+        requests-long = length-set (s .requests) at amended ∙ g .requests-long;
+        plans-long = g .plans-long;
+        config = g .config;
+        done-in = g .done-in;
+        count-in = g .count-in;
+        request = λ i h. request-kept (s .requests) (set (s .requests) at amended) amended-packets i (g .request i h);
+        all-few = omega (arith, amended-sums 0, g .all-few);
+        pending-few = omega (arith, amended-sums (s .head .done), g .pending-few);
+        plan = λ i h. g .plan i (omega (arith, amended-sums 0));
+        cursor = g .cursor;
+        idle-done = g .idle-done;
+        idle-nothing = g .idle-nothing;
+      }
+
+-- requests are pending, so the channel is live and a reason may stand
+pub reason-sound : (r : IsoHaltReason) (s : IsoChannelState) → Sound s → s .head .done < s .head .count → Sound (withReason r s)
+reason-sound r s g h =
+    record {
+      requests-long = g .requests-long;
+      plans-long = g .plans-long;
+      config = g .config;
+      done-in = g .done-in;
+      count-in = g .count-in;
+      request = g .request;
+      all-few = g .all-few;
+      pending-few = g .pending-few;
+      plan = g .plan;
+      cursor = g .cursor;
+      idle-done = g .idle-done;
+      idle-nothing = λ off. absurd (omega (arith, g .idle-done off, h));
+    }
+
+-- ---- the calls, whatever they answer
+
+picked : (b : Bool) (x y : IsoReply) → (b ≡ true → Sound (x .session)) → (b ≡ false → Sound (y .session)) → Sound (pickReply b x y .session)
+picked true x y f g = f refl
+picked false x y f g = g refl
+
+pub recovered-sound : (s : IsoChannelState) (words : ℕ) → Sound s → Sound (recovered s words .session)
+recovered-sound s words g =
+    let over = reply answer.Done false false (ended outcome.Disconnected s) in
+    picked (ltb words (ringWords (s .cfg))) (refusedReply 17 s) (pickReply (isBadRecord s) (refusedReply 18 s) over) (λ e. g)
+    (λ e. picked (isBadRecord s) (refusedReply 18 s) over (λ b. g) (λ b. ended-sound outcome.Disconnected s g))
+
+pub reset-reply-sound : (s : IsoChannelState) → Sound s → Sound (resetReply s .session)
+reset-reply-sound s g =
+    let empty = reply answer.Done false false (atStart s) in
+    picked (isBadRecord s) (refusedReply 18 s) (pickReply (isEmpty s) empty (refusedReply 16 s)) (λ b. g)
+    (λ b. picked (isEmpty s) empty (refusedReply 16 s) (λ e. reset-sound s g) (λ e. g))
+
+pub cancelled-sound : (s : IsoChannelState) (id : ℕ) → Sound s → Sound (cancelled s id .session)
+cancelled-sound s id g =
+    let at : ℕ = requestAt id s in
+    let amended-reply = reply answer.Done false false (withCancelled at s) in
+    let stands = reply answer.Done false false s in
+    let halting = reply answer.Done false true (withReason reason.Cancelled s) in
+    let pending = pickReply (hasReason (s .fatal)) stands halting in
+    let known = pickReply (ltb at (s .head .count)) pending (refusedReply 15 s) in
+    picked (isBadRecord s) (refusedReply 18 s) (pickReply (ltb at (s .head .done)) amended-reply known) (λ b. g)
+    (λ b. picked (ltb at (s .head .done)) amended-reply known (λ e. amended-sound at s g)
+    (λ e. picked (ltb at (s .head .count)) pending (refusedReply 15 s)
+    (λ u. picked (hasReason (s .fatal)) stands halting (λ f. g)
+    (λ f. reason-sound reason.Cancelled s g (omega (arith, ltb-false at (s .head .done) e, ltb-true at (s .head .count) u))))
+    (λ u. g)))

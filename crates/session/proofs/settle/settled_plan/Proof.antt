@@ -1,0 +1,16 @@
+-- `settled_plan` is its definition at what its callees answer.
+use borrow.Author.Needs.{needs}
+use Rattle.session.proofs.settle.settled_plan.Statement.{statement}
+use Rattle.session.proofs.settle.settled_plan.Tie as tie
+
+moved-length-requires : tie.Need-moved-length-requires
+moved-length-requires c κs = search needs
+
+status-of-requires : tie.Need-status-of-requires
+status-of-requires c κs = search needs
+
+returns : tie.Need-returns
+returns c = rw (c .before .moved-length .ensures, c .status-of .ensures)
+
+pub settled-plan-spec : {M : Type 1} → statement M
+settled-plan-spec = tie.close (tie.spec moved-length-requires status-of-requires returns)
