@@ -3,6 +3,7 @@ pub mod End
 pub mod Numbers
 pub mod Open
 pub mod Poll
+pub mod Reclaim
 pub mod Record
 pub mod Session
 pub mod Settle

@@ -7,6 +7,8 @@ use Rattle.session.specs.declared.transfer.SubmitAnswer.{SubmitAnswer}
 use Rattle.session.specs.declared.transfer.SubmitAnswer.the-variants.{Accepted, Cut, Refused, PacketTooLong}
 use Rattle.session.specs.declared.reply.IsoAnswer.{IsoAnswer}
 use Rattle.session.specs.declared.reply.IsoAnswer.the-variants as answer
+use Rattle.session.specs.declared.reply.ReclaimAnswer.{ReclaimAnswer}
+use Rattle.session.specs.declared.reply.ReclaimAnswer.the-variants as reclaim
 
 abbrev pub openNumber : OpenAnswer → ℕ
 openNumber Opened = 0
@@ -30,3 +32,19 @@ submitValue (PacketTooLong index) = index
 abbrev pub answerNumber : IsoAnswer → ℕ
 answerNumber answer.Done = 0
 answerNumber (answer.Refused n) = n
+
+-- "not yet" is not refused; a completed request comes with its total length and its packets
+abbrev pub reclaimNumber : ReclaimAnswer → ℕ
+reclaimNumber (reclaim.Completed outcome total packets) = 0
+reclaimNumber reclaim.NotYet = 0
+reclaimNumber (reclaim.Refused n) = n
+
+abbrev pub reclaimLength : ReclaimAnswer → ℕ
+reclaimLength (reclaim.Completed outcome total packets) = total
+reclaimLength reclaim.NotYet = 0
+reclaimLength (reclaim.Refused n) = 0
+
+abbrev pub reclaimPackets : ReclaimAnswer → ℕ
+reclaimPackets (reclaim.Completed outcome total packets) = packets
+reclaimPackets reclaim.NotYet = 0
+reclaimPackets (reclaim.Refused n) = 0

@@ -16,7 +16,7 @@ use crate::types::IsoOutcome;
 use crate::types::IsoRequest;
 
 // The place of the first request with the number, or `count`.
-fn place_of(requests: [IsoRequest; 64], count: u16, id: u64) -> u16
+pub(crate) fn place_of(requests: [IsoRequest; 64], count: u16, id: u64) -> u16
     requires { ⌜ count ≤ 64 ⌝ }
     ensures { λ r. ⌜ r ≡ placeOf id (slice 0 count requests) ⌝ }
 {

@@ -22,6 +22,8 @@ pub use reply::IsoAnswer;
 pub use reply::IsoEvent;
 pub use reply::IsoReply;
 pub use reply::PollWay;
+pub use reply::ReclaimAnswer;
+pub use reply::Reclaimed;
 pub use transfer::IsoChannelStart;
 pub use transfer::IsoTransfer;
 pub use transfer::SubmitAnswer;

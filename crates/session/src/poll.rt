@@ -69,7 +69,7 @@ fn way_by_fault(fault: HcintFault, fatal: IsoFatal, hcint: u32) -> PollWay
 }
 
 impl IsoChannelState {
-    fn poll_way(self, event: IsoEvent) -> PollWay
+    pub(crate) fn poll_way(self, event: IsoEvent) -> PollWay
         ensures { λ r. ⌜ r ≡ pollWay self event ⌝ }
     {
         let head = self.head;
@@ -86,7 +86,7 @@ impl IsoChannelState {
 }
 
 impl IsoChannelState {
-    fn poll_by(self, way: PollWay, ring: &mut [u32]) -> IsoReply
+    pub(crate) fn poll_by(self, way: PollWay, ring: &mut [u32]) -> IsoReply
         requires { ⌜ (isBadRecord self ≡ false) × (ringWords (self .cfg) ≤ length (now ring)) ⌝ }
         ensures { λ r. ⌜ (r ≡ polledBy way self (now (ring .entry))) × (now (ring .exit) ≡ polledRingBy way self (now (ring .entry))) ⌝ }
     {

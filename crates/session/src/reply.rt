@@ -36,6 +36,21 @@ pub struct IsoReply {
     pub session: IsoChannelState,
 }
 
+// A completed request with its outcome, the bytes moved and its packets; or it is still pending; or a refusal.
+pub enum ReclaimAnswer {
+    Completed(IsoOutcome, u32, u16),
+    NotYet,
+    Refused(u16),
+}
+
+// As `IsoReply`, with the answer of a reclaim.
+pub struct Reclaimed {
+    pub answer: ReclaimAnswer,
+    pub taken: bool,
+    pub halt: bool,
+    pub session: IsoChannelState,
+}
+
 // Nothing was altered.
 pub(crate) fn refused(number: u16, session: IsoChannelState) -> IsoReply
     ensures { λ r. ⌜ r ≡ refusedReply number session ⌝ }
