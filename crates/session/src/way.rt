@@ -126,10 +126,10 @@ impl IsoChannelState {
         }
         let head = self.head;
         let requests = self.requests;
-        let all = packets_of(requests, 0, head.count) as usize;
-        let pending = packets_of(requests, head.done, head.count) as usize;
-        let over = n > wide(room(cfg)) as usize - pending;
-        let full = (head.count >= 64) | (n > 1_024 - all);
+        let all = packets_of(requests, 0, head.count);
+        let pending = packets_of(requests, head.done, head.count);
+        let over = n > rest(wide(room(cfg)), pending);
+        let full = (head.count >= 64) | (n > rest(1_024, all));
         let fatal = self.fatal;
         let speed = cfg.speed;
         entry_number(
@@ -151,11 +151,9 @@ impl IsoChannelState {
     {
         let head = self.head;
         let requests = self.requests;
-        let all = packets_of(requests, 0, head.count) as usize;
-        let at = less_one(all);
-        let plans = self.plans;
-        let tail = plans[at].desc_index;
-        insert_of(self.cfg, head, transfer, tail, ring)
+        let at = rest(packets_of(requests, 0, head.count), 1);
+        let tail = self.plans[at];
+        insert_of(self.cfg, head, transfer, tail.desc_index, ring)
     }
 
     // 13: a slot of the submission is one of a pending request.
@@ -229,8 +227,12 @@ impl IsoChannelState {
     }
 }
 
-fn less_one(n: usize) -> usize
-    ensures { λ r. ⌜ r ≡ n - 1 ⌝ }
+// What is left of `all`.
+fn rest(all: u32, used: u32) -> usize
+    ensures { λ r. ⌜ r ≡ all - used ⌝ }
 {
-    if n == 0 { 0 } else { n - 1 }
+    if all <= used {
+        return 0;
+    }
+    (all - used) as usize
 }

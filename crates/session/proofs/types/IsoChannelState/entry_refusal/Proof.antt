@@ -49,16 +49,10 @@ returns-2 c =
     rw (e1, e2)
 
 packets-of-requires : tie.Need-packets-of-requires
-packets-of-requires c κs = let s = facts (c .before .before) in (omega arith, s .count-in)
-
-cast-all : tie.Need-cast-all
-cast-all c = search needs
+packets-of-requires c κs = let s = facts ((c .before .before)) in (omega arith, s .count-in)
 
 packets-of-requires-2 : tie.Need-packets-of-requires-2
-packets-of-requires-2 c κs = let s = facts (c .before .before .before) in (s .done-in, s .count-in)
-
-cast-pending : tie.Need-cast-pending
-cast-pending c = search needs
+packets-of-requires-2 c κs = let s = facts ((c .before .before .before)) in (s .done-in, s .count-in)
 
 room-requires : tie.Need-room-requires
 room-requires c κs = search needs
@@ -66,16 +60,11 @@ room-requires c κs = search needs
 wide-requires : tie.Need-wide-requires
 wide-requires c κs = search needs
 
-cast-over : tie.Need-cast-over
-cast-over c = search needs
+rest-requires : tie.Need-rest-requires
+rest-requires c κs = search needs
 
-sub-over : tie.Need-sub-over
-sub-over c =
-    let s = facts (c .before .before .before .before .before .before) in
-    omega (arith, s .pending-few, c .before .before .packets-of2 .ensures, c .wide .ensures .0, c .before .room .ensures)
-
-sub-full : tie.Need-sub-full
-sub-full c = let s = facts (c .before .before .before .before .before .before .before) in omega (arith, s .all-few, c .before .before .before .before .packets-of .ensures)
+rest-requires-2 : tie.Need-rest-requires-2
+rest-requires-2 c κs = search needs
 
 has-reason-requires : tie.Need-has-reason-requires
 has-reason-requires c κs = search needs
@@ -88,14 +77,17 @@ entry-number-requires c κs = search needs
 
 returns-3 : tie.Need-returns-3
 returns-3 c =
-    let s = c .before .before .before .before .before .before .before .before .before .before .before .before .before .before .before .before .before .before .args .self in
-    let n = c .before .before .before .before .before .before .before .before .before .before .before .before .before .before .before .before .before .before .args .n in
-    let over : ltb (c .before .before .before .before .before .before .before .wide .result - c .before .before .before .before .before .before .before .before .before .packets-of2 .result) n ≡ isOver s n =
-    ap₂ (λ (r p : ℕ). ltb (r - p) n) (c .before .before .before .before .before .before .before .wide .ensures .0 ∙ c .before .before .before .before .before .before .before .before .room .ensures) (c .before .before .before .before .before .before .before .before .before .packets-of2 .ensures) ∙ rest-test (room (s .cfg)) (pendingPackets s) n (facts (c .before .before .before .before .before .before .before .before .before .before .before .before .before) .pending-few) in
-    let full : (leb 64 (s .head .count) || ltb (1024 - c .before .before .before .before .before .before .before .before .before .before .packets-of .result) n) ≡ (ltb 64 (s .head .count + 1) || ltb 1024 (allPackets s + n)) =
-    ap (λ (a : ℕ). leb 64 (s .head .count) || ltb (1024 - a) n) (c .before .before .before .before .before .before .before .before .before .before .packets-of .ensures) ∙ full-test (s .head .count) (allPackets s) n (facts (c .before .before .before .before .before .before .before .before .before .before .before .before .before) .all-few) in
-    let rest = entry-equal (not (c .before .before .before .before .before .before .before .before .before .before .before .before .before .before .before .before .before .before .args .transfer .isochronous)) (eqb n 0) (not (c .before .before .before .before .before .before .before .before .before .before .before .before .before .before .before .before .before .before .args .transfer .«has_buffer»)) (eqb (s .head .done) (s .head .count)) (c .before .before .before .before .before .has-reason .ensures) (c .before .before .before .before .is-low .ensures) over full in
-    c .entry-number .ensures ∙ rest ∙ entry-rest _ (long (c .before .before .before .before .before .before .before .before .before .before .before .before .before .before .before)) (bad (c .before .before .before .before .before .before .before .before .before .before .before .before .before))
+    let s = c .before .before .before .before .before .before .before .before .before .before .before .before .before .before .before .before .before .before .before .before .args .self in
+    let n = c .before .before .before .before .before .before .before .before .before .before .before .before .before .before .before .before .before .before .before .before .args .n in
+    let g = facts ((c .before .before .before .before .before .before .before .before .before .before .before .before .before .before .before)) in
+    let over : ltb (c .before .before .before .before .before .before .before .before .rest .result) n ≡ isOver s n =
+    ap (λ (k : ℕ). ltb k n) (c .before .before .before .before .before .before .before .before .rest .ensures ∙ ap₂ (λ (r p : ℕ). r - p) (c .before .before .before .before .before .before .before .before .before .wide .ensures .0 ∙ c .before .before .before .before .before .before .before .before .before .before .room .ensures) (c .before .before .before .before .before .before .before .before .before .before .before .packets-of2 .ensures))
+    ∙ rest-test (room (s .cfg)) (pendingPackets s) n (g .pending-few) in
+    let full : (leb 64 (s .head .count) || ltb (c .before .before .before .before .before .before .rest2 .result) n) ≡ (ltb 64 (s .head .count + 1) || ltb 1024 (allPackets s + n)) =
+    ap (λ (k : ℕ). leb 64 (s .head .count) || ltb k n) (c .before .before .before .before .before .before .rest2 .ensures ∙ ap (λ (a : ℕ). 1024 - a) (c .before .before .before .before .before .before .before .before .before .before .before .before .packets-of .ensures))
+    ∙ full-test (s .head .count) (allPackets s) n (g .all-few) in
+    let tests = entry-equal (not (c .before .before .before .before .before .before .before .before .before .before .before .before .before .before .before .before .before .before .before .before .args .transfer .isochronous)) (eqb n 0) (not (c .before .before .before .before .before .before .before .before .before .before .before .before .before .before .before .before .before .before .before .before .args .transfer .«has_buffer»)) (eqb (s .head .done) (s .head .count)) (c .before .before .before .before .before .has-reason .ensures) (c .before .before .before .before .is-low .ensures) over full in
+    c .entry-number .ensures ∙ tests ∙ entry-rest _ (long ((c .before .before .before .before .before .before .before .before .before .before .before .before .before .before .before .before .before))) (bad ((c .before .before .before .before .before .before .before .before .before .before .before .before .before .before .before)))
 
 pub entry-refusal-spec : {M : Type 1} → statement M
 entry-refusal-spec =
@@ -106,14 +98,11 @@ entry-refusal-spec =
     is-bad-record-requires
     returns-2
     packets-of-requires
-    cast-all
     packets-of-requires-2
-    cast-pending
     room-requires
     wide-requires
-    cast-over
-    sub-over
-    sub-full
+    rest-requires
+    rest-requires-2
     has-reason-requires
     is-low-requires
     entry-number-requires
