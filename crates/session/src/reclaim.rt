@@ -168,10 +168,12 @@ impl IsoChannelState {
         let requests = self.requests;
         let plans = self.plans;
         let all = packets_of(requests, 0, head.count);
-        self.requests = close_requests(requests, at, at + 1, head.count);
-        self.plans = close_plans(plans, from, to, all);
+        let left = close_requests(requests, at, at + 1, head.count);
+        let table = close_plans(plans, from, to, all);
         let done = head.done - 1;
         let count = head.count - 1;
+        self.requests = left;
+        self.plans = table;
         self.head.done = done;
         self.head.count = count;
         self

@@ -115,3 +115,29 @@ module _ {ℓ} {A : Type ℓ} where
   -- and where nothing is left, the list is as it is
   pub amend-past : (f : A → A) (i t : ℕ) (l : List A) → t ≤ i → sets l i (map f (slice i t l)) ≡ l
   amend-past f i t l h = ap (λ (vs : List A). sets l i (map f vs)) (slice-past i t l h)
+
+  -- one turn of a walk that moves the entries of a part down, and its end
+  pub close-next :
+      (into i t : ℕ) (l : List A) (d : A) → into ≤ i → i < t → t ≤ length l
+      → sets (set l into (getD l i d)) (into + 1) (slice (i + 1) t (set l into (getD l i d))) ≡ sets l into (slice i t l)
+  close-next into i t l d h k n =
+      let v : A = getD l i d in
+      ap (sets (set l into v) (into + 1)) (slice-after-set (i + 1) t into l v (omega arith) (omega arith))
+      ∙ ap (λ (m : ℕ). sets (set l into v) m (slice (i + 1) t l)) (add-one into)
+      ∙ ap (sets l into) (sym (slice-next i t l d k n))
+
+  pub close-past : (into i t : ℕ) (l : List A) → t ≤ i → sets l into (slice i t l) ≡ l
+  close-past into i t l h = ap (sets l into) (slice-past i t l h)
+
+  -- one turn of a walk that writes what each entry of a part of one list becomes into another, and its end
+  module _ {B : Type ℓ} (f : A → B) where
+    pub write-next :
+        (at i t : ℕ) (l : List A) (d : A) (xs : List B) (v : B) → i < t → t ≤ length l → v ≡ f (getD l i d)
+        → sets (set xs at v) (at + 1) (map f (slice (i + 1) t l)) ≡ sets xs at (map f (slice i t l))
+    write-next at i t l d xs v h k e =
+        ap (λ (x : B). sets (set xs at x) (at + 1) (map f (slice (i + 1) t l))) e
+        ∙ ap (λ (m : ℕ). sets (set xs at (f (getD l i d))) m (map f (slice (i + 1) t l))) (add-one at)
+        ∙ ap (λ (ys : List A). sets xs at (map f ys)) (sym (slice-next i t l d h k))
+
+    pub write-past : (at i t : ℕ) (l : List A) (xs : List B) → t ≤ i → sets xs at (map f (slice i t l)) ≡ xs
+    write-past at i t l xs h = ap (λ (ys : List A). sets xs at (map f ys)) (slice-past i t l h)
