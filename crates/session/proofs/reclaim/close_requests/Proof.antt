@@ -1,6 +1,6 @@
 -- The invariant: what is still to move down in the table as it is now gives the goal. The measure is how many entries are left.
 use mathlib.Core.Path.{_≡_, refl, sym, _∙_}
-use Prim.Native.Nat.{_+_, _-_, _≤_}
+use Prim.Native.Nat.{_-_, _≤_}
 use native.Mathlib.Omega.{arith}
 use lib.ListN.{length, getD, length-set}
 use lib.Seq.{slice, sets}
