@@ -1,5 +1,5 @@
--- Laws of lists that know nothing of sessions: how a slice loses its first element, ends, splits, is read and grows, how a run of stores is read, and
--- how a part of a list is changed in place.
+-- Laws of lists that know nothing of sessions: how a slice loses its first element, ends, splits, is read and grows, how a run of stores is read, how a
+-- part of a list is changed in place, and how it is written elsewhere or moved down.
 use mathlib.Core.Path.{_≡_, refl, _∙_, sym, ap, subst, subst⁻¹}
 use mathlib.Core.List.{List, [], _∷_, _++_, map}
 use Prim.Native.Nat.{ℕ, zero, suc, _+_, _≤_, _<_}
@@ -95,23 +95,45 @@ module _ {ℓ} {A : Type ℓ} where
   pub slice-after-set : (f t i : ℕ) (l : List A) (a : A) → i < f → i < t → slice f t (set l i a) ≡ slice f t l
   slice-after-set f t i l a h k = ap (drop f) (take-set-lt t l i a k) ∙ drop-set-lt f (take t l) i a h
 
-  -- one turn of a walk that changes each entry of a part in place: what is left to change, applied to the list now, is what was left before
-  pub amend-next :
-      (f : A → A) (i t : ℕ) (l : List A) (d : A) → i < t → t ≤ length l
-      → sets l i (map f (slice i t l)) ≡ sets (set l i (f (getD l i d))) (i + 1) (map f (slice (i + 1) t (set l i (f (getD l i d)))))
-  amend-next f i t l d h k =
-      let v : A = f (getD l i d) in
-      ap (λ (vs : List A). sets l i (map f vs)) (slice-next i t l d h k)
-      ∙ ap (λ (n : ℕ). sets (set l i v) n (map f (slice (i + 1) t l))) (sym (add-one i))
-      ∙ ap (λ (vs : List A). sets (set l i v) (i + 1) (map f vs)) (sym (slice-after-set (i + 1) t i l v (omega arith) h))
+  -- one turn of a walk that writes what each entry of a part of one list becomes into another, and its end
+  module _ {B : Type ℓ} (f : A → B) where
+    pub write-next :
+        (at i t : ℕ) (l : List A) (d : A) (xs : List B) (v : B) → i < t → t ≤ length l → v ≡ f (getD l i d)
+        → sets (set xs at v) (at + 1) (map f (slice (i + 1) t l)) ≡ sets xs at (map f (slice i t l))
+    write-next at i t l d xs v h k e =
+        ap (λ (x : B). sets (set xs at x) (at + 1) (map f (slice (i + 1) t l))) e
+        ∙ ap (λ (m : ℕ). sets (set xs at (f (getD l i d))) m (map f (slice (i + 1) t l))) (add-one at)
+        ∙ ap (λ (ys : List A). sets xs at (map f ys)) (sym (slice-next i t l d h k))
 
-  -- the same with the new entry by a name of its own
+    pub write-past : (at i t : ℕ) (l : List A) (xs : List B) → t ≤ i → sets xs at (map f (slice i t l)) ≡ xs
+    write-past at i t l xs h = ap (λ (ys : List A). sets xs at (map f ys)) (slice-past i t l h)
+
+  -- one turn of a walk that changes each entry of a part in place: what is left to change, applied to the list now, is what was left before
   pub amend-by :
       (f : A → A) (i t : ℕ) (l : List A) (d v : A) → i < t → t ≤ length l → v ≡ f (getD l i d)
       → sets (set l i v) (i + 1) (map f (slice (i + 1) t (set l i v))) ≡ sets l i (map f (slice i t l))
   amend-by f i t l d v h k e =
-      ap (λ (x : A). sets (set l i x) (i + 1) (map f (slice (i + 1) t (set l i x)))) e ∙ sym (amend-next f i t l d h k)
+      ap (λ (vs : List A). sets (set l i v) (i + 1) (map f vs)) (slice-after-set (i + 1) t i l v (omega arith) h) ∙ write-next f i i t l d l v h k e
+
+  -- the same the other way round, without a name for the new entry
+  pub amend-next :
+      (f : A → A) (i t : ℕ) (l : List A) (d : A) → i < t → t ≤ length l
+      → sets l i (map f (slice i t l)) ≡ sets (set l i (f (getD l i d))) (i + 1) (map f (slice (i + 1) t (set l i (f (getD l i d)))))
+  amend-next f i t l d h k = sym (amend-by f i t l d (f (getD l i d)) h k refl)
 
   -- and where nothing is left, the list is as it is
   pub amend-past : (f : A → A) (i t : ℕ) (l : List A) → t ≤ i → sets l i (map f (slice i t l)) ≡ l
-  amend-past f i t l h = ap (λ (vs : List A). sets l i (map f vs)) (slice-past i t l h)
+  amend-past f i t l h = write-past f i i t l l h
+
+  -- one turn of a walk that moves the entries of a part down, and its end
+  pub close-next :
+      (into i t : ℕ) (l : List A) (d : A) → into ≤ i → i < t → t ≤ length l
+      → sets (set l into (getD l i d)) (into + 1) (slice (i + 1) t (set l into (getD l i d))) ≡ sets l into (slice i t l)
+  close-next into i t l d h k n =
+      let v : A = getD l i d in
+      ap (sets (set l into v) (into + 1)) (slice-after-set (i + 1) t into l v (omega arith) (omega arith))
+      ∙ ap (λ (m : ℕ). sets (set l into v) m (slice (i + 1) t l)) (add-one into)
+      ∙ ap (sets l into) (sym (slice-next i t l d k n))
+
+  pub close-past : (into i t : ℕ) (l : List A) → t ≤ i → sets l into (slice i t l) ≡ l
+  close-past into i t l h = ap (sets l into) (slice-past i t l h)

@@ -1,0 +1,63 @@
+-- The results are their definition at what the calls answer.
+use mathlib.Core.Path.{_≡_, _∙_, sym}
+use mathlib.Core.Bool.{false}
+use native.Mathlib.Omega.{arith}
+use lib.ListN.{length-map}
+use Rattle.session.specs.Record.{isBadRecord}
+use Rattle.session.proofs.Laws.Record.{Sound, sound}
+use Rattle.session.proofs.Laws.Reclaims.{handed-by, none-handed}
+use borrow.Author.Needs.{needs}
+use Rattle.session.proofs.types.IsoChannelState.hand_results.Statement.{statement}
+use Rattle.session.proofs.types.IsoChannelState.hand_results.Tie as tie
+
+-- what the record says, where it is good
+good : (c : tie.Start) → isBadRecord (c .args .self) ≡ false → Sound (c .args .self)
+good c e =
+    sound (c .args .self) (sym (length-map (c .args .self .requests) _) ∙ c .good .0 .1 .1 .1 .1 .1 .0 .1 .0 .1)
+    (sym (length-map (c .args .self .plans) _) ∙ c .good .0 .1 .1 .1 .1 .1 .1 .0 .1 .0 .1) e
+
+mul-request : tie.Need-mul-request
+mul-request c = search needs
+
+array-copy-out-request : tie.Need-array-copy-out-request
+array-copy-out-request c =
+    let s = good (c .before .before) (c .before .before .pre .0) in
+    omega (arith, s .done-in, s .count-in, c .before .before .pre .1)
+
+is-done-requires : tie.Need-is-done-requires
+is-done-requires c κs = search needs
+
+plans-begin-requires : tie.Need-plans-begin-requires
+plans-begin-requires c κs = (c .before .before .before .before .before .before .pre .0, omega (arith, good (c .before .before .before .before .before .before) (c .before .before .before .before .before .before .pre .0) .done-in, c .before .before .before .before .before .before .pre .1))
+
+plans-end-requires : tie.Need-plans-end-requires
+plans-end-requires c κs = (c .before .before .before .before .before .before .before .pre .0, omega (arith, good (c .before .before .before .before .before .before .before) (c .before .before .before .before .before .before .before .pre .0) .done-in, c .before .before .before .before .before .before .before .pre .1))
+
+write-results-requires : tie.Need-write-results-requires
+write-results-requires c κs = search needs
+
+same-length : tie.Need-same-length
+same-length c = search needs
+
+returns : tie.Need-returns
+returns c =
+    let a = c .before .before .before .before .before .before .before .before .before .before .before .before .args in
+    handed-by (a .at) (a .self) (c .before .before .before .before .before .plans-begin .result) (c .before .before .before .before .plans-end .result) (c .before .before .before .before .before .plans-begin .ensures) (c .before .before .before .before .plans-end .ensures .0) (a .results .now) (c .before .before .write-results .last .1 .1 .1 .0)
+    (sym (c .before .before .before .before .before .before .before .before .is-done .ensures) ∙ c .before .before .before .before .before .before .before .if1 .taken) (c .before .before .write-results .ensures)
+
+returns-2 : tie.Need-returns-2
+returns-2 c = none-handed (c .before .before .before .before .before .args .at) (c .before .before .before .before .before .args .self) (c .before .before .before .before .before .args .results .now) (sym (c .before .is-done .ensures) ∙ c .if1 .left)
+
+pub hand-results-spec : {M : Type 1} → statement M
+hand-results-spec =
+    tie.close
+    (tie.spec
+    mul-request
+    array-copy-out-request
+    is-done-requires
+    plans-begin-requires
+    plans-end-requires
+    write-results-requires
+    same-length
+    returns
+    returns-2)

@@ -1,0 +1,69 @@
+-- What is left is its definition at what the calls answer.
+use mathlib.Core.Path.{_≡_, _∙_, sym}
+use mathlib.Core.Bool.{false}
+use native.Mathlib.Omega.{arith}
+use lib.ListN.{length-map}
+use Rattle.session.specs.Record.{isBadRecord}
+use Rattle.session.proofs.Laws.Record.{Sound, sound}
+use Rattle.session.proofs.Laws.Reclaims.{plans-in, removed-by}
+use borrow.Author.Needs.{needs}
+use Rattle.session.proofs.types.IsoChannelState.remove.Statement.{statement}
+use Rattle.session.proofs.types.IsoChannelState.remove.Tie as tie
+
+-- what the record says, where it is good
+good : (c : tie.Start) → isBadRecord (c .args .self) ≡ false → Sound (c .args .self)
+good c e =
+    sound (c .args .self) (sym (length-map (c .args .self .requests) _) ∙ c .good .0 .1 .1 .1 .1 .1 .0 .1 .0 .1)
+    (sym (length-map (c .args .self .plans) _) ∙ c .good .0 .1 .1 .1 .1 .1 .1 .0 .1 .0 .1) e
+
+plans-begin-requires : tie.Need-plans-begin-requires
+plans-begin-requires c κs = (c .before .pre .0, omega (arith, good (c .before) (c .before .pre .0) .done-in, c .before .pre .1))
+
+plans-end-requires : tie.Need-plans-end-requires
+plans-end-requires c κs = (c .before .before .pre .0, omega (arith, good (c .before .before) (c .before .before .pre .0) .done-in, c .before .before .pre .1))
+
+packets-of-requires : tie.Need-packets-of-requires
+packets-of-requires c κs = (omega arith, good (c .before .before .before .before .before) (c .before .before .before .before .before .pre .0) .count-in)
+
+add-close-requests : tie.Need-add-close-requests
+add-close-requests c = search needs
+
+close-requests-requires : tie.Need-close-requests-requires
+close-requests-requires c κs =
+    let s = good (c .before .before .before .before .before .before) (c .before .before .before .before .before .before .pre .0) in
+    (omega arith, omega (arith, s .done-in, c .before .before .before .before .before .before .pre .1), s .count-in)
+
+close-plans-requires : tie.Need-close-plans-requires
+close-plans-requires c κs =
+    let a = c .before .before .before .before .before .before .before .args in
+    let s = good (c .before .before .before .before .before .before .before) (c .before .before .before .before .before .before .before .pre .0) in (
+      omega (arith, c .before .before .before .before .before .plans-begin .ensures, c .before .before .before .before .plans-end .ensures .1),
+      omega (arith, c .before .before .before .before .plans-end .ensures .0, c .before .packets-of .ensures, plans-in (a .self) s (a .at) (omega (arith, s .done-in, c .before .before .before .before .before .before .before .pre .1))),
+      omega (arith, c .before .packets-of .ensures, s .all-few),
+    )
+
+sub-done : tie.Need-sub-done
+sub-done c = search needs
+
+sub-count : tie.Need-sub-count
+sub-count c = omega (arith, good (c .before .before .before .before .before .before .before .before .before .before) (c .before .before .before .before .before .before .before .before .before .before .pre .0) .done-in, c .before .before .before .before .before .before .before .before .before .before .pre .1)
+
+returns : tie.Need-returns
+returns c =
+    let a = c .before .before .before .before .before .before .before .before .before .before .before .before .args in
+    removed-by (a .at) (a .self) (c .before .before .before .before .before .before .before .before .before .before .plans-begin .result) (c .before .before .before .before .before .before .before .before .before .plans-end .result) (c .before .before .before .before .before .before .before .before .before .before .plans-begin .ensures) (c .before .before .before .before .before .before .before .before .before .plans-end .ensures .0) (c .before .before .before .before .before .before .packets-of .result) (c .before .before .before .before .before .close-requests .result) (c .before .before .before .before .close-plans .result)
+    (c .before .before .before .before .before .before .packets-of .ensures) (c .before .before .before .before .before .close-requests .ensures) (c .before .before .before .before .close-plans .ensures)
+
+pub remove-spec : {M : Type 1} → statement M
+remove-spec =
+    tie.close
+    (tie.spec
+    plans-begin-requires
+    plans-end-requires
+    packets-of-requires
+    add-close-requests
+    close-requests-requires
+    close-plans-requires
+    sub-done
+    sub-count
+    returns)
