@@ -5,6 +5,7 @@ mod end;
 mod open;
 mod place;
 mod poll;
+mod reclaim;
 mod record;
 mod recover;
 mod reply;
