@@ -7,6 +7,7 @@ pub mod Lists
 pub mod Polled
 pub mod Polls
 pub mod Record
+pub mod Removed
 pub mod Replies
 pub mod Settled
 pub mod Stores
