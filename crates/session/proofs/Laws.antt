@@ -6,6 +6,7 @@ pub mod Kept
 pub mod Lists
 pub mod Polled
 pub mod Polls
+pub mod Reclaims
 pub mod Record
 pub mod Removed
 pub mod Replies
