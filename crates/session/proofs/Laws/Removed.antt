@@ -1,14 +1,13 @@
 -- What a session without one of its completed requests holds: the other requests and plans in their order, those pending as they were. It is sound
 -- where the session was.
 use mathlib.Core.Path.{_≡_, _∙_, sym, ap}
-use mathlib.Core.List.{List, _++_}
+use mathlib.Core.List.{_++_}
 use Prim.Native.Nat.{ℕ, _+_, _-_, _≤_, _<_}
 use native.Mathlib.Omega.{arith}
 use Rattle.ring.specs.RingSums.{packetLimit}
 use lib.ListN.{length}
 use lib.Seq.{slice, length-sets}
 use Rattle.session.specs.declared.types.IsoChannelState.{IsoChannelState}
-use Rattle.session.specs.declared.types.IsoRequest.{IsoRequest}
 use Rattle.session.specs.Session.{blankRequest, blankPlan, slots, packetsOf, pendingRequests, allPackets, pendingPackets}
 use Rattle.session.specs.Submit.{pendingPlans}
 use Rattle.session.specs.Reclaim.{requestOf, plansBegin, plansEnd, removed}
