@@ -41,8 +41,10 @@ module _ (id : ℕ) (s : IsoChannelState) {at : ℕ} (place : at ≡ requestAt i
   pub looked-found :
       (e : IsoEvent) (ring : List ℕ) {r : IsoReply} → at < s .head .done → r ≡ stands → (r ≡ looked id e s ring) × (ring ≡ lookedRing id e s ring)
   looked-found e ring h p =
-      let way = pollWay s e in
-      (p ∙ sym (first pickReply (isFound id s) stands (polledBy way s ring) (found h)), sym (first pickWords (isFound id s) ring (polledRingBy way s ring) (found h)))
+      let way = pollWay s e in (
+        p ∙ sym (first pickReply (isFound id s) stands (polledBy way s ring) (found h)),
+        sym (first pickWords (isFound id s) ring (polledRingBy way s ring) (found h)),
+      )
 
   pub looked-polled :
       (e : IsoEvent) (ring : List ℕ) {w : PollWay} {r : IsoReply} {words : List ℕ} → s .head .done ≤ at → w ≡ pollWay s e
@@ -88,13 +90,15 @@ module _ (id : ℕ) (s : IsoChannelState) {at : ℕ} (place : at ≡ requestAt i
     )
 
     pub again-pending :
-        {r : Reclaimed} → s .head .done ≤ at → at < s .head .count → r ≡ stays reclaim.NotYet → (r ≡ lookedAgain id taken halt s) × (results ≡ lookedResults id s results)
+        {r : Reclaimed} → s .head .done ≤ at → at < s .head .count → r ≡ stays reclaim.NotYet
+        → (r ≡ lookedAgain id taken halt s) × (results ≡ lookedResults id s results)
     again-pending h k p =
         let known : within ≡ true = lt-ltb (requestAt id s) (s .head .count) (subst (λ (n : ℕ). n < s .head .count) place k) in
         again-left reclaim.NotYet h (first pickAnswer within reclaim.NotYet (reclaim.Refused 15) known) p
 
     pub again-unknown :
-        {r : Reclaimed} → s .head .done ≤ at → s .head .count ≤ at → r ≡ stays (reclaim.Refused 15) → (r ≡ lookedAgain id taken halt s) × (results ≡ lookedResults id s results)
+        {r : Reclaimed} → s .head .done ≤ at → s .head .count ≤ at → r ≡ stays (reclaim.Refused 15)
+        → (r ≡ lookedAgain id taken halt s) × (results ≡ lookedResults id s results)
     again-unknown h k p =
         let unknown : within ≡ false = le-ltb (requestAt id s) (s .head .count) (subst (λ (n : ℕ). s .head .count ≤ n) place k) in
         again-left (reclaim.Refused 15) h (second pickAnswer within reclaim.NotYet (reclaim.Refused 15) unknown) p

@@ -30,7 +30,7 @@ module _ (at : ℕ) (s : IsoChannelState) (g : Sound s) (h : at < s .head .done)
   plans-fit : allPackets s ≤ length (s .plans)
   plans-fit = omega (arith, g .plans-long, g .all-few)
 
-  -- one request less, and its packets
+  -- one request less
   fewer : at + (count - (at + 1)) ≡ count - 1
   fewer = omega (arith, in-use)
 
@@ -70,7 +70,10 @@ module _ (at : ℕ) (s : IsoChannelState) (g : Sound s) (h : at < s .head .done)
   -- its plans end before those pending begin
   pending-behind : plansEnd at s ≤ allPackets s - pendingPackets s
   pending-behind =
-      omega (arith, packets-split (s .head .done) count (s .requests) (g .done-in) fits, packets-split at (s .head .done) (s .requests) (omega arith) (omega (arith, g .done-in, fits)), packets-next at (s .head .done) (s .requests) h (omega (arith, g .done-in, fits)))
+      let within : s .head .done ≤ length (s .requests) = omega (arith, g .done-in, fits) in
+      let completed = packets-split at (s .head .done) (s .requests) (omega arith) within in
+      let its = packets-next at (s .head .done) (s .requests) h within in
+      omega (arith, packets-split (s .head .done) count (s .requests) (g .done-in) fits, completed, its)
 
   pending-plans : pendingPlans (removed at s) ≡ pendingPlans s
   pending-plans =

@@ -51,11 +51,13 @@ module _ (s : IsoChannelState) where
 
   pub reset-full : isBadRecord s ≡ false → isEmpty s ≡ false → resetReply s ≡ refusedReply 16 s
   reset-full b e =
-      second pickReply (isBadRecord s) (refusedReply 18 s) (pickReply (isEmpty s) emptied (refusedReply 16 s)) b ∙ second pickReply (isEmpty s) emptied (refusedReply 16 s) e
+      second pickReply (isBadRecord s) (refusedReply 18 s) (pickReply (isEmpty s) emptied (refusedReply 16 s)) b
+      ∙ second pickReply (isEmpty s) emptied (refusedReply 16 s) e
 
   pub reset-done : isBadRecord s ≡ false → isEmpty s ≡ true → resetReply s ≡ emptied
   reset-done b e =
-      second pickReply (isBadRecord s) (refusedReply 18 s) (pickReply (isEmpty s) emptied (refusedReply 16 s)) b ∙ first pickReply (isEmpty s) emptied (refusedReply 16 s) e
+      second pickReply (isBadRecord s) (refusedReply 18 s) (pickReply (isEmpty s) emptied (refusedReply 16 s)) b
+      ∙ first pickReply (isEmpty s) emptied (refusedReply 16 s) e
 
 -- cancelling
 module _ (s : IsoChannelState) (id : ℕ) where
