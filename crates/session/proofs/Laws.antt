@@ -2,12 +2,14 @@ pub mod Admitted
 pub mod Checks
 pub mod Ended
 pub mod Guarded
+pub mod Handed
 pub mod Kept
 pub mod Lists
 pub mod Polled
 pub mod Polls
 pub mod Reclaims
 pub mod Record
+pub mod Removed
 pub mod Replies
 pub mod Settled
 pub mod Stores

@@ -11,6 +11,13 @@ equal-both :
     {A L : Type 0} {x y e : A} {l m n : List ℕ} (at : List ℕ → L) → (x ≡ e) × (m ≡ l) → (y ≡ e) × (n ≡ l) → (x ≡ y) × (at m ≡ at n)
 equal-both at p q = (p .0 ∙ sym (q .0), ap at (p .1 ∙ sym (q .1)))
 
+-- the same with two slices that were lent
+equal-all :
+    {A L : Type 0} {x y e : A} {l m n k o q : List ℕ} (at : List ℕ → List ℕ → L) → (x ≡ e) × (m ≡ l) × (o ≡ k) → (y ≡ e) × (n ≡ l) × (q ≡ k)
+    → (x ≡ y) × (at m o ≡ at n q)
+equal-all {n = n} {o = o} at f g =
+    (f .0 ∙ sym (g .0), ap (λ (words : List ℕ). at words o) (f .1 ∙ sym (g .1)) ∙ ap (at n) (f .2 ∙ sym (g .2)))
+
 pub open-unique : Unique 1 functions.open.Kinds.ps functions.open.Kinds.r functions.open.Reads.Post
 open-unique κs a x y u v = equal-both (λ (words : List ℕ). (tt, (words, tt)))
 
@@ -31,3 +38,6 @@ reset-unique κs a x y u v = equal refl
 
 pub recover-unique : Unique 1 functions.recover.Kinds.ps functions.recover.Kinds.r functions.recover.Reads.Post
 recover-unique κs a x y u v = equal-both (λ (words : List ℕ). (tt, (words, tt)))
+
+pub reclaim-unique : Unique 2 functions.reclaim.Kinds.ps functions.reclaim.Kinds.r functions.reclaim.Reads.Post
+reclaim-unique κs a x y u v = equal-all (λ (words results : List ℕ). (tt, (tt, (tt, (words, (results, tt))))))

@@ -26,6 +26,7 @@ use Rattle.session.specs.Poll.{reply, pickReply, refusedReply, withReaso
 use Rattle.session.specs.Cancel.{requestAt, withCancelled, cancelled}
 use Rattle.session.proofs.Laws.Record.{Sound, GoodRequest, packets-past}
 use Rattle.session.proofs.Laws.Lists.{getD-slice, getD-sets-in, getD-map-in, amend-next, amend-past}
+use Rattle.session.proofs.Laws.Tests.{chosen}
 
 -- ---- lists of which a part is changed in place
 
@@ -185,9 +186,8 @@ reason-sound r s g h =
 
 -- ---- the calls, whatever they answer
 
-picked : (b : Bool) (x y : IsoReply) → (b ≡ true → Sound (x .session)) → (b ≡ false → Sound (y .session)) → Sound (pickReply b x y .session)
-picked true x y f g = f refl
-picked false x y f g = g refl
+pub picked : (b : Bool) (x y : IsoReply) → (b ≡ true → Sound (x .session)) → (b ≡ false → Sound (y .session)) → Sound (pickReply b x y .session)
+picked = chosen pickReply (λ (x : IsoReply). Sound (x .session))
 
 pub recovered-sound : (s : IsoChannelState) (words : ℕ) → Sound s → Sound (recovered s words .session)
 recovered-sound s words g =

@@ -1,13 +1,16 @@
 -- Laws of lists that know nothing of sessions: how a slice loses its first element, ends, splits, is read and grows, how a run of stores is read, how a
--- part of a list is changed in place, and how it is written elsewhere or moved down.
+-- part of a list is changed in place, and how it is written elsewhere, moved down and read after that.
 use mathlib.Core.Path.{_≡_, refl, _∙_, sym, ap, subst, subst⁻¹}
+use mathlib.Core.Bool.{Bool, true, false}
 use mathlib.Core.List.{List, [], _∷_, _++_, map}
-use Prim.Native.Nat.{ℕ, zero, suc, _+_, _≤_, _<_}
+use Prim.Native.Nat.{ℕ, zero, suc, _+_, _-_, _≤_, _<_}
 use native.Mathlib.Nat.{add-zero, le-trans, min-le-left}
 use native.Mathlib.Numerals.{add-one}
 use native.Mathlib.Omega.{arith}
-use lib.ListN.{length, getD, set, take, drop, length-take, length-set, take-append-drop, drop-of-length-le}
-use lib.Seq.{sets, slice, length-sets, take-suc-set, take-set-lt, drop-set-lt, getD-set-same, getD-set-other, slice-cons, length-take-le, take-take, drop-append-le, getD-drop, getD-take}
+use lib.Dec.{ltb}
+use lib.ListN.{length, getD, set, take, drop, length-take, length-set, length-append, take-append-drop, drop-of-length-le}
+use lib.Seq.{sets, slice, length-sets, sets-eq, take-suc-set, take-set-lt, drop-set-lt, getD-set-same, getD-set-other, slice-cons, length-slice, length-take-le, take-take, take-at, drop-append-le, drop-append-add, drop-drop, getD-drop, getD-take}
+use borrow.Author.Tests.{ltb-true, ltb-false}
 
 module _ {ℓ} {A : Type ℓ} where
   -- a slice is its first element and the slice from the next on
@@ -137,3 +140,50 @@ module _ {ℓ} {A : Type ℓ} where
 
   pub close-past : (into i t : ℕ) (l : List A) → t ≤ i → sets l into (slice i t l) ≡ l
   close-past into i t l h = ap (sets l into) (slice-past i t l h)
+
+  -- a run of stores and what stands before it
+  pub front-sets : (vs l : List A) (i : ℕ) → i + length vs ≤ length l → slice 0 (i + length vs) (sets l i vs) ≡ slice 0 i l ++ vs
+  front-sets vs l i h =
+      let long : length (take i l ++ vs) ≡ i + length vs =
+      length-append (take i l) vs ∙ ap (λ (n : ℕ). n + length vs) (length-take-le i l (omega arith)) in
+      ap (take (i + length vs)) (sets-eq vs l i h) ∙ take-at (take i l ++ vs) (drop (i + length vs) l) (i + length vs) long
+
+  -- the part from `f` to `t` moved down to `at`: in front of its new end stand those before `at` and then the part
+  pub closed-front :
+      (at f t : ℕ) (l : List A) → at ≤ f → f ≤ t → t ≤ length l → slice 0 (at + (t - f)) (sets l at (slice f t l)) ≡ slice 0 at l ++ slice f t l
+  closed-front at f t l h k n =
+      let many : length (slice f t l) ≡ t - f = length-slice f t l n in
+      ap (λ (j : ℕ). slice 0 (at + j) (sets l at (slice f t l))) (sym many) ∙ front-sets (slice f t l) l at (omega (arith, many))
+
+  -- its end, from `m` on, is found where it moved to
+  pub closed-end :
+      (at f m t : ℕ) (l : List A) → at ≤ f → f ≤ m → m ≤ t → t ≤ length l
+      → slice (at + (m - f)) (at + (t - f)) (sets l at (slice f t l)) ≡ slice m t l
+  closed-end at f m t l h k u n =
+      let long : length (take at l) ≡ at = length-take-le at l (omega arith) in
+      let on : f + (m - f) ≡ m = omega arith in
+      ap (drop (at + (m - f))) (closed-front at f t l h (omega arith) n)
+      ∙ ap (λ (j : ℕ). drop (j + (m - f)) (take at l ++ slice f t l)) (sym long)
+      ∙ drop-append-add (take at l) (slice f t l) (m - f)
+      ∙ drop-drop (m - f) f (take t l)
+      ∙ ap (λ (j : ℕ). slice j t l) on
+
+  -- what holds of each entry below `t` holds of each below the new end
+  pub closed-each :
+      (P : A → Type 0) (at f t : ℕ) (l : List A) (d : A) → at ≤ f → f ≤ t → t ≤ length l → ((i : ℕ) → i < t → P (getD l i d))
+      → (i : ℕ) → i < at + (t - f) → P (getD (sets l at (slice f t l)) i d)
+  closed-each P at f t l d h k n g i u = go (ltb i at) refl
+    where
+      go : (b : Bool) → ltb i at ≡ b → P (getD (sets l at (slice f t l)) i d)
+      go true e =
+          let less : i < at = ltb-true i at e in
+          subst⁻¹ P (getD-sets-before (slice f t l) l at i d less) (g i (omega arith))
+      go false e =
+          let past : at ≤ i = ltb-false i at e in
+          let many : length (slice f t l) ≡ t - f = length-slice f t l n in
+          let back : at + (i - at) ≡ i = omega arith in
+          let moved : getD (sets l at (slice f t l)) i d ≡ getD l (f + (i - at)) d =
+          ap (λ (j : ℕ). getD (sets l at (slice f t l)) j d) (sym back)
+          ∙ getD-sets-in (slice f t l) l at (i - at) d (omega (arith, many)) (omega (arith, many))
+          ∙ getD-slice f t (i - at) l d (omega arith) in
+          subst⁻¹ P moved (g (f + (i - at)) (omega arith))

@@ -1,52 +1,177 @@
--- Laws of reclaiming: where the plans of a request lie, the results that it hands out, and the session that is left without it.
-use mathlib.Core.Path.{_≡_, sym, ap, _∙_}
+-- Reclaiming: what looking, looking again and the whole call answer at each exit; and that a sound record stays sound through the call.
+use mathlib.Core.Path.{_≡_, _∙_, sym, ap, subst}
 use mathlib.Core.Bool.{Bool, true, false}
-use mathlib.Core.List.{List, map}
-use Prim.Native.Nat.{ℕ, _+_, _≤_, _<_}
-use native.Mathlib.Omega.{arith}
+use mathlib.Core.List.{List}
+use Prim.Native.Nat.{ℕ, _≤_, _<_}
+use lib.Dec.{ltb}
 use lib.ListN.{length}
-use lib.Seq.{slice, sets}
-use Rattle.session.specs.declared.types.IsoPacketPlan.{IsoPacketPlan}
-use Rattle.session.specs.declared.types.IsoRequest.{IsoRequest}
+use borrow.Author.Tests.{ltb-true, lt-ltb, le-ltb}
 use Rattle.session.specs.declared.types.IsoChannelState.{IsoChannelState}
-use Rattle.session.specs.Session.{allPackets}
-use Rattle.session.specs.Poll.{pickWords}
-use Rattle.session.specs.Reclaim.{isDone, resultWord, requestOf, plansBegin, plansEnd, closedUp, oneLess, removed, handedResults}
-use Rattle.session.proofs.Laws.Record.{Sound, packets-next, packets-split}
+use Rattle.session.specs.declared.reply.IsoAnswer.the-variants as answer
+use Rattle.session.specs.declared.reply.IsoEvent.{IsoEvent}
+use Rattle.session.specs.declared.reply.IsoReply.{IsoReply}
+use Rattle.session.specs.declared.reply.PollWay.{PollWay}
+use Rattle.session.specs.declared.reply.ReclaimAnswer.{ReclaimAnswer}
+use Rattle.session.specs.declared.reply.ReclaimAnswer.the-variants as reclaim
+use Rattle.session.specs.declared.reply.Reclaimed.{Reclaimed}
+use Rattle.session.specs.Record.{isBadRecord}
+use Rattle.session.specs.Poll.{reply, pickReply, pickWords, pollWay, polledBy, polledRingBy}
+use Rattle.session.specs.Cancel.{requestAt}
+use Rattle.session.specs.Reclaim.{isFound, looked, lookedRing, requestOf, removed, handedAnswer, handedResults, reclaimReply, pickReclaimed, pickAnswer, lookedAgain, lookedResults, isShort, reclaimed, reclaimedRing, reclaimedResults}
+use Rattle.session.proofs.Laws.Ended.{picked}
+use Rattle.session.proofs.Laws.Polled.{polled-sound}
+use Rattle.session.proofs.Laws.Polls.{polled-by, polled-ring-by}
+use Rattle.session.proofs.Laws.Record.{Sound}
+use Rattle.session.proofs.Laws.Removed.{removed-sound}
+use Rattle.session.proofs.Laws.Tests.{first, second, in-turn, chosen}
 
--- the plans of a request lie among those in use
-pub plans-in : (s : IsoChannelState) → Sound s → (at : ℕ) → at < s .head .count → plansEnd at s ≤ allPackets s
-plans-in s g at h =
-    let within : s .head .count ≤ length (s .requests) = omega (arith, g .requests-long, g .count-in) in
-    omega (arith, packets-split at (s .head .count) (s .requests) (omega arith) within, packets-next at (s .head .count) (s .requests) h within)
+-- the number found, or not, by where its place is
+module _ (id : ℕ) (s : IsoChannelState) {at : ℕ} (place : at ≡ requestAt id s) where
+  found : at < s .head .done → isFound id s ≡ true
+  found h = lt-ltb (requestAt id s) (s .head .done) (subst (λ (n : ℕ). n < s .head .done) place h)
 
--- the session with one request less and these tables
-abbrev leftBy : IsoChannelState → List IsoRequest → List IsoPacketPlan → IsoChannelState
-leftBy s requests plans = record { cfg = s .cfg; head = oneLess (s .head); fatal = s .fatal; requests = requests; plans = plans }
+  not-found : s .head .done ≤ at → isFound id s ≡ false
+  not-found h = le-ltb (requestAt id s) (s .head .done) (subst (λ (n : ℕ). s .head .done ≤ n) place h)
 
-module _ (at : ℕ) (s : IsoChannelState) (from to : ℕ) (ef : from ≡ plansBegin at s) (et : to ≡ plansEnd at s) where
-  pub removed-by :
-      (all : ℕ) (requests : List IsoRequest) (plans : List IsoPacketPlan) → all ≡ allPackets s
-      → requests ≡ closedUp at (at + 1) (s .head .count) (s .requests) → plans ≡ closedUp from to all (s .plans)
-      → leftBy s requests plans ≡ removed at s
-  removed-by all requests plans ea er ep =
-      ap (λ (l : List IsoRequest). leftBy s l plans) er
-      ∙ ap (leftBy s (closedUp at (at + 1) (s .head .count) (s .requests)))
-      (ep
-      ∙ ap (λ (f : ℕ). closedUp f to all (s .plans)) ef
-      ∙ ap (λ (t : ℕ). closedUp (plansBegin at s) t all (s .plans)) et
-      ∙ ap (λ (n : ℕ). closedUp (plansBegin at s) (plansEnd at s) n (s .plans)) ea)
+  -- ---- looking
 
-  -- a completed request hands its results out, one that ended in an error none
-  pub handed-by :
-      (results now : List ℕ) → isDone (requestOf at s .outcome) ≡ true → now ≡ sets results 0 (map resultWord (slice from to (s .plans)))
-      → now ≡ handedResults at s results
-  handed-by results now e en =
-      en
-      ∙ ap (λ (f : ℕ). sets results 0 (map resultWord (slice f to (s .plans)))) ef
-      ∙ ap (λ (t : ℕ). sets results 0 (map resultWord (slice (plansBegin at s) t (s .plans)))) et
-      ∙ sym (ap (λ (b : Bool). pickWords b (sets results 0 (map resultWord (slice (plansBegin at s) (plansEnd at s) (s .plans)))) results) e)
+  abbrev stands : IsoReply
+  stands = reply answer.Done false false s
 
-pub none-handed : (at : ℕ) (s : IsoChannelState) (results : List ℕ) → isDone (requestOf at s .outcome) ≡ false → results ≡ handedResults at s results
-none-handed at s results e =
-    sym (ap (λ (b : Bool). pickWords b (sets results 0 (map resultWord (slice (plansBegin at s) (plansEnd at s) (s .plans)))) results) e)
+  pub looked-found :
+      (e : IsoEvent) (ring : List ℕ) {r : IsoReply} → at < s .head .done → r ≡ stands → (r ≡ looked id e s ring) × (ring ≡ lookedRing id e s ring)
+  looked-found e ring h p =
+      let way = pollWay s e in (
+        p ∙ sym (first pickReply (isFound id s) stands (polledBy way s ring) (found h)),
+        sym (first pickWords (isFound id s) ring (polledRingBy way s ring) (found h)),
+      )
+
+  pub looked-polled :
+      (e : IsoEvent) (ring : List ℕ) {w : PollWay} {r : IsoReply} {words : List ℕ} → s .head .done ≤ at → w ≡ pollWay s e
+      → r ≡ polledBy w s ring → words ≡ polledRingBy w s ring → (r ≡ looked id e s ring) × (words ≡ lookedRing id e s ring)
+  looked-polled e ring h by p q = (
+    polled-by s ring (sym by) p ∙ sym (second pickReply (isFound id s) stands (polledBy (pollWay s e) s ring) (not-found h)),
+    polled-ring-by s ring (sym by) q ∙ sym (second pickWords (isFound id s) ring (polledRingBy (pollWay s e) s ring) (not-found h)),
+  )
+
+  -- ---- looking again
+
+  module _ (taken halt : Bool) (results : List ℕ) where
+    abbrev out : Reclaimed
+    out = reclaimReply (handedAnswer (requestOf (requestAt id s) s)) taken halt (removed (requestAt id s) s)
+
+    abbrev within : Bool
+    within = ltb (requestAt id s) (s .head .count)
+
+    abbrev stays : ReclaimAnswer → Reclaimed
+    stays a = reclaimReply a taken halt s
+
+    abbrev handed : List ℕ
+    handed = handedResults (requestAt id s) s results
+
+    pub again-found :
+        {r : Reclaimed} {a : ReclaimAnswer} {t : IsoChannelState} {words : List ℕ} → at < s .head .done → a ≡ handedAnswer (requestOf at s) → t ≡ removed at s
+        → r ≡ reclaimReply a taken halt t → words ≡ handedResults at s results
+        → (r ≡ lookedAgain id taken halt s) × (words ≡ lookedResults id s results)
+    again-found {r} {a} {t} h f g p q = (
+      p
+          ∙ ap (λ (x : ReclaimAnswer). reclaimReply x taken halt t) (f ∙ ap (λ (n : ℕ). handedAnswer (requestOf n s)) place)
+          ∙ ap (reclaimReply (handedAnswer (requestOf (requestAt id s) s)) taken halt) (g ∙ ap (λ (n : ℕ). removed n s) place)
+          ∙ sym (first pickReclaimed (isFound id s) out (stays (pickAnswer within reclaim.NotYet (reclaim.Refused 15))) (found h)),
+      q ∙ ap (λ (n : ℕ). handedResults n s results) place ∙ sym (first pickWords (isFound id s) handed results (found h)),
+    )
+
+    again-left :
+        {r : Reclaimed} (a : ReclaimAnswer) → s .head .done ≤ at → pickAnswer within reclaim.NotYet (reclaim.Refused 15) ≡ a → r ≡ stays a
+        → (r ≡ lookedAgain id taken halt s) × (results ≡ lookedResults id s results)
+    again-left a h e p = (
+      p ∙ ap stays (sym e) ∙ sym (second pickReclaimed (isFound id s) out (stays (pickAnswer within reclaim.NotYet (reclaim.Refused 15))) (not-found h)),
+      sym (second pickWords (isFound id s) handed results (not-found h)),
+    )
+
+    pub again-pending :
+        {r : Reclaimed} → s .head .done ≤ at → at < s .head .count → r ≡ stays reclaim.NotYet
+        → (r ≡ lookedAgain id taken halt s) × (results ≡ lookedResults id s results)
+    again-pending h k p =
+        let known : within ≡ true = lt-ltb (requestAt id s) (s .head .count) (subst (λ (n : ℕ). n < s .head .count) place k) in
+        again-left reclaim.NotYet h (first pickAnswer within reclaim.NotYet (reclaim.Refused 15) known) p
+
+    pub again-unknown :
+        {r : Reclaimed} → s .head .done ≤ at → s .head .count ≤ at → r ≡ stays (reclaim.Refused 15)
+        → (r ≡ lookedAgain id taken halt s) × (results ≡ lookedResults id s results)
+    again-unknown h k p =
+        let unknown : within ≡ false = le-ltb (requestAt id s) (s .head .count) (subst (λ (n : ℕ). s .head .count ≤ n) place k) in
+        again-left (reclaim.Refused 15) h (second pickAnswer within reclaim.NotYet (reclaim.Refused 15) unknown) p
+
+-- ---- the whole call
+
+module _ (s : IsoChannelState) (id : ℕ) (e : IsoEvent) (ring results : List ℕ) where
+  abbrev refusal : ℕ → Reclaimed
+  refusal n = reclaimReply (reclaim.Refused n) false false s
+
+  abbrev short : Bool
+  short = isShort s (length ring) (length results)
+
+  abbrev Told : Reclaimed → List ℕ → List ℕ → Type 0
+  Told r words after =
+      (r ≡ reclaimed s id e ring (length results))
+      × (words ≡ reclaimedRing s id e ring (length results))
+      × (after ≡ reclaimedResults s id e ring results)
+
+  -- the answer after looking again
+  abbrev again : Reclaimed
+  again = lookedAgain id (looked id e s ring .taken) (looked id e s ring .halt) (looked id e s ring .session)
+
+  abbrev after-again : List ℕ
+  after-again = lookedResults id (looked id e s ring .session) results
+
+  pub reclaim-short : {r : Reclaimed} → short ≡ true → r ≡ refusal 17 → Told r ring results
+  reclaim-short h p = (
+    p ∙ sym (first pickReclaimed short (refusal 17) (pickReclaimed (isBadRecord s) (refusal 18) again) h),
+    sym (first pickWords short ring (pickWords (isBadRecord s) ring (lookedRing id e s ring)) h),
+    sym (first pickWords short results (pickWords (isBadRecord s) results after-again) h),
+  )
+
+  pub reclaim-bad : {r : Reclaimed} → short ≡ false → isBadRecord s ≡ true → r ≡ refusal 18 → Told r ring results
+  reclaim-bad h b p = (
+    p ∙ sym (in-turn pickReclaimed (refusal 17) (refusal 18) again h b),
+    sym (in-turn pickWords ring ring (lookedRing id e s ring) h b),
+    sym (in-turn pickWords results results after-again h b),
+  )
+
+  pub reclaim-done :
+      {r : Reclaimed} {first-look : IsoReply} {words after : List ℕ} → short ≡ false → isBadRecord s ≡ false → first-look ≡ looked id e s ring
+      → r ≡ lookedAgain id (first-look .taken) (first-look .halt) (first-look .session) → words ≡ lookedRing id e s ring
+      → after ≡ lookedResults id (first-look .session) results → Told r words after
+  reclaim-done h b l p q u = (
+    p
+        ∙ ap (λ (x : IsoReply). lookedAgain id (x .taken) (x .halt) (x .session)) l
+        ∙ sym (in-turn pickReclaimed (refusal 17) (refusal 18) again h b),
+    q ∙ sym (in-turn pickWords ring ring (lookedRing id e s ring) h b),
+    u ∙ ap (λ (x : IsoReply). lookedResults id (x .session) results) l ∙ sym (in-turn pickWords results results after-again h b),
+  )
+
+-- ---- a sound record stays sound
+
+pub looked-sound : (id : ℕ) (e : IsoEvent) (s : IsoChannelState) (ring : List ℕ) → Sound s → Sound (looked id e s ring .session)
+looked-sound id e s ring g =
+    picked (isFound id s) (reply answer.Done false false s) (polledBy (pollWay s e) s ring) (λ f. g) (λ f. polled-sound s e ring g)
+
+picked-sound : (b : Bool) (x y : Reclaimed) → (b ≡ true → Sound (x .session)) → (b ≡ false → Sound (y .session)) → Sound (pickReclaimed b x y .session)
+picked-sound = chosen pickReclaimed (λ (x : Reclaimed). Sound (x .session))
+
+pub again-sound : (id : ℕ) (taken halt : Bool) (s : IsoChannelState) → Sound s → Sound (lookedAgain id taken halt s .session)
+again-sound id taken halt s g =
+    let at : ℕ = requestAt id s in
+    picked-sound (isFound id s) (reclaimReply (handedAnswer (requestOf at s)) taken halt (removed at s))
+    (reclaimReply (pickAnswer (ltb at (s .head .count)) reclaim.NotYet (reclaim.Refused 15)) taken halt s)
+    (λ f. removed-sound at s g (ltb-true at (s .head .done) f)) (λ f. g)
+
+pub reclaimed-sound :
+    (s : IsoChannelState) (id : ℕ) (e : IsoEvent) (ring : List ℕ) (results : ℕ) → Sound s → Sound (reclaimed s id e ring results .session)
+reclaimed-sound s id e ring results g =
+    let l = looked id e s ring in
+    let again = lookedAgain id (l .taken) (l .halt) (l .session) in
+    let bad = reclaimReply (reclaim.Refused 18) false false s in
+    picked-sound (isShort s (length ring) results) (reclaimReply (reclaim.Refused 17) false false s) (pickReclaimed (isBadRecord s) bad again) (λ h. g)
+    (λ h. picked-sound (isBadRecord s) bad again (λ b. g) (λ b. again-sound id (l .taken) (l .halt) (l .session) (looked-sound id e s ring g)))

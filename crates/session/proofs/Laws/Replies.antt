@@ -17,19 +17,7 @@ use Rattle.session.specs.Record.{isBadRecord}
 use Rattle.session.specs.Poll.{reply, pickReply, refusedReply, pickWords, withReason, isEmpty, atStart, resetReply}
 use Rattle.session.specs.Cancel.{placeOf, requestAt, withCancelled, cancelled}
 use Rattle.session.proofs.Laws.Lists.{slice-next, slice-past}
-
--- a choice by a test that is known
-pub first : (b : Bool) (x y : IsoReply) → b ≡ true → pickReply b x y ≡ x
-first b x y e = ap (λ (t : Bool). pickReply t x y) e
-
-pub second : (b : Bool) (x y : IsoReply) → b ≡ false → pickReply b x y ≡ y
-second b x y e = ap (λ (t : Bool). pickReply t x y) e
-
-pub first-words : (b : Bool) (x y : List ℕ) → b ≡ true → pickWords b x y ≡ x
-first-words b x y e = ap (λ (t : Bool). pickWords t x y) e
-
-pub second-words : (b : Bool) (x y : List ℕ) → b ≡ false → pickWords b x y ≡ y
-second-words b x y e = ap (λ (t : Bool). pickWords t x y) e
+use Rattle.session.proofs.Laws.Tests.{first, second, in-turn}
 
 -- a call that is lent the ring: 17, then 18, then what it does
 module _ (s : IsoChannelState) (ring : List ℕ) (r : IsoReply) (words : List ℕ) where
@@ -43,17 +31,15 @@ module _ (s : IsoChannelState) (ring : List ℕ) (r : IsoReply) (words : List �
   inner-words = pickWords (isBadRecord s) ring words
 
   pub lent-short : short ≡ true → (pickReply short (refusedReply 17 s) inner ≡ refusedReply 17 s) × (pickWords short ring inner-words ≡ ring)
-  lent-short e = (first short (refusedReply 17 s) inner e, first-words short ring inner-words e)
+  lent-short e = (first pickReply short (refusedReply 17 s) inner e, first pickWords short ring inner-words e)
 
   pub lent-bad :
       short ≡ false → isBadRecord s ≡ true → (pickReply short (refusedReply 17 s) inner ≡ refusedReply 18 s) × (pickWords short ring inner-words ≡ ring)
-  lent-bad e b =
-      (second short (refusedReply 17 s) inner e ∙ first (isBadRecord s) (refusedReply 18 s) r b, second-words short ring inner-words e ∙ first-words (isBadRecord s) ring words b)
+  lent-bad e b = (in-turn pickReply (refusedReply 17 s) (refusedReply 18 s) r e b, in-turn pickWords ring ring words e b)
 
   pub lent-done :
       short ≡ false → isBadRecord s ≡ false → (pickReply short (refusedReply 17 s) inner ≡ r) × (pickWords short ring inner-words ≡ words)
-  lent-done e b =
-      (second short (refusedReply 17 s) inner e ∙ second (isBadRecord s) (refusedReply 18 s) r b, second-words short ring inner-words e ∙ second-words (isBadRecord s) ring words b)
+  lent-done e b = (in-turn pickReply (refusedReply 17 s) (refusedReply 18 s) r e b, in-turn pickWords ring ring words e b)
 
 -- reset
 module _ (s : IsoChannelState) where
@@ -61,15 +47,17 @@ module _ (s : IsoChannelState) where
   emptied = reply answer.Done false false (atStart s)
 
   pub reset-bad : isBadRecord s ≡ true → resetReply s ≡ refusedReply 18 s
-  reset-bad b = first (isBadRecord s) (refusedReply 18 s) (pickReply (isEmpty s) emptied (refusedReply 16 s)) b
+  reset-bad b = first pickReply (isBadRecord s) (refusedReply 18 s) (pickReply (isEmpty s) emptied (refusedReply 16 s)) b
 
   pub reset-full : isBadRecord s ≡ false → isEmpty s ≡ false → resetReply s ≡ refusedReply 16 s
   reset-full b e =
-      second (isBadRecord s) (refusedReply 18 s) (pickReply (isEmpty s) emptied (refusedReply 16 s)) b ∙ second (isEmpty s) emptied (refusedReply 16 s) e
+      second pickReply (isBadRecord s) (refusedReply 18 s) (pickReply (isEmpty s) emptied (refusedReply 16 s)) b
+      ∙ second pickReply (isEmpty s) emptied (refusedReply 16 s) e
 
   pub reset-done : isBadRecord s ≡ false → isEmpty s ≡ true → resetReply s ≡ emptied
   reset-done b e =
-      second (isBadRecord s) (refusedReply 18 s) (pickReply (isEmpty s) emptied (refusedReply 16 s)) b ∙ first (isEmpty s) emptied (refusedReply 16 s) e
+      second pickReply (isBadRecord s) (refusedReply 18 s) (pickReply (isEmpty s) emptied (refusedReply 16 s)) b
+      ∙ first pickReply (isEmpty s) emptied (refusedReply 16 s) e
 
 -- cancelling
 module _ (s : IsoChannelState) (id : ℕ) where
@@ -95,25 +83,25 @@ module _ (s : IsoChannelState) (id : ℕ) where
   known = pickReply is-in pending (refusedReply 15 s)
 
   pub cancel-bad : isBadRecord s ≡ true → cancelled s id ≡ refusedReply 18 s
-  cancel-bad b = first (isBadRecord s) (refusedReply 18 s) (pickReply is-done amended known) b
+  cancel-bad b = first pickReply (isBadRecord s) (refusedReply 18 s) (pickReply is-done amended known) b
 
   past-record : isBadRecord s ≡ false → cancelled s id ≡ pickReply is-done amended known
-  past-record b = second (isBadRecord s) (refusedReply 18 s) (pickReply is-done amended known) b
+  past-record b = second pickReply (isBadRecord s) (refusedReply 18 s) (pickReply is-done amended known) b
 
   pub cancel-completed : isBadRecord s ≡ false → is-done ≡ true → cancelled s id ≡ amended
-  cancel-completed b e = past-record b ∙ first is-done amended known e
+  cancel-completed b e = past-record b ∙ first pickReply is-done amended known e
 
   past-done : isBadRecord s ≡ false → is-done ≡ false → cancelled s id ≡ known
-  past-done b e = past-record b ∙ second is-done amended known e
+  past-done b e = past-record b ∙ second pickReply is-done amended known e
 
   pub cancel-unknown : isBadRecord s ≡ false → is-done ≡ false → is-in ≡ false → cancelled s id ≡ refusedReply 15 s
-  cancel-unknown b e u = past-done b e ∙ second is-in pending (refusedReply 15 s) u
+  cancel-unknown b e u = past-done b e ∙ second pickReply is-in pending (refusedReply 15 s) u
 
   pub cancel-again : isBadRecord s ≡ false → is-done ≡ false → is-in ≡ true → hasReason (s .fatal) ≡ true → cancelled s id ≡ stands
-  cancel-again b e u f = past-done b e ∙ first is-in pending (refusedReply 15 s) u ∙ first (hasReason (s .fatal)) stands halting f
+  cancel-again b e u f = past-done b e ∙ first pickReply is-in pending (refusedReply 15 s) u ∙ first pickReply (hasReason (s .fatal)) stands halting f
 
   pub cancel-halt : isBadRecord s ≡ false → is-done ≡ false → is-in ≡ true → hasReason (s .fatal) ≡ false → cancelled s id ≡ halting
-  cancel-halt b e u f = past-done b e ∙ first is-in pending (refusedReply 15 s) u ∙ second (hasReason (s .fatal)) stands halting f
+  cancel-halt b e u f = past-done b e ∙ first pickReply is-in pending (refusedReply 15 s) u ∙ second pickReply (hasReason (s .fatal)) stands halting f
 
 -- the walk for a number: it ends at the request that has it, goes on past another, and counts none where nothing is left
 module _ (id i t : ℕ) (l : List IsoRequest) where

@@ -5,7 +5,7 @@ use native.Mathlib.Omega.{arith}
 use lib.ListN.{length-map}
 use Rattle.session.specs.Record.{isBadRecord}
 use Rattle.session.proofs.Laws.Record.{Sound, sound}
-use Rattle.session.proofs.Laws.Reclaims.{handed-by, none-handed}
+use Rattle.session.proofs.Laws.Handed.{handed-by, none-handed}
 use borrow.Author.Needs.{needs}
 use Rattle.session.proofs.types.IsoChannelState.hand_results.Statement.{statement}
 use Rattle.session.proofs.types.IsoChannelState.hand_results.Tie as tie

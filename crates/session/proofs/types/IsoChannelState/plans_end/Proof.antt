@@ -7,7 +7,7 @@ use lib.ListN.{length-map}
 use Rattle.session.specs.Record.{isBadRecord}
 use Rattle.session.specs.Reclaim.{plansEnd}
 use Rattle.session.proofs.Laws.Record.{Sound, sound}
-use Rattle.session.proofs.Laws.Reclaims.{plans-in}
+use Rattle.session.proofs.Laws.Handed.{plans-in}
 use borrow.Author.Needs.{needs}
 use Rattle.session.proofs.types.IsoChannelState.plans_end.Statement.{statement}
 use Rattle.session.proofs.types.IsoChannelState.plans_end.Tie as tie

@@ -5,7 +5,7 @@ use native.Mathlib.Omega.{arith}
 use lib.ListN.{length-map}
 use Rattle.session.specs.Record.{isBadRecord}
 use Rattle.session.proofs.Laws.Record.{Sound, sound}
-use Rattle.session.proofs.Laws.Reclaims.{plans-in, removed-by}
+use Rattle.session.proofs.Laws.Handed.{plans-in, removed-by}
 use borrow.Author.Needs.{needs}
 use Rattle.session.proofs.types.IsoChannelState.remove.Statement.{statement}
 use Rattle.session.proofs.types.IsoChannelState.remove.Tie as tie
