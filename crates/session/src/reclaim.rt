@@ -186,8 +186,8 @@ impl IsoChannelState {
     {
         let requests = self.requests;
         let request = requests[at as usize];
-        let outcome = request.outcome;
-        if is_done(outcome) {
+        let ended = request.outcome;
+        if is_done(ended) {
             let plans = self.plans;
             write_results(plans, self.plans_begin(at), self.plans_end(at), results);
         }
