@@ -11,6 +11,7 @@ use lib.Seq.{sets, slice, length-sets, length-slice, map-set-same}
 use borrow.Author.Tests.{ltb-true, ltb-false}
 use Rattle.ring.proofs.RingFacts.{ring-size-pos}
 use Rattle.session.specs.declared.types.IsoChannelState.{IsoChannelState}
+use Rattle.session.specs.declared.types.IsoFatal.the-variants.{Reason}
 use Rattle.session.specs.declared.types.IsoHaltReason.{IsoHaltReason}
 use Rattle.session.specs.declared.types.IsoHaltReason.the-variants as reason
 use Rattle.session.specs.declared.types.IsoOutcome.{IsoOutcome}
@@ -24,7 +25,7 @@ use Rattle.session.specs.Submit.{sum}
 use Rattle.session.specs.End.{withOutcome, endedRequests, ended}
 use Rattle.session.specs.Poll.{reply, pickReply, refusedReply, withReason, recovered, isEmpty, atStart, resetReply}
 use Rattle.session.specs.Cancel.{requestAt, withCancelled, cancelled}
-use Rattle.session.proofs.Laws.Record.{Sound, GoodRequest, packets-past}
+use Rattle.session.proofs.Laws.Record.{Sound, GoodRequest, packets-past, renewed-sound}
 use Rattle.session.proofs.Laws.Lists.{getD-slice, getD-sets-in, getD-map-in, amend-next, amend-past}
 use Rattle.session.proofs.Laws.Tests.{chosen}
 
@@ -124,20 +125,7 @@ module _ (o : IsoOutcome) (s : IsoChannelState) (g : Sound s) where
 
 pub reset-sound : (s : IsoChannelState) → Sound s → Sound (atStart s)
 reset-sound s g =
-    record {
-      requests-long = g .requests-long;
-      plans-long = g .plans-long;
-      config = g .config;
-      done-in = g .done-in;
-      count-in = g .count-in;
-      request = g .request;
-      all-few = g .all-few;
-      pending-few = g .pending-few;
-      plan = g .plan;
-      cursor = ring-size-pos (s .cfg .speed);
-      idle-done = g .idle-done;
-      idle-nothing = g .idle-nothing;
-    }
+    renewed-sound s (s .head .«next_request_id») 0 (s .head .«start_full_frame») (s .fatal) g (ring-size-pos (s .cfg .speed)) (g .idle-nothing)
 
 module _ (at : ℕ) (s : IsoChannelState) (g : Sound s) where
   abbrev amended : IsoRequest
@@ -169,20 +157,8 @@ module _ (at : ℕ) (s : IsoChannelState) (g : Sound s) where
 -- requests are pending, so the channel is live and a reason may stand
 pub reason-sound : (r : IsoHaltReason) (s : IsoChannelState) → Sound s → s .head .done < s .head .count → Sound (withReason r s)
 reason-sound r s g h =
-    record {
-      requests-long = g .requests-long;
-      plans-long = g .plans-long;
-      config = g .config;
-      done-in = g .done-in;
-      count-in = g .count-in;
-      request = g .request;
-      all-few = g .all-few;
-      pending-few = g .pending-few;
-      plan = g .plan;
-      cursor = g .cursor;
-      idle-done = g .idle-done;
-      idle-nothing = λ off. absurd (omega (arith, g .idle-done off, h));
-    }
+    renewed-sound s (s .head .«next_request_id») (s .head .«td_last») (s .head .«start_full_frame») (Reason r) g (g .cursor)
+    (λ off. absurd (omega (arith, g .idle-done off, h)))
 
 -- ---- the calls, whatever they answer
 

@@ -19,7 +19,7 @@ use Rattle.session.specs.declared.transfer.SubmitWay.{SubmitWay}
 use Rattle.session.specs.declared.transfer.SubmitWay.the-variants.{Refuse, TooLong, Spend, Early, Cut, Late, Accept}
 use Rattle.session.specs.Session.{blankRequest, blankPlan, slots, packetsOf, allPackets, pendingPackets}
 use Rattle.session.specs.Submit.{submitWay, withHead, spent, unplugged, newRequest, accepted, insertOf, stepOf, plansFrom, sessionAfter, submitted}
-use Rattle.session.proofs.Laws.Record.{Sound, GoodRequest, GoodPlan, packets-append, room-few}
+use Rattle.session.proofs.Laws.Record.{Sound, GoodRequest, GoodPlan, packets-append, room-few, renewed-sound}
 use Rattle.session.proofs.Laws.Stores.{newPlan, length-plansFrom, getD-plansFrom}
 use Rattle.session.proofs.Laws.Admitted.{Admitted, admitted, Told, told}
 use Rattle.session.proofs.Laws.Lists.{slice-pushed, getD-sets-before, getD-sets-in}
@@ -35,38 +35,12 @@ packets-pushed f count l r h k =
 -- a number spent
 pub spent-sound : (s : IsoChannelState) → Sound s → Sound (withHead s (spent (s .head)))
 spent-sound s g =
-    record {
-      requests-long = g .requests-long;
-      plans-long = g .plans-long;
-      config = g .config;
-      done-in = g .done-in;
-      count-in = g .count-in;
-      request = g .request;
-      all-few = g .all-few;
-      pending-few = g .pending-few;
-      plan = g .plan;
-      cursor = g .cursor;
-      idle-done = g .idle-done;
-      idle-nothing = g .idle-nothing;
-    }
+    renewed-sound s (spent (s .head) .«next_request_id») (s .head .«td_last») (s .head .«start_full_frame») (s .fatal) g (g .cursor) (g .idle-nothing)
 
 -- unplugged at a gate
 pub unplugged-sound : (s : IsoChannelState) → Sound s → Sound (withHead s (unplugged (s .head)))
 unplugged-sound s g =
-    record {
-      requests-long = g .requests-long;
-      plans-long = g .plans-long;
-      config = g .config;
-      done-in = g .done-in;
-      count-in = g .count-in;
-      request = g .request;
-      all-few = g .all-few;
-      pending-few = g .pending-few;
-      plan = g .plan;
-      cursor = ring-size-pos (s .cfg .speed);
-      idle-done = g .idle-done;
-      idle-nothing = g .idle-nothing;
-    }
+    renewed-sound s (unplugged (s .head) .«next_request_id») 0 0 (s .fatal) g (ring-size-pos (s .cfg .speed)) (g .idle-nothing)
 
 -- the request and the plans of a submission, and what a plan of the session keeps to
 abbrev pushed : IsoChannelState → List ℕ → IsoRequest

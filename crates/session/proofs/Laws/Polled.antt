@@ -5,6 +5,7 @@ use mathlib.Core.List.{List}
 use Prim.Native.Nat.{ℕ}
 use native.Mathlib.Omega.{arith}
 use Rattle.session.specs.declared.types.IsoChannelState.{IsoChannelState}
+use Rattle.session.specs.declared.types.IsoFatal.the-variants.{Reason}
 use Rattle.session.specs.declared.types.IsoHaltReason.{IsoHaltReason}
 use Rattle.session.specs.declared.types.IsoOutcome.the-variants as outcome
 use Rattle.session.specs.declared.reply.IsoEvent.{IsoEvent}
@@ -12,7 +13,7 @@ use Rattle.session.specs.declared.reply.PollWay.{PollWay}
 use Rattle.session.specs.declared.reply.PollWay.the-variants.{Nothing, End, Halt, Wait, Settle}
 use Rattle.words.specs.Words.{hcintFault}
 use Rattle.session.specs.Poll.{pickPoll, wayByFault, withReason, pollWay, polledBy}
-use Rattle.session.proofs.Laws.Record.{Sound}
+use Rattle.session.proofs.Laws.Record.{Sound, renewed-sound}
 use Rattle.session.proofs.Laws.Ended.{ended-sound}
 use Rattle.session.proofs.Laws.Settled.{drained-sound}
 
@@ -23,20 +24,8 @@ differ false t f = let z : _≡_ {A = ℕ} 0 1 = cc in absurd (omega arith)
 -- a live session may have a reason
 pub live-reason-sound : (r : IsoHaltReason) (s : IsoChannelState) → Sound s → s .head .live ≡ true → Sound (withReason r s)
 live-reason-sound r s g on =
-    record {
-      requests-long = g .requests-long;
-      plans-long = g .plans-long;
-      config = g .config;
-      done-in = g .done-in;
-      count-in = g .count-in;
-      request = g .request;
-      all-few = g .all-few;
-      pending-few = g .pending-few;
-      plan = g .plan;
-      cursor = g .cursor;
-      idle-done = g .idle-done;
-      idle-nothing = λ off. absurd (differ (s .head .live) on off);
-    }
+    renewed-sound s (s .head .«next_request_id») (s .head .«td_last») (s .head .«start_full_frame») (Reason r) g (g .cursor)
+    (λ off. absurd (differ (s .head .live) on off))
 
 -- what each way leaves of a live session
 live-sound : (way : PollWay) (s : IsoChannelState) (ring : List ℕ) → Sound s → s .head .live ≡ true → Sound (polledBy way s ring .session)

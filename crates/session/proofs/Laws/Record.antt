@@ -180,6 +180,44 @@ pub record Sound (s : IsoChannelState) : Type 0 where
   pub idle-done : s .head .live ≡ false → s .head .done ≡ s .head .count
   pub idle-nothing : s .head .live ≡ false → s .fatal ≡ Nothing
 
+-- other numbers in the head and another reason keep a record sound: the cursor below R, and no reason without a live channel
+abbrev renewed : IsoChannelState → ℕ → ℕ → ℕ → IsoFatal → IsoChannelState
+renewed s next cursor start f =
+    record {
+      cfg = s .cfg;
+      head =
+          record {
+            «next_request_id» = next;
+            live = s .head .live;
+            «td_last» = cursor;
+            «start_full_frame» = start;
+            done = s .head .done;
+            count = s .head .count;
+          };
+      fatal = f;
+      requests = s .requests;
+      plans = s .plans;
+    }
+
+pub renewed-sound :
+    (s : IsoChannelState) (next cursor start : ℕ) (f : IsoFatal) → Sound s → cursor < slots (s .cfg) → (s .head .live ≡ false → f ≡ Nothing)
+    → Sound (renewed s next cursor start f)
+renewed-sound s next cursor start f g below idle =
+    record {
+      requests-long = g .requests-long;
+      plans-long = g .plans-long;
+      config = g .config;
+      done-in = g .done-in;
+      count-in = g .count-in;
+      request = g .request;
+      all-few = g .all-few;
+      pending-few = g .pending-few;
+      plan = g .plan;
+      cursor = below;
+      idle-done = g .idle-done;
+      idle-nothing = idle;
+    }
+
 pub no-reason : (f : IsoFatal) → hasReason f ≡ false → f ≡ Nothing
 no-reason Nothing e = refl
 no-reason (Reason r) e = let z : _≡_ {A = ℕ} 0 1 = cc in absurd (omega arith)
