@@ -3,13 +3,14 @@ ghost use mathlib.Core.Path.{_≡_};
 ghost use mathlib.Core.Bool.{false};
 ghost use mathlib.Core.List.{map};
 ghost use Prim.Native.Nat.{_+_, _*_, _≤_, _<_};
-ghost use lib.ListN.{getD, set};
+ghost use lib.ListN.{set};
 ghost use lib.Seq.{slice, sets};
 ghost use Rattle.words.specs.Words.{isPacketError};
 ghost use Rattle.session.specs.Record.{isBadRecord};
 ghost use Rattle.session.specs.Settle.{movedLength, statusOf, settledBy, settledPlan, oldestFrom, oldestTo, movedTotal, slotsCleared, settledSession, settledRing, isServed, drained};
 use crate::store::is_active_at;
 use crate::store::put_word;
+use crate::store::status_at;
 use crate::tables::packets_of;
 use crate::tables::wide;
 use crate::types::IsoChannelState;
@@ -19,17 +20,6 @@ use crate::types::IsoRequest;
 use crate::types::TransferStatus;
 use words::Direction;
 use words::DmaDescriptor;
-
-// The status word of a slot, 0 where the ring does not have it.
-fn status_at(ring: &[u32], slot: u16) -> u32
-    ensures { λ r. ⌜ r ≡ getD (now (ring .entry)) (2 * slot) 0 ⌝ }
-{
-    let at = 2 * slot as usize;
-    if at < ring.len() {
-        return ring[at];
-    }
-    0
-}
 
 // The bytes moved: IN what was planned without what remains, OUT what was planned.
 fn moved_length(direction: Direction, planned: u16, status: u32) -> u16

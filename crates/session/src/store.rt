@@ -20,18 +20,23 @@ pub(crate) fn put_word(ring: &mut [u32], at: usize, value: u32)
     }
 }
 
+// The status word of a slot, 0 where the ring does not have it.
+pub(crate) fn status_at(ring: &[u32], slot: u16) -> u32
+    ensures { λ r. ⌜ r ≡ getD (now (ring .entry)) (2 * slot) 0 ⌝ }
+{
+    let at = 2 * slot as usize;
+    if at < ring.len() {
+        return ring[at];
+    }
+    0
+}
+
 // The controller still owns the slot.
 pub(crate) fn is_active_at(ring: &[u32], slot: u16) -> bool
     ensures { λ r. ⌜ r ≡ isSet active (getD (now (ring .entry)) (2 * slot) 0) ⌝ }
 {
-    let at = 2 * slot as usize;
-    if at < ring.len() {
-        return DmaDescriptor {
-            status: ring[at],
-            paddr: 0,
-        }.is_active();
-    }
-    false
+    let status = status_at(ring, slot);
+    DmaDescriptor { status, paddr: 0 }.is_active()
 }
 
 pub(crate) fn next_slot(slot: u16, step: u16, slots: u16) -> u16
