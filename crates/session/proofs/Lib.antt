@@ -3,3 +3,4 @@ pub mod Ending
 pub mod Facts
 pub mod Laws
 pub mod Unique
+pub mod WellFormed
