@@ -1,5 +1,6 @@
 pub mod Admitted
 pub mod Checks
+pub mod Drained
 pub mod Ended
 pub mod Guarded
 pub mod Handed
