@@ -3,6 +3,7 @@
 use mathlib.Core.Path.{_≡_, refl, _∙_, sym, ap, subst, subst⁻¹}
 use mathlib.Core.Bool.{Bool, true, false}
 use mathlib.Core.List.{List, [], _∷_, _++_, map}
+use mathlib.Core.Logic.{_≢_}
 use Prim.Native.Nat.{ℕ, zero, suc, _+_, _-_, _≤_, _<_}
 use native.Mathlib.Nat.{add-zero, le-trans, min-le-left}
 use native.Mathlib.Numerals.{add-one}
@@ -187,3 +188,11 @@ module _ {ℓ} {A : Type ℓ} where
           ∙ getD-sets-in (slice f t l) l at (i - at) d (omega (arith, many)) (omega (arith, many))
           ∙ getD-slice f t (i - at) l d (omega arith) in
           subst⁻¹ P moved (g (f + (i - at)) (omega arith))
+
+-- a store that puts something other than 0, or goes elsewhere, makes no entry 0
+pub set-some : (l : List ℕ) (i a k : ℕ) → (k ≡ i → a ≢ 0) → getD l k 0 ≢ 0 → getD (set l i a) k 0 ≢ 0
+set-some [] i a k h some = some
+set-some (x ∷ l) zero a zero h some = h refl
+set-some (x ∷ l) zero a (suc k) h some = some
+set-some (x ∷ l) (suc i) a zero h some = some
+set-some (x ∷ l) (suc i) a (suc k) h some = set-some l i a k (λ e. h (ap suc e)) some
