@@ -6,6 +6,7 @@ pub mod Guarded
 pub mod Handed
 pub mod Kept
 pub mod Lists
+pub mod Places
 pub mod Polled
 pub mod Polls
 pub mod Reclaims
