@@ -1,4 +1,5 @@
 -- The laws of a session's record, the facts of a submission and of an ending, and that each promise leaves one answer.
+pub mod Course
 pub mod Ending
 pub mod Facts
 pub mod Laws
