@@ -12,6 +12,7 @@ use lib.ListN.{length, getD}
 use lib.Seq.{slice, getD-set-same, getD-set-other}
 use borrow.Author.Tests.{ltb-true, ltb-false}
 use Rattle.session.specs.declared.types.IsoChannelState.{IsoChannelState}
+use Rattle.session.specs.declared.types.IsoHead.{IsoHead}
 use Rattle.session.specs.declared.types.IsoOutcome.{IsoOutcome}
 use Rattle.session.specs.declared.types.IsoOutcome.the-variants as outcome
 use Rattle.session.specs.declared.transfer.IsoTransfer.{IsoTransfer}
@@ -23,15 +24,16 @@ use Rattle.session.specs.declared.reply.IsoEvent.{IsoEvent}
 use Rattle.session.specs.declared.reply.IsoReply.{IsoReply}
 use Rattle.session.specs.declared.reply.PollWay.{PollWay}
 use Rattle.session.specs.declared.reply.PollWay.the-variants.{Nothing, End, Halt, Wait, Settle}
-use Rattle.session.specs.Session.{blankRequest, blankPlan, slots, ringWords, packetsOf, allPackets}
+use Rattle.session.specs.Session.{blankRequest, blankPlan, slots, ringWords, allPackets, pendingRequests}
 use Rattle.session.specs.Record.{isBadRecord}
 use Rattle.session.specs.Settle.{oldestFrom, drained}
 use Rattle.session.specs.End.{withOutcome, ended}
-use Rattle.session.specs.Submit.{stepOf, insertOf, newRequest, accepted, plansFrom, answerOf, sessionAfter, ringAfter, submitWay, submitted, submittedRing}
+use Rattle.session.specs.Submit.{stepOf, insertOf, withHead, spent, unplugged, newRequest, accepted, plansFrom, answerOf, sessionAfter, ringAfter, submitWay, submitted, submittedRing}
 use Rattle.session.specs.Poll.{reply, pickReply, refusedReply, pickWords, pollWay, polledBy, polledRingBy, polled, polledRing, recovered, isEmpty, atStart, resetReply}
 use Rattle.session.specs.Reclaim.{isFound, isShort, reclaimedRing}
 use Rattle.session.proofs.WellFormed.{WellFormed, facts}
 use Rattle.session.proofs.Laws.Record.{Sound, packets-split}
+use Rattle.session.proofs.Laws.Admitted.{admitted, told-of}
 use Rattle.session.proofs.Laws.Ended.{packets, map-amend, ended-packets}
 use Rattle.session.proofs.Laws.Stores.{stores-some, first-stores-some}
 use Rattle.session.proofs.Laws.Drained.{number, slot, drained-leaves, drained-none}
@@ -73,6 +75,12 @@ pub record InOrder (s r : IsoChannelState) : Type 0 where
   pub numbers : map number (r .requests) ≡ map number (s .requests)
   pub packets : map packets (r .requests) ≡ map packets (s .requests)
 
+-- r is s with a request of so many packets behind the others, pending
+pub record Behind (s : IsoChannelState) (lengths : List ℕ) (r : IsoChannelState) : Type 0 where
+  pub count : r .head .count ≡ s .head .count + 1
+  pub done : r .head .done ≡ s .head .done
+  pub last : getD (r .requests) (s .head .count) blankRequest ≡ newRequest (s .head .«next_request_id») (length lengths)
+
 -- ---- "nothing but opening, settling, session end, refusal 14 and recovery ever clears a slot"
 
 submit-way-some :
@@ -96,39 +104,47 @@ module _ (s : IsoChannelState) (e : IsoEvent) (ring : List ℕ) where
   abbrev short : Bool
   short = ltb (length ring) (ringWords (s .cfg))
 
-  -- what holds of the ring as it came and as the way leaves it holds of the ring after the poll
-  ring-by : (P : List ℕ → Type 0) → P ring → P (polledRingBy (pollWay s e) s ring) → P (polledRing s e ring)
-  ring-by P same by =
-      chosen pickWords P short ring (pickWords (isBadRecord s) ring (polledRingBy (pollWay s e) s ring)) (λ u. same)
-      (λ u. chosen pickWords P (isBadRecord s) ring (polledRingBy (pollWay s e) s ring) (λ b. same) (λ b. by))
+  -- what holds of session and ring as they came, and as the way leaves them, holds of what the poll leaves
+  by-way :
+      (P : IsoChannelState → List ℕ → Type 0) → P s ring → P (polledBy (pollWay s e) s ring .session) (polledRingBy (pollWay s e) s ring)
+      → P (polled s e ring .session) (polledRing s e ring)
+  by-way P same by = tests short (isBadRecord s)
+    where
+      tests :
+          (a b : Bool)
+          → P (pickReply a (refusedReply 17 s) (pickReply b (refusedReply 18 s) (polledBy (pollWay s e) s ring)) .session)
+          (pickWords a ring (pickWords b ring (polledRingBy (pollWay s e) s ring)))
+      tests true b = same
+      tests false true = same
+      tests false false = by
 
   -- A poll that neither ends the session nor settles leaves the ring as it is.
   pub poll-still : IsStill (pollWay s e) → polledRing s e ring ≡ ring
-  poll-still h = ring-by (λ (now : List ℕ). now ≡ ring) refl (still (pollWay s e) h)
+  poll-still h = by-way (λ (r : IsoChannelState) (now : List ℕ). now ≡ ring) refl (go (pollWay s e) h)
     where
-      still : (w : PollWay) → IsStill w → polledRingBy w s ring ≡ ring
-      still Nothing u = refl
-      still (End o) u = absurd u
-      still (Halt r) u = refl
-      still Wait u = refl
-      still (Settle bit) u = absurd u
+      go : (w : PollWay) → IsStill w → polledRingBy w s ring ≡ ring
+      go Nothing u = refl
+      go (End o) u = absurd u
+      go (Halt r) u = refl
+      go Wait u = refl
+      go (Settle bit) u = absurd u
+
+  abbrev WordKept : ℕ → IsoChannelState → List ℕ → Type 0
+  WordKept w r now = ((j : ℕ) → oldestFrom s ≤ j → j < oldestFrom r → slot (getD (s .plans) j blankPlan) ≢ w / 2) → getD now w 0 ≡ getD ring w 0
 
   -- One that goes on leaves each word whose slot, half its index, is that of no plan of a request that it completed.
   pub poll-word :
       WellFormed s → GoesOn (pollWay s e) → (w : ℕ)
-      → ((j : ℕ) → oldestFrom s ≤ j → j < oldestFrom (polledBy (pollWay s e) s ring .session) → getD (s .plans) j blankPlan .«desc_index» ≢ w / 2)
+      → ((j : ℕ) → oldestFrom s ≤ j → j < oldestFrom (polled s e ring .session) → slot (getD (s .plans) j blankPlan) ≢ w / 2)
       → getD (polledRing s e ring) w 0 ≡ getD ring w 0
-  poll-word well h w apart = ring-by (λ (now : List ℕ). getD now w 0 ≡ getD ring w 0) refl (go (pollWay s e) h apart)
+  poll-word well h w = by-way (WordKept w) (λ apart. refl) (go (pollWay s e) h)
     where
-      go :
-          (p : PollWay) → GoesOn p
-          → ((j : ℕ) → oldestFrom s ≤ j → j < oldestFrom (polledBy p s ring .session) → getD (s .plans) j blankPlan .«desc_index» ≢ w / 2)
-          → getD (polledRingBy p s ring) w 0 ≡ getD ring w 0
-      go Nothing u a = refl
-      go (End o) u a = absurd u
-      go (Halt r) u a = refl
-      go Wait u a = refl
-      go (Settle bit) u a = drained-leaves bit s ring (facts s well) .word w a
+      go : (p : PollWay) → GoesOn p → WordKept w (polledBy p s ring .session) (polledRingBy p s ring)
+      go Nothing u apart = refl
+      go (End o) u apart = absurd u
+      go (Halt r) u apart = refl
+      go Wait u apart = refl
+      go (Settle bit) u apart = drained-leaves bit s ring (facts s well) .word w apart
 
   -- A reclaim leaves the ring as it is, or as its poll leaves it.
   pub reclaim-ring :
@@ -151,19 +167,136 @@ module _ (s : IsoChannelState) (e : IsoEvent) (ring : List ℕ) where
 
   -- The poll goes on, and as many are completed as before it.
   pub poll-settles-none : WellFormed s → GoesOn (pollWay s e) → polled s e ring .session .head .done ≡ s .head .done → polledRing s e ring ≡ ring
-  poll-settles-none well h = tests short (isBadRecord s)
+  poll-settles-none well h =
+      by-way (λ (r : IsoChannelState) (now : List ℕ). r .head .done ≡ s .head .done → now ≡ ring) (λ same. refl) (go (pollWay s e) h)
     where
-      by : (p : PollWay) → GoesOn p → polledBy p s ring .session .head .done ≡ s .head .done → polledRingBy p s ring ≡ ring
-      by Nothing u same = refl
-      by (End o) u same = absurd u
-      by (Halt r) u same = refl
-      by Wait u same = refl
-      by (Settle bit) u same = drained-none bit s ring (facts s well) same
+      go : (p : PollWay) → GoesOn p → polledBy p s ring .session .head .done ≡ s .head .done → polledRingBy p s ring ≡ ring
+      go Nothing u same = refl
+      go (End o) u same = absurd u
+      go (Halt r) u same = refl
+      go Wait u same = refl
+      go (Settle bit) u same = drained-none bit s ring (facts s well) same
 
-      tests :
-          (a b : Bool)
-          → pickReply a (refusedReply 17 s) (pickReply b (refusedReply 18 s) (polledBy (pollWay s e) s ring)) .session .head .done ≡ s .head .done
-          → pickWords a ring (pickWords b ring (polledRingBy (pollWay s e) s ring)) ≡ ring
-      tests true b same = refl
-      tests false true same = refl
-      tests false false same = by (pollWay s e) h same
+-- ---- "a completed result never changes again except by cancel"
+
+results-same : (s : IsoChannelState) → ResultsKept s s
+results-same s = record { done = omega arith; request = λ i u. refl; plan = λ j u. refl }
+
+ended-results : (o : IsoOutcome) (s : IsoChannelState) → Sound s → ResultsKept s (ended o s)
+ended-results o s g =
+    record {
+      done = g .done-in;
+      request = λ i u. getD-sets-before (map (withOutcome o) (pendingRequests s)) (s .requests) (s .head .done) i blankRequest u;
+      plan = λ j u. refl;
+    }
+
+accepted-results : (s : IsoChannelState) (t : IsoTransfer) (lengths ring : List ℕ) → Sound s → ResultsKept s (accepted s t lengths ring)
+accepted-results s t lengths ring g =
+    let new = newRequest (s .head .«next_request_id») (length lengths) in
+    let plans = plansFrom (slots (s .cfg)) (insertOf s t ring) (stepOf (s .cfg)) 0 lengths in
+    let parts = packets-split (s .head .done) (s .head .count) (s .requests) (g .done-in) (omega (arith, g .requests-long, g .count-in)) in
+    record {
+      done = omega arith;
+      request = λ i u. getD-set-other (s .requests) (s .head .count) i new blankRequest (omega (arith, g .done-in));
+      plan = λ j u. getD-sets-before plans (s .plans) (allPackets s) j blankPlan (omega (arith, parts));
+    }
+
+-- A submission changes none, whatever it answers.
+pub submit-results : (s : IsoChannelState) (t : IsoTransfer) (lengths ring : List ℕ) → WellFormed s → ResultsKept s (submitted s t lengths ring .session)
+submit-results s t lengths ring well = go (submitWay s t lengths ring)
+  where
+    spent-results : (h : IsoHead) → h .done ≡ s .head .done → ResultsKept s (withHead s h)
+    spent-results h e = record { done = omega arith; request = λ i u. refl; plan = λ j u. refl }
+
+    go : (w : SubmitWay) → ResultsKept s (sessionAfter w s t lengths ring)
+    go (way.Refuse n) = results-same s
+    go (way.TooLong i) = spent-results (spent (s .head)) refl
+    go (way.Spend n) = spent-results (spent (s .head)) refl
+    go way.Early = spent-results (unplugged (s .head)) refl
+    go way.Cut = results-same s
+    go way.Late = spent-results (unplugged (s .head)) refl
+    go way.Accept = accepted-results s t lengths ring (facts s well)
+
+way-results : (p : PollWay) (s : IsoChannelState) (ring : List ℕ) → Sound s → ResultsKept s (polledBy p s ring .session)
+way-results Nothing s ring g = results-same s
+way-results (End o) s ring g = ended-results o s g
+way-results (Halt r) s ring g = record { done = omega arith; request = λ i u. refl; plan = λ j u. refl }
+way-results Wait s ring g = results-same s
+way-results (Settle bit) s ring g =
+    let d = drained-leaves bit s ring g in
+    record { done = d .done; request = d .request; plan = d .plan }
+
+-- Nor does a poll.
+pub poll-results : (s : IsoChannelState) (e : IsoEvent) (ring : List ℕ) → WellFormed s → ResultsKept s (polled s e ring .session)
+poll-results s e ring well =
+    by-way s e ring (λ (r : IsoChannelState) (now : List ℕ). ResultsKept s r) (results-same s) (way-results (pollWay s e) s ring (facts s well))
+
+reply-results : (s : IsoChannelState) (b : Bool) (x y : IsoReply) → ResultsKept s (x .session) → ResultsKept s (y .session) → ResultsKept s (pickReply b x y .session)
+reply-results s b x y f g = chosen pickReply (λ (r : IsoReply). ResultsKept s (r .session)) b x y (λ u. f) (λ u. g)
+
+-- Nor does a reset, nor recovery.
+pub reset-results : (s : IsoChannelState) → ResultsKept s (resetReply s .session)
+reset-results s =
+    let empty = reply answer.Done false false (atStart s) in
+    reply-results s (isBadRecord s) (refusedReply 18 s) (pickReply (isEmpty s) empty (refusedReply 16 s)) (results-same s)
+    (reply-results s (isEmpty s) empty (refusedReply 16 s) (record { done = omega arith; request = λ i u. refl; plan = λ j u. refl }) (results-same s))
+
+pub recover-results : (s : IsoChannelState) (words : ℕ) → WellFormed s → ResultsKept s (recovered s words .session)
+recover-results s words well =
+    let over = reply answer.Done false false (ended outcome.Disconnected s) in
+    reply-results s (ltb words (ringWords (s .cfg))) (refusedReply 17 s) (pickReply (isBadRecord s) (refusedReply 18 s) over) (results-same s)
+    (reply-results s (isBadRecord s) (refusedReply 18 s) over (results-same s) (ended-results outcome.Disconnected s (facts s well)))
+
+-- ---- "requests complete in order of submission"
+
+order-same : (s : IsoChannelState) → Sound s → InOrder s s
+order-same s g = record { count = refl; done = omega arith; within = g .done-in; numbers = refl; packets = refl }
+
+ended-order : (o : IsoOutcome) (s : IsoChannelState) → Sound s → InOrder s (ended o s)
+ended-order o s g =
+    let same =
+    map-amend number (withOutcome o) blankRequest (λ r. refl) (s .head .count - s .head .done) (s .head .done) (s .head .count) (s .requests)
+    (omega (arith, g .done-in)) (omega (arith, g .count-in, g .requests-long)) in
+    record { count = refl; done = g .done-in; within = omega arith; numbers = same; packets = ended-packets o s g }
+
+way-order : (p : PollWay) (s : IsoChannelState) (ring : List ℕ) → Sound s → InOrder s (polledBy p s ring .session)
+way-order Nothing s ring g = order-same s g
+way-order (End o) s ring g = ended-order o s g
+way-order (Halt r) s ring g = record { count = refl; done = omega arith; within = g .done-in; numbers = refl; packets = refl }
+way-order Wait s ring g = order-same s g
+way-order (Settle bit) s ring g =
+    let d = drained-leaves bit s ring g in
+    record { count = d .count; done = d .done; within = omega (arith, d .count, d .within); numbers = d .numbers; packets = d .packets }
+
+-- A poll leaves every request at its place; those completed are the first ones, before it and after it.
+pub poll-order : (s : IsoChannelState) (e : IsoEvent) (ring : List ℕ) → WellFormed s → InOrder s (polled s e ring .session)
+poll-order s e ring well =
+    by-way s e ring (λ (r : IsoChannelState) (now : List ℕ). InOrder s r) (order-same s (facts s well)) (way-order (pollWay s e) s ring (facts s well))
+
+-- A submission changes no request in use, whatever it answers.
+pub submit-order :
+    (s : IsoChannelState) (t : IsoTransfer) (lengths ring : List ℕ) (i : ℕ) → i < s .head .count
+    → getD (submitted s t lengths ring .session .requests) i blankRequest ≡ getD (s .requests) i blankRequest
+submit-order s t lengths ring i h = go (submitWay s t lengths ring)
+  where
+    go : (w : SubmitWay) → getD (sessionAfter w s t lengths ring .requests) i blankRequest ≡ getD (s .requests) i blankRequest
+    go (way.Refuse n) = refl
+    go (way.TooLong j) = refl
+    go (way.Spend n) = refl
+    go way.Early = refl
+    go way.Cut = refl
+    go way.Late = refl
+    go way.Accept = getD-set-other (s .requests) (s .head .count) i (newRequest (s .head .«next_request_id») (length lengths)) blankRequest (omega arith)
+
+-- Accepted, it puts its request behind them, pending.
+pub submit-behind :
+    (s : IsoChannelState) (t : IsoTransfer) (lengths ring : List ℕ) → WellFormed s → submitWay s t lengths ring ≡ way.Accept → Behind s lengths (submitted s t lengths ring .session)
+submit-behind s t lengths ring well h =
+    let new = newRequest (s .head .«next_request_id») (length lengths) in
+    let room = admitted s t lengths ring (told-of s t lengths ring way.Accept h .0) in
+    subst⁻¹ (λ (w : SubmitWay). Behind s lengths (sessionAfter w s t lengths ring)) h
+    (record {
+      count = refl;
+      done = refl;
+      last = getD-set-same (s .requests) (s .head .count) new blankRequest (omega (arith, well .requests, room .entry .requests));
+    })
