@@ -37,7 +37,7 @@ use Rattle.session.proofs.Laws.Admitted.{admitted, told-of}
 use Rattle.session.proofs.Laws.Ended.{packets, map-amend, ended-packets}
 use Rattle.session.proofs.Laws.Stores.{stores-some, first-stores-some}
 use Rattle.session.proofs.Laws.Drained.{number, slot, drained-leaves, drained-none}
-use Rattle.session.proofs.Laws.Lists.{getD-sets-before}
+use Rattle.session.proofs.Laws.Polls.{by-way}
 use Rattle.session.proofs.Laws.Tests.{chosen, second}
 
 -- ---- what the theorems speak of
@@ -60,12 +60,6 @@ IsStill (End o) = ⊥
 IsStill (Halt r) = Unit
 IsStill Wait = Unit
 IsStill (Settle bit) = ⊥
-
--- what s had completed, r has completed with the same result; the plans of completed requests stand before those of the oldest pending one
-pub record ResultsKept (s r : IsoChannelState) : Type 0 where
-  pub done : s .head .done ≤ r .head .done
-  pub request : (i : ℕ) → i < s .head .done → getD (r .requests) i blankRequest ≡ getD (s .requests) i blankRequest
-  pub plan : (j : ℕ) → j < oldestFrom s → getD (r .plans) j blankPlan ≡ getD (s .plans) j blankPlan
 
 -- r has the requests of s at their places, with the same numbers and packets, and may have completed more of the oldest
 pub record InOrder (s r : IsoChannelState) : Type 0 where
@@ -101,26 +95,9 @@ pub submit-clears-none :
 submit-clears-none s t lengths ring h at e = submit-way-some (submitWay s t lengths ring) s t lengths ring h at (e .0) (e .1)
 
 module _ (s : IsoChannelState) (e : IsoEvent) (ring : List ℕ) where
-  abbrev short : Bool
-  short = ltb (length ring) (ringWords (s .cfg))
-
-  -- what holds of session and ring as they came, and as the way leaves them, holds of what the poll leaves
-  by-way :
-      (P : IsoChannelState → List ℕ → Type 0) → P s ring → P (polledBy (pollWay s e) s ring .session) (polledRingBy (pollWay s e) s ring)
-      → P (polled s e ring .session) (polledRing s e ring)
-  by-way P same by = tests short (isBadRecord s)
-    where
-      tests :
-          (a b : Bool)
-          → P (pickReply a (refusedReply 17 s) (pickReply b (refusedReply 18 s) (polledBy (pollWay s e) s ring)) .session)
-          (pickWords a ring (pickWords b ring (polledRingBy (pollWay s e) s ring)))
-      tests true b = same
-      tests false true = same
-      tests false false = by
-
   -- A poll that neither ends the session nor settles leaves the ring as it is.
   pub poll-still : IsStill (pollWay s e) → polledRing s e ring ≡ ring
-  poll-still h = by-way (λ (r : IsoChannelState) (now : List ℕ). now ≡ ring) refl (go (pollWay s e) h)
+  poll-still h = by-way s e ring (λ (r : IsoChannelState) (now : List ℕ). now ≡ ring) refl (go (pollWay s e) h)
     where
       go : (w : PollWay) → IsStill w → polledRingBy w s ring ≡ ring
       go Nothing u = refl
@@ -137,7 +114,7 @@ module _ (s : IsoChannelState) (e : IsoEvent) (ring : List ℕ) where
       WellFormed s → GoesOn (pollWay s e) → (w : ℕ)
       → ((j : ℕ) → oldestFrom s ≤ j → j < oldestFrom (polled s e ring .session) → slot (getD (s .plans) j blankPlan) ≢ w / 2)
       → getD (polledRing s e ring) w 0 ≡ getD ring w 0
-  poll-word well h w = by-way (WordKept w) (λ apart. refl) (go (pollWay s e) h)
+  poll-word well h w = by-way s e ring (WordKept w) (λ apart. refl) (go (pollWay s e) h)
     where
       go : (p : PollWay) → GoesOn p → WordKept w (polledBy p s ring .session) (polledRingBy p s ring)
       go Nothing u apart = refl
@@ -149,7 +126,7 @@ module _ (s : IsoChannelState) (e : IsoEvent) (ring : List ℕ) where
   -- A reclaim leaves the ring as it is, or as its poll leaves it.
   pub reclaim-ring :
       (id results : ℕ) → (reclaimedRing s id e ring results ≡ ring) ⊎ (reclaimedRing s id e ring results ≡ polledRing s e ring)
-  reclaim-ring id results = go short (ltb results 255) (isBadRecord s) (isFound id s)
+  reclaim-ring id results = go (ltb (length ring) (ringWords (s .cfg))) (ltb results 255) (isBadRecord s) (isFound id s)
     where
       by : List ℕ
       by = polledRingBy (pollWay s e) s ring
@@ -168,7 +145,7 @@ module _ (s : IsoChannelState) (e : IsoEvent) (ring : List ℕ) where
   -- The poll goes on, and as many are completed as before it.
   pub poll-settles-none : WellFormed s → GoesOn (pollWay s e) → polled s e ring .session .head .done ≡ s .head .done → polledRing s e ring ≡ ring
   poll-settles-none well h =
-      by-way (λ (r : IsoChannelState) (now : List ℕ). r .head .done ≡ s .head .done → now ≡ ring) (λ same. refl) (go (pollWay s e) h)
+      by-way s e ring (λ (r : IsoChannelState) (now : List ℕ). r .head .done ≡ s .head .done → now ≡ ring) (λ same. refl) (go (pollWay s e) h)
     where
       go : (p : PollWay) → GoesOn p → polledBy p s ring .session .head .done ≡ s .head .done → polledRingBy p s ring ≡ ring
       go Nothing u same = refl
@@ -176,76 +153,6 @@ module _ (s : IsoChannelState) (e : IsoEvent) (ring : List ℕ) where
       go (Halt r) u same = refl
       go Wait u same = refl
       go (Settle bit) u same = drained-none bit s ring (facts s well) same
-
--- ---- "a completed result never changes again except by cancel"
-
-results-same : (s : IsoChannelState) → ResultsKept s s
-results-same s = record { done = omega arith; request = λ i u. refl; plan = λ j u. refl }
-
-ended-results : (o : IsoOutcome) (s : IsoChannelState) → Sound s → ResultsKept s (ended o s)
-ended-results o s g =
-    record {
-      done = g .done-in;
-      request = λ i u. getD-sets-before (map (withOutcome o) (pendingRequests s)) (s .requests) (s .head .done) i blankRequest u;
-      plan = λ j u. refl;
-    }
-
-accepted-results : (s : IsoChannelState) (t : IsoTransfer) (lengths ring : List ℕ) → Sound s → ResultsKept s (accepted s t lengths ring)
-accepted-results s t lengths ring g =
-    let new = newRequest (s .head .«next_request_id») (length lengths) in
-    let plans = plansFrom (slots (s .cfg)) (insertOf s t ring) (stepOf (s .cfg)) 0 lengths in
-    let parts = packets-split (s .head .done) (s .head .count) (s .requests) (g .done-in) (omega (arith, g .requests-long, g .count-in)) in
-    record {
-      done = omega arith;
-      request = λ i u. getD-set-other (s .requests) (s .head .count) i new blankRequest (omega (arith, g .done-in));
-      plan = λ j u. getD-sets-before plans (s .plans) (allPackets s) j blankPlan (omega (arith, parts));
-    }
-
--- A submission changes none, whatever it answers.
-pub submit-results : (s : IsoChannelState) (t : IsoTransfer) (lengths ring : List ℕ) → WellFormed s → ResultsKept s (submitted s t lengths ring .session)
-submit-results s t lengths ring well = go (submitWay s t lengths ring)
-  where
-    spent-results : (h : IsoHead) → h .done ≡ s .head .done → ResultsKept s (withHead s h)
-    spent-results h e = record { done = omega arith; request = λ i u. refl; plan = λ j u. refl }
-
-    go : (w : SubmitWay) → ResultsKept s (sessionAfter w s t lengths ring)
-    go (way.Refuse n) = results-same s
-    go (way.TooLong i) = spent-results (spent (s .head)) refl
-    go (way.Spend n) = spent-results (spent (s .head)) refl
-    go way.Early = spent-results (unplugged (s .head)) refl
-    go way.Cut = results-same s
-    go way.Late = spent-results (unplugged (s .head)) refl
-    go way.Accept = accepted-results s t lengths ring (facts s well)
-
-way-results : (p : PollWay) (s : IsoChannelState) (ring : List ℕ) → Sound s → ResultsKept s (polledBy p s ring .session)
-way-results Nothing s ring g = results-same s
-way-results (End o) s ring g = ended-results o s g
-way-results (Halt r) s ring g = record { done = omega arith; request = λ i u. refl; plan = λ j u. refl }
-way-results Wait s ring g = results-same s
-way-results (Settle bit) s ring g =
-    let d = drained-leaves bit s ring g in
-    record { done = d .done; request = d .request; plan = d .plan }
-
--- Nor does a poll.
-pub poll-results : (s : IsoChannelState) (e : IsoEvent) (ring : List ℕ) → WellFormed s → ResultsKept s (polled s e ring .session)
-poll-results s e ring well =
-    by-way s e ring (λ (r : IsoChannelState) (now : List ℕ). ResultsKept s r) (results-same s) (way-results (pollWay s e) s ring (facts s well))
-
-reply-results : (s : IsoChannelState) (b : Bool) (x y : IsoReply) → ResultsKept s (x .session) → ResultsKept s (y .session) → ResultsKept s (pickReply b x y .session)
-reply-results s b x y f g = chosen pickReply (λ (r : IsoReply). ResultsKept s (r .session)) b x y (λ u. f) (λ u. g)
-
--- Nor does a reset, nor recovery.
-pub reset-results : (s : IsoChannelState) → ResultsKept s (resetReply s .session)
-reset-results s =
-    let empty = reply answer.Done false false (atStart s) in
-    reply-results s (isBadRecord s) (refusedReply 18 s) (pickReply (isEmpty s) empty (refusedReply 16 s)) (results-same s)
-    (reply-results s (isEmpty s) empty (refusedReply 16 s) (record { done = omega arith; request = λ i u. refl; plan = λ j u. refl }) (results-same s))
-
-pub recover-results : (s : IsoChannelState) (words : ℕ) → WellFormed s → ResultsKept s (recovered s words .session)
-recover-results s words well =
-    let over = reply answer.Done false false (ended outcome.Disconnected s) in
-    reply-results s (ltb words (ringWords (s .cfg))) (refusedReply 17 s) (pickReply (isBadRecord s) (refusedReply 18 s) over) (results-same s)
-    (reply-results s (isBadRecord s) (refusedReply 18 s) over (results-same s) (ended-results outcome.Disconnected s (facts s well)))
 
 -- ---- "requests complete in order of submission"
 
@@ -259,7 +166,7 @@ ended-order o s g =
     (omega (arith, g .done-in)) (omega (arith, g .count-in, g .requests-long)) in
     record { count = refl; done = g .done-in; within = omega arith; numbers = same; packets = ended-packets o s g }
 
-way-order : (p : PollWay) (s : IsoChannelState) (ring : List ℕ) → Sound s → InOrder s (polledBy p s ring .session)
+pub way-order : (p : PollWay) (s : IsoChannelState) (ring : List ℕ) → Sound s → InOrder s (polledBy p s ring .session)
 way-order Nothing s ring g = order-same s g
 way-order (End o) s ring g = ended-order o s g
 way-order (Halt r) s ring g = record { count = refl; done = omega arith; within = g .done-in; numbers = refl; packets = refl }

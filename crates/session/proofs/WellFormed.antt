@@ -41,8 +41,9 @@ use Rattle.session.proofs.Laws.Admitted.{Told, told}
 use Rattle.session.proofs.Laws.Tests.{chosen}
 use Rattle.session.proofs.Laws.Record.{Sound, sound, not-bad, idle-sound}
 use Rattle.session.proofs.Laws.Kept.{submitted-sound}
-use Rattle.session.proofs.Laws.Ended.{picked, recovered-sound, reset-reply-sound, cancelled-sound}
+use Rattle.session.proofs.Laws.Ended.{recovered-sound, reset-reply-sound, cancelled-sound}
 use Rattle.session.proofs.Laws.Polled.{polled-sound}
+use Rattle.session.proofs.Laws.Polls.{by-way}
 use Rattle.session.proofs.Laws.Reclaims.{reclaimed-sound}
 
 -- ---- what the theorems speak of
@@ -93,15 +94,9 @@ facts s w = sound s (w .requests) (w .plans) (w .good)
 pub well-formed : (s : IsoChannelState) → Sound s → WellFormed s
 well-formed s g = record { requests = g .requests-long; plans = g .plans-long; good = not-bad s g }
 
-whole-poll-sound : (s : IsoChannelState) (e : IsoEvent) (ring : List ℕ) → Sound s → Sound (polled s e ring .session)
-whole-poll-sound s e ring g =
-    let by-way = polledBy (pollWay s e) s ring in
-    picked (ltb (length ring) (ringWords (s .cfg))) (refusedReply 17 s) (pickReply (isBadRecord s) (refusedReply 18 s) by-way) (λ u. g)
-    (λ u. picked (isBadRecord s) (refusedReply 18 s) by-way (λ b. g) (λ b. polled-sound s e ring g))
-
 call-sound : (call : Call) (s : IsoChannelState) → Sound s → Sound (after call s)
 call-sound (Submit t lengths ring) s g = submitted-sound s t lengths ring g
-call-sound (Poll e ring) s g = whole-poll-sound s e ring g
+call-sound (Poll e ring) s g = by-way s e ring (λ (r : IsoChannelState) (now : List ℕ). Sound r) g (polled-sound s e ring g)
 call-sound (Reclaim id e ring results) s g = reclaimed-sound s id e ring (length results) g
 call-sound (Cancel id) s g = cancelled-sound s id g
 call-sound Reset s g = reset-reply-sound s g
