@@ -156,7 +156,7 @@ module _ (s : IsoChannelState) (e : IsoEvent) (ring : List ℕ) where
 
 -- ---- "requests complete in order of submission"
 
-order-same : (s : IsoChannelState) → Sound s → InOrder s s
+pub order-same : (s : IsoChannelState) → Sound s → InOrder s s
 order-same s g = record { count = refl; done = omega arith; within = g .done-in; numbers = refl; packets = refl }
 
 ended-order : (o : IsoOutcome) (s : IsoChannelState) → Sound s → InOrder s (ended o s)

@@ -3,5 +3,6 @@ pub mod Course
 pub mod Ending
 pub mod Facts
 pub mod Laws
+pub mod Results
 pub mod Unique
 pub mod WellFormed
