@@ -2,6 +2,7 @@
 pub mod Course
 pub mod Ending
 pub mod Facts
+pub mod HandedOut
 pub mod Laws
 pub mod Results
 pub mod Unique

@@ -1,5 +1,5 @@
--- Completed results: that none changes again except by cancel, and that reclaim hands each out once and frees exactly its packets. Each is a fact of
--- the definitions in specs/, and so, by the promises of the calls, of the code.
+-- A completed result never changes again except by cancel: what each call leaves of the completed requests and their plans. For reclaim see
+-- HandedOut.antt. Each is a fact of the definitions in specs/, and so, by the promises of the calls, of the code.
 use mathlib.Core.Path.{_≡_, refl, _∙_, sym, ap, subst}
 use mathlib.Core.Bool.{Bool, true, false}
 use mathlib.Core.List.{List, map, _++_}
@@ -64,20 +64,9 @@ pub record AtMostCancelled (at : ℕ) (s r : IsoChannelState) : Type 0 where
     (getD (r .requests) at blankRequest ≡ getD (s .requests) at blankRequest)
     ⊎ (getD (r .requests) at blankRequest ≡ withOutcome outcome.Cancelled (getD (s .requests) at blankRequest))
 
--- r is s without the completed request at a place: the other completed requests and their plans in order, those pending as they were, and as many
--- packets fewer as it had
-pub record Without (at : ℕ) (s r : IsoChannelState) : Type 0 where
-  pub place : at < s .head .done
-  pub count : r .head .count + 1 ≡ s .head .count
-  pub done : r .head .done + 1 ≡ s .head .done
-  pub requests : slice 0 (r .head .done) (r .requests) ≡ slice 0 at (s .requests) ++ slice (at + 1) (s .head .done) (s .requests)
-  pub plans : slice 0 (oldestFrom r) (r .plans) ≡ slice 0 (plansBegin at s) (s .plans) ++ slice (plansEnd at s) (oldestFrom s) (s .plans)
-  pub pending : (pendingRequests r ≡ pendingRequests s) × (pendingPlans r ≡ pendingPlans s)
-  pub packets : allPackets r + requestOf at s .packets ≡ allPackets s
-
 -- ---- "a completed result never changes again except by cancel"
 
-results-same : (s : IsoChannelState) → ResultsKept s s
+pub results-same : (s : IsoChannelState) → ResultsKept s s
 results-same s = record { done = omega arith; request = λ i u. refl; plan = λ j u. refl }
 
 ended-results : (o : IsoOutcome) (s : IsoChannelState) → Sound s → ResultsKept s (ended o s)
@@ -115,7 +104,7 @@ submit-results s t lengths ring well = go (submitWay s t lengths ring)
     go way.Late = spent-results (unplugged (s .head)) refl
     go way.Accept = accepted-results s t lengths ring (facts s well)
 
-way-results : (p : PollWay) (s : IsoChannelState) (ring : List ℕ) → Sound s → ResultsKept s (polledBy p s ring .session)
+pub way-results : (p : PollWay) (s : IsoChannelState) (ring : List ℕ) → Sound s → ResultsKept s (polledBy p s ring .session)
 way-results Nothing s ring g = results-same s
 way-results (End o) s ring g = ended-results o s g
 way-results (Halt r) s ring g = record { done = omega arith; request = λ i u. refl; plan = λ j u. refl }
@@ -129,7 +118,7 @@ pub poll-results : (s : IsoChannelState) (e : IsoEvent) (ring : List ℕ) → We
 poll-results s e ring well =
     by-way s e ring (λ (r : IsoChannelState) (now : List ℕ). ResultsKept s r) (results-same s) (way-results (pollWay s e) s ring (facts s well))
 
-reply-results : (s : IsoChannelState) (b : Bool) (x y : IsoReply) → ResultsKept s (x .session) → ResultsKept s (y .session) → ResultsKept s (pickReply b x y .session)
+pub reply-results : (s : IsoChannelState) (b : Bool) (x y : IsoReply) → ResultsKept s (x .session) → ResultsKept s (y .session) → ResultsKept s (pickReply b x y .session)
 reply-results s b x y f g = chosen pickReply (λ (r : IsoReply). ResultsKept s (r .session)) b x y (λ u. f) (λ u. g)
 
 -- Nor does a reset, nor recovery.
@@ -181,65 +170,3 @@ cancel-results s id well = go (isBadRecord s) (ltb at (s .head .done)) refl (ltb
     go false false e true true = same
     go false false e true false = record { head = refl; plans = refl; other = λ i u. refl; named = inl refl }
     go false false e false d = same
-
--- ---- reclaim
-
-without : (at : ℕ) (s : IsoChannelState) → Sound s → at < s .head .done → Without at s (removed at s)
-without at s g h =
-    record {
-      place = h;
-      count = omega (arith, g .done-in);
-      done = omega arith;
-      requests = removed-completed at s g h;
-      plans = removed-completed-plans at s g h;
-      pending = removed-pending at s g h;
-      packets = removed-packets at s g h;
-    }
-
-looked-results : (id : ℕ) (e : IsoEvent) (s : IsoChannelState) (ring : List ℕ) → Sound s → ResultsKept s (looked id e s ring .session)
-looked-results id e s ring g =
-    reply-results s (isFound id s) (reply answer.Done false false s) (polledBy (pollWay s e) s ring) (results-same s) (way-results (pollWay s e) s ring g)
-
-looked-order : (id : ℕ) (e : IsoEvent) (s : IsoChannelState) (ring : List ℕ) → Sound s → InOrder s (looked id e s ring .session)
-looked-order id e s ring g =
-    chosen pickReply (λ (r : IsoReply). InOrder s (r .session)) (isFound id s) (reply answer.Done false false s) (polledBy (pollWay s e) s ring)
-    (λ f. order-same s g) (λ f. way-order (pollWay s e) s ring g)
-
-module _ (s : IsoChannelState) (id : ℕ) (e : IsoEvent) (ring : List ℕ) (results : ℕ) (well : WellFormed s) where
-  -- the session after the first look and its poll, the place of the number in it, and the session after the call
-  abbrev l : IsoChannelState
-  l = looked id e s ring .session
-
-  abbrev at : ℕ
-  at = requestAt id l
-
-  abbrev r : IsoChannelState
-  r = reclaimed s id e ring results .session
-
-  l-sound : Sound l
-  l-sound = looked-sound id e s ring (facts s well)
-
-  -- what holds where the call is refused at first, where the number is found and where it is not
-  by-look :
-      (P : Reclaimed → Type 0) → ((n : ℕ) → P (reclaimReply (reclaim.Refused n) false false s))
-      → (at < l .head .done → P (reclaimReply (handedAnswer (requestOf at l)) (looked id e s ring .taken) (looked id e s ring .halt) (removed at l)))
-      → ((b : Bool) → P (reclaimReply (pickAnswer b reclaim.NotYet (reclaim.Refused 15)) (looked id e s ring .taken) (looked id e s ring .halt) l))
-      → P (reclaimed s id e ring results)
-  by-look P refused found left =
-      let taken = looked id e s ring .taken in
-      let halt = looked id e s ring .halt in
-      let again = lookedAgain id taken halt l in
-      let out = reclaimReply (handedAnswer (requestOf at l)) taken halt (removed at l) in
-      let stays = reclaimReply (pickAnswer (ltb at (l .head .count)) reclaim.NotYet (reclaim.Refused 15)) taken halt l in
-      let bad = reclaimReply (reclaim.Refused 18) false false s in
-      chosen pickReclaimed P (isShort s (length ring) results) (reclaimReply (reclaim.Refused 17) false false s) (pickReclaimed (isBadRecord s) bad again)
-      (λ h. refused 17)
-      (λ h. chosen pickReclaimed P (isBadRecord s) bad again (λ b. refused 18)
-      (λ b. chosen pickReclaimed P (isFound id l) out stays (λ f. found (ltb-true at (l .head .done) f)) (λ f. left (ltb at (l .head .count)))))
-
-  -- Reclaim changes none that it leaves: it hands one out, or leaves all of them.
-  pub reclaim-results : ResultsKept s r ⊎ (ResultsKept s l × Without at l r)
-  reclaim-results =
-      let kept = looked-results id e s ring (facts s well) in
-      by-look (λ (x : Reclaimed). ResultsKept s (x .session) ⊎ (ResultsKept s l × Without at l (x .session))) (λ n. inl (results-same s))
-      (λ h. inr (kept, without at l l-sound h)) (λ b. inl kept)
