@@ -1,44 +1,38 @@
--- What the calls do to slots, results and order over time: which of them clear slots, that a completed result stays, that requests complete in the
--- order of their submission, and that each is handed out once. Each is a fact of the definitions in specs/, and so, by the promises of the calls, of
--- the code. `cancel` and `reset` are lent no ring.
-use mathlib.Core.Path.{_≡_, refl, _∙_, sym, ap, subst, subst⁻¹}
+-- What the calls do to slots and to the order of requests over time: which of them clear slots, and that requests complete in the order of their
+-- submission. `cancel` and `reset` are lent no ring; what opening, a session's end and recovery leave of it, specs/ says outright. Each is a fact of
+-- the definitions in specs/, and so, by the promises of the calls, of the code. Results.antt and HandedOut.antt go on from here.
+use mathlib.Core.Path.{_≡_, refl, subst⁻¹}
 use mathlib.Core.Bool.{Bool, true, false, _||_}
-use mathlib.Core.List.{List, map, _++_}
+use mathlib.Core.List.{List, map}
 use mathlib.Core.Logic.{_≢_, _⊎_, inl, inr}
 use Prim.Native.Nat.{ℕ, _+_, _-_, _*_, _/_, _≤_, _<_}
 use native.Mathlib.Omega.{arith}
 use lib.Dec.{ltb}
 use lib.ListN.{length, getD}
-use lib.Seq.{slice, getD-set-same, getD-set-other}
-use borrow.Author.Tests.{ltb-true, ltb-false}
+use lib.Seq.{getD-set-same, getD-set-other}
 use Rattle.session.specs.declared.types.IsoChannelState.{IsoChannelState}
-use Rattle.session.specs.declared.types.IsoHead.{IsoHead}
 use Rattle.session.specs.declared.types.IsoOutcome.{IsoOutcome}
-use Rattle.session.specs.declared.types.IsoOutcome.the-variants as outcome
 use Rattle.session.specs.declared.transfer.IsoTransfer.{IsoTransfer}
 use Rattle.session.specs.declared.transfer.SubmitAnswer.the-variants as submit
 use Rattle.session.specs.declared.transfer.SubmitWay.{SubmitWay}
 use Rattle.session.specs.declared.transfer.SubmitWay.the-variants as way
-use Rattle.session.specs.declared.reply.IsoAnswer.the-variants as answer
 use Rattle.session.specs.declared.reply.IsoEvent.{IsoEvent}
-use Rattle.session.specs.declared.reply.IsoReply.{IsoReply}
 use Rattle.session.specs.declared.reply.PollWay.{PollWay}
 use Rattle.session.specs.declared.reply.PollWay.the-variants.{Nothing, End, Halt, Wait, Settle}
-use Rattle.session.specs.Session.{blankRequest, blankPlan, slots, ringWords, allPackets, pendingRequests}
+use Rattle.session.specs.Session.{blankRequest, blankPlan, slots, ringWords}
 use Rattle.session.specs.Record.{isBadRecord}
-use Rattle.session.specs.Settle.{oldestFrom, drained}
+use Rattle.session.specs.Settle.{oldestFrom}
 use Rattle.session.specs.End.{withOutcome, ended}
-use Rattle.session.specs.Submit.{stepOf, insertOf, withHead, spent, unplugged, newRequest, accepted, plansFrom, answerOf, sessionAfter, ringAfter, submitWay, submitted, submittedRing}
-use Rattle.session.specs.Poll.{reply, pickReply, refusedReply, pickWords, pollWay, polledBy, polledRingBy, polled, polledRing, recovered, isEmpty, atStart, resetReply}
-use Rattle.session.specs.Reclaim.{isFound, isShort, reclaimedRing}
+use Rattle.session.specs.Submit.{stepOf, insertOf, newRequest, answerOf, sessionAfter, ringAfter, submitWay, submitted, submittedRing}
+use Rattle.session.specs.Poll.{pickWords, pollWay, polledBy, polledRingBy, polled, polledRing}
+use Rattle.session.specs.Reclaim.{isFound, reclaimedRing}
 use Rattle.session.proofs.WellFormed.{WellFormed, facts}
-use Rattle.session.proofs.Laws.Record.{Sound, packets-split}
+use Rattle.session.proofs.Laws.Record.{Sound}
 use Rattle.session.proofs.Laws.Admitted.{admitted, told-of}
 use Rattle.session.proofs.Laws.Ended.{packets, map-amend, ended-packets}
 use Rattle.session.proofs.Laws.Stores.{stores-some, first-stores-some}
 use Rattle.session.proofs.Laws.Drained.{number, slot, drained-leaves, drained-none}
 use Rattle.session.proofs.Laws.Polls.{by-way}
-use Rattle.session.proofs.Laws.Tests.{chosen, second}
 
 -- ---- what the theorems speak of
 
@@ -84,9 +78,11 @@ submit-way-some (way.Refuse n) s t lengths ring h at some = some
 submit-way-some (way.TooLong i) s t lengths ring h at some = some
 submit-way-some (way.Spend n) s t lengths ring h at some = some
 submit-way-some way.Early s t lengths ring h at some = absurd (h refl)
-submit-way-some way.Cut s t lengths ring h at some = first-stores-some (slots (s .cfg)) (insertOf s t ring) (stepOf (s .cfg)) (t .words) 0 (t .base) lengths ring at some
+submit-way-some way.Cut s t lengths ring h at some =
+    first-stores-some (slots (s .cfg)) (insertOf s t ring) (stepOf (s .cfg)) (t .words) 0 (t .base) lengths ring at some
 submit-way-some way.Late s t lengths ring h at some = absurd (h refl)
-submit-way-some way.Accept s t lengths ring h at some = stores-some (slots (s .cfg)) (insertOf s t ring) (stepOf (s .cfg)) 0 (t .base) lengths ring at some
+submit-way-some way.Accept s t lengths ring h at some =
+    stores-some (slots (s .cfg)) (insertOf s t ring) (stepOf (s .cfg)) 0 (t .base) lengths ring at some
 
 -- A submission that is not refused with 14, whole or cut, clears no slot.
 pub submit-clears-none :
@@ -197,7 +193,8 @@ submit-order s t lengths ring i h = go (submitWay s t lengths ring)
 
 -- Accepted, it puts its request behind them, pending.
 pub submit-behind :
-    (s : IsoChannelState) (t : IsoTransfer) (lengths ring : List ℕ) → WellFormed s → submitWay s t lengths ring ≡ way.Accept → Behind s lengths (submitted s t lengths ring .session)
+    (s : IsoChannelState) (t : IsoTransfer) (lengths ring : List ℕ) → WellFormed s → submitWay s t lengths ring ≡ way.Accept
+    → Behind s lengths (submitted s t lengths ring .session)
 submit-behind s t lengths ring well h =
     let new = newRequest (s .head .«next_request_id») (length lengths) in
     let room = admitted s t lengths ring (told-of s t lengths ring way.Accept h .0) in

@@ -1,51 +1,39 @@
 -- Reclaim hands out each completed request once and frees exactly its packets; the other results are as they were, in order. Each is a fact of the
 -- definitions in specs/, and so, by the promise of `reclaim`, of the call.
-use mathlib.Core.Path.{_≡_, refl, _∙_, sym, ap, subst}
+use mathlib.Core.Path.{_≡_, _∙_, sym, ap, subst}
 use mathlib.Core.Bool.{Bool, true, false}
-use mathlib.Core.List.{List, map, _++_}
-use mathlib.Core.Logic.{_≢_, _⊎_, inl, inr}
+use mathlib.Core.List.{List, _++_}
+use mathlib.Core.Logic.{_⊎_, inl, inr}
 use Prim.Native.Nat.{ℕ, _+_, _-_, _≤_, _<_}
 use native.Mathlib.Omega.{arith}
 use lib.Dec.{ltb}
-use lib.ListN.{length, getD}
-use lib.Seq.{slice, getD-set-same, getD-set-other}
+use lib.ListN.{length}
+use lib.Seq.{slice}
 use borrow.Author.Tests.{ltb-true, le-ltb}
 use Rattle.session.specs.declared.types.IsoChannelState.{IsoChannelState}
-use Rattle.session.specs.declared.types.IsoHaltReason.the-variants as reason
-use Rattle.session.specs.declared.types.IsoHead.{IsoHead}
 use Rattle.session.specs.declared.types.IsoOutcome.{IsoOutcome}
-use Rattle.session.specs.declared.types.IsoOutcome.the-variants as outcome
-use Rattle.session.specs.declared.transfer.IsoTransfer.{IsoTransfer}
-use Rattle.session.specs.declared.transfer.SubmitWay.{SubmitWay}
-use Rattle.session.specs.declared.transfer.SubmitWay.the-variants as way
 use Rattle.session.specs.declared.reply.IsoAnswer.the-variants as answer
 use Rattle.session.specs.declared.reply.IsoEvent.{IsoEvent}
 use Rattle.session.specs.declared.reply.IsoReply.{IsoReply}
-use Rattle.session.specs.declared.reply.PollWay.{PollWay}
-use Rattle.session.specs.declared.reply.PollWay.the-variants.{Nothing, End, Halt, Wait, Settle}
 use Rattle.session.specs.declared.reply.ReclaimAnswer.{ReclaimAnswer}
 use Rattle.session.specs.declared.reply.ReclaimAnswer.the-variants as reclaim
 use Rattle.session.specs.declared.reply.Reclaimed.{Reclaimed}
 use Rattle.session.specs.Numbers.{reclaimPackets}
-use Rattle.session.specs.Session.{blankRequest, blankPlan, slots, ringWords, packetsOf, allPackets, pendingRequests, hasReason}
+use Rattle.session.specs.Session.{ringWords, packetsOf, allPackets, pendingRequests}
 use Rattle.session.specs.Record.{isBadRecord}
 use Rattle.session.specs.Settle.{oldestFrom}
-use Rattle.session.specs.End.{withOutcome, ended}
-use Rattle.session.specs.Submit.{stepOf, insertOf, pendingPlans, withHead, spent, unplugged, newRequest, accepted, plansFrom, sessionAfter, submitWay, submitted}
-use Rattle.session.specs.Poll.{reply, pickReply, refusedReply, withReason, pollWay, polledBy, polled, recovered, isEmpty, atStart, resetReply}
-use Rattle.session.specs.Cancel.{requestAt, withCancelled, cancelled}
+use Rattle.session.specs.Submit.{pendingPlans}
+use Rattle.session.specs.Poll.{reply, pickReply, pollWay, polledBy}
+use Rattle.session.specs.Cancel.{requestAt}
 use Rattle.session.specs.Reclaim.{isFound, looked, requestOf, plansBegin, plansEnd, removed, handedAnswer, reclaimReply, pickReclaimed, pickAnswer, lookedAgain, isShort, reclaimed}
 use Rattle.session.proofs.WellFormed.{WellFormed, facts}
 use Rattle.session.proofs.Results.{ResultsKept, results-same, way-results, reply-results}
 use Rattle.session.proofs.Course.{InOrder, order-same, way-order}
 use Rattle.session.proofs.Laws.Record.{Sound, not-bad}
 use Rattle.session.proofs.Laws.Ended.{packets-kept}
-use Rattle.session.proofs.Laws.Drained.{drained-leaves}
-use Rattle.session.proofs.Laws.Lists.{getD-sets-before}
 use Rattle.session.proofs.Laws.Places.{NumbersDiffer, differ-kept, place-kept, number-at, place-gone}
-use Rattle.session.proofs.Laws.Polls.{by-way}
 use Rattle.session.proofs.Laws.Reclaims.{looked-sound, reclaimed-sound}
-use Rattle.session.proofs.Laws.Removed.{removed-completed, removed-completed-plans, removed-pending, removed-packets, removed-sound}
+use Rattle.session.proofs.Laws.Removed.{removed-completed, removed-completed-plans, removed-pending, removed-packets}
 use Rattle.session.proofs.Laws.Tests.{chosen, second, in-turn, none}
 
 -- ---- what the theorems speak of
@@ -154,7 +142,8 @@ module _ (s : IsoChannelState) (id : ℕ) (e : IsoEvent) (ring : List ℕ) (resu
   -- ---- "reclaim hands out each completed request once and frees exactly its packets"
 
   -- The one that it hands out had the number, and the session is without it.
-  pub reclaim-hands-out : (o : IsoOutcome) (total n : ℕ) → reclaimed s id e ring results .answer ≡ reclaim.Completed o total n → HandedOut id l o total n r
+  pub reclaim-hands-out :
+      (o : IsoOutcome) (total n : ℕ) → reclaimed s id e ring results .answer ≡ reclaim.Completed o total n → HandedOut id l o total n r
   reclaim-hands-out o total n =
       by-look (λ (x : Reclaimed). x .answer ≡ reclaim.Completed o total n → HandedOut id l o total n (x .session))
       (λ k u. let z : _≡_ {A = ℕ} 0 1 = cc in absurd (omega arith))
@@ -199,8 +188,14 @@ module _ (s : IsoChannelState) (id : ℕ) (e : IsoEvent) (ring : List ℕ) (resu
         not-yet true u = let z : _≡_ {A = ℕ} 0 1 = cc in absurd (omega arith)
         not-yet false u = let z : _≡_ {A = ℕ} 0 1 = cc in absurd (omega arith)
 
-    -- So reclaiming it again answers 15, whatever the event and the ring.
+    r-sound : Sound r
+    r-sound = reclaimed-sound s id e ring results (facts s well)
+
+    pub reclaim-not-found : NumbersDiffer s → isFound id r ≡ false
+    reclaim-not-found differ = le-ltb (requestAt id r) (r .head .done) (omega (arith, reclaim-gone differ, r-sound .done-in))
+
+    -- So reclaiming it again answers 15, whatever the event and the ring: the poll changes no number.
     pub reclaim-once :
         NumbersDiffer s → (later : IsoEvent) (words : List ℕ) (room : ℕ) → ringWords (r .cfg) ≤ length words → 255 ≤ room
         → reclaimed r id later words room .answer ≡ reclaim.Refused 15
-    reclaim-once differ later words room long wide = unknown r id later words room (reclaimed-sound s id e ring results (facts s well)) (reclaim-gone differ) long wide
+    reclaim-once differ later words room long wide = unknown r id later words room r-sound (reclaim-gone differ) long wide

@@ -1,15 +1,15 @@
 -- A completed result never changes again except by cancel: what each call leaves of the completed requests and their plans. For reclaim see
 -- HandedOut.antt. Each is a fact of the definitions in specs/, and so, by the promises of the calls, of the code.
-use mathlib.Core.Path.{_≡_, refl, _∙_, sym, ap, subst}
+use mathlib.Core.Path.{_≡_, refl}
 use mathlib.Core.Bool.{Bool, true, false}
-use mathlib.Core.List.{List, map, _++_}
+use mathlib.Core.List.{List, map}
 use mathlib.Core.Logic.{_≢_, _⊎_, inl, inr}
-use Prim.Native.Nat.{ℕ, _+_, _-_, _≤_, _<_}
+use Prim.Native.Nat.{ℕ, _≤_, _<_}
 use native.Mathlib.Omega.{arith}
 use lib.Dec.{ltb}
 use lib.ListN.{length, getD}
-use lib.Seq.{slice, getD-set-same, getD-set-other}
-use borrow.Author.Tests.{ltb-true, le-ltb}
+use lib.Seq.{getD-set-same, getD-set-other}
+use borrow.Author.Tests.{ltb-true}
 use Rattle.session.specs.declared.types.IsoChannelState.{IsoChannelState}
 use Rattle.session.specs.declared.types.IsoHaltReason.the-variants as reason
 use Rattle.session.specs.declared.types.IsoHead.{IsoHead}
@@ -23,29 +23,19 @@ use Rattle.session.specs.declared.reply.IsoEvent.{IsoEvent}
 use Rattle.session.specs.declared.reply.IsoReply.{IsoReply}
 use Rattle.session.specs.declared.reply.PollWay.{PollWay}
 use Rattle.session.specs.declared.reply.PollWay.the-variants.{Nothing, End, Halt, Wait, Settle}
-use Rattle.session.specs.declared.reply.ReclaimAnswer.{ReclaimAnswer}
-use Rattle.session.specs.declared.reply.ReclaimAnswer.the-variants as reclaim
-use Rattle.session.specs.declared.reply.Reclaimed.{Reclaimed}
-use Rattle.session.specs.Numbers.{reclaimPackets}
 use Rattle.session.specs.Session.{blankRequest, blankPlan, slots, ringWords, allPackets, pendingRequests, hasReason}
 use Rattle.session.specs.Record.{isBadRecord}
 use Rattle.session.specs.Settle.{oldestFrom}
 use Rattle.session.specs.End.{withOutcome, ended}
-use Rattle.session.specs.Submit.{stepOf, insertOf, pendingPlans, withHead, spent, unplugged, newRequest, accepted, plansFrom, sessionAfter, submitWay, submitted}
+use Rattle.session.specs.Submit.{stepOf, insertOf, withHead, spent, unplugged, newRequest, accepted, plansFrom, sessionAfter, submitWay, submitted}
 use Rattle.session.specs.Poll.{reply, pickReply, refusedReply, withReason, pollWay, polledBy, polled, recovered, isEmpty, atStart, resetReply}
 use Rattle.session.specs.Cancel.{requestAt, withCancelled, cancelled}
-use Rattle.session.specs.Reclaim.{isFound, looked, requestOf, plansBegin, plansEnd, removed, handedAnswer, reclaimReply, pickReclaimed, pickAnswer, lookedAgain, isShort, reclaimed}
 use Rattle.session.proofs.WellFormed.{WellFormed, facts}
-use Rattle.session.proofs.Course.{InOrder, order-same, way-order}
 use Rattle.session.proofs.Laws.Record.{Sound, packets-split}
-use Rattle.session.proofs.Laws.Ended.{packets-kept}
 use Rattle.session.proofs.Laws.Drained.{drained-leaves}
 use Rattle.session.proofs.Laws.Lists.{getD-sets-before}
-use Rattle.session.proofs.Laws.Places.{NumbersDiffer, differ-kept, place-kept, number-at, place-gone}
 use Rattle.session.proofs.Laws.Polls.{by-way}
-use Rattle.session.proofs.Laws.Reclaims.{looked-sound}
-use Rattle.session.proofs.Laws.Removed.{removed-completed, removed-completed-plans, removed-pending, removed-packets, removed-sound}
-use Rattle.session.proofs.Laws.Tests.{chosen, second, in-turn, none}
+use Rattle.session.proofs.Laws.Tests.{chosen}
 
 -- ---- what the theorems speak of
 
@@ -118,7 +108,9 @@ pub poll-results : (s : IsoChannelState) (e : IsoEvent) (ring : List ℕ) → We
 poll-results s e ring well =
     by-way s e ring (λ (r : IsoChannelState) (now : List ℕ). ResultsKept s r) (results-same s) (way-results (pollWay s e) s ring (facts s well))
 
-pub reply-results : (s : IsoChannelState) (b : Bool) (x y : IsoReply) → ResultsKept s (x .session) → ResultsKept s (y .session) → ResultsKept s (pickReply b x y .session)
+pub reply-results :
+    (s : IsoChannelState) (b : Bool) (x y : IsoReply) → ResultsKept s (x .session) → ResultsKept s (y .session)
+    → ResultsKept s (pickReply b x y .session)
 reply-results s b x y f g = chosen pickReply (λ (r : IsoReply). ResultsKept s (r .session)) b x y (λ u. f) (λ u. g)
 
 -- Nor does a reset, nor recovery.

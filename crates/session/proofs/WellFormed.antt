@@ -1,7 +1,7 @@
 -- Well-formedness is kept: a session whose record passes the check of refusal 18 passes it after every call, whatever the call is lent and answers. So
 -- a caller who starts with an accepted opening never sees 18. Each is a fact of the definitions in specs/, and so, by the promises of the calls, of
 -- the code.
-use mathlib.Core.Path.{_≡_, refl, _∙_, sym, ap, subst, subst⁻¹}
+use mathlib.Core.Path.{_≡_, refl, ap, subst⁻¹}
 use mathlib.Core.Bool.{Bool, true, false, cond}
 use mathlib.Core.List.{List, [], _∷_}
 use Prim.Native.Nat.{ℕ}
@@ -12,7 +12,6 @@ use Rattle.session.specs.declared.types.IsoChannelState.{IsoChannelState
 use Rattle.session.specs.declared.types.IsoConfig.{IsoConfig}
 use Rattle.session.specs.declared.types.IsoPacketPlan.{IsoPacketPlan}
 use Rattle.session.specs.declared.types.IsoRequest.{IsoRequest}
-use Rattle.session.specs.declared.types.OpenAnswer.{OpenAnswer}
 use Rattle.session.specs.declared.types.OpenAnswer.the-variants as answer
 use Rattle.session.specs.declared.transfer.IsoTransfer.{IsoTransfer}
 use Rattle.session.specs.declared.transfer.SubmitWay.{SubmitWay}
@@ -200,7 +199,8 @@ again-other id taken halt s =
     reclaim-other (isFound id s) (reclaimReply (handedAnswer (requestOf at s)) taken halt (removed at s))
     (reclaimReply (pickAnswer within reclaim.NotYet (reclaim.Refused 15)) taken halt s)
     (λ f e. omega arith)
-    (λ f. chosen pickAnswer (λ (a : ReclaimAnswer). Other (reclaimNumber a)) within reclaim.NotYet (reclaim.Refused 15) (λ h e. omega arith) (λ h e. omega arith))
+    (λ f. chosen pickAnswer (λ (a : ReclaimAnswer). Other (reclaimNumber a)) within reclaim.NotYet (reclaim.Refused 15) (λ h e. omega arith)
+    (λ h e. omega arith))
 
 -- No call on a record that passes the check answers 18.
 pub not-refused : (call : Call) (s : IsoChannelState) → isBadRecord s ≡ false → number call s ≡ 18 → ⊥

@@ -1,18 +1,18 @@
 -- What draining leaves: each request's number and packets, each plan's slot, what was completed before, and every word of the ring that is no word of
 -- a slot whose request it settled.
-use mathlib.Core.Path.{_≡_, refl, _∙_, sym, ap, subst}
+use mathlib.Core.Path.{_≡_, refl, _∙_, sym, ap}
 use mathlib.Core.Bool.{Bool, true, false, _||_}
 use mathlib.Core.List.{List, [], _∷_, map}
 use Prim.Native.Nat.{ℕ, zero, suc, _+_, _-_, _*_, _/_, _≤_, _<_}
 use native.Mathlib.Omega.{arith}
 use lib.Dec.{ltb}
 use lib.ListN.{length, getD, set, List·getD-map}
-use lib.Seq.{slice, sets, length-slice, getD-set-other, map-set-same}
+use lib.Seq.{length-slice, getD-set-other, map-set-same}
 use borrow.Author.Tests.{ltb-true, ltb-false}
 use Rattle.session.specs.declared.types.IsoPacketPlan.{IsoPacketPlan}
 use Rattle.session.specs.declared.types.IsoRequest.{IsoRequest}
 use Rattle.session.specs.declared.types.IsoChannelState.{IsoChannelState}
-use Rattle.session.specs.Session.{blankRequest, blankPlan, packetsOf, allPackets}
+use Rattle.session.specs.Session.{blankRequest, blankPlan}
 use Rattle.session.specs.Settle.{settledPlan, oldest, oldestFrom, oldestTo, oldestPlans, settledPlans, settledRequest, settledSession, slotsCleared, settledRing, isServed, Drained, pickDrained, drain, drained}
 use Rattle.session.proofs.Laws.Lists.{getD-slice, getD-sets-before}
 use Rattle.session.proofs.Laws.Record.{Sound, packets-next, packets-past, packets-split}
@@ -134,14 +134,17 @@ drain-leaves zero bit s ring g h = none s ring g
 drain-leaves (suc k) bit s ring g h =
     let rest = drain k false (settledSession s ring) (settledRing s ring) in
     chosen pickDrained (Drains s ring) (bit || isServed s ring) rest (record { session = s; ring = ring })
-    (λ e. one-more s ring rest g (omega arith) (drain-leaves k false (settledSession s ring) (settledRing s ring) (settled-sound s ring g (omega arith)) (omega arith)))
+    (λ e. one-more s ring rest g (omega arith)
+    (drain-leaves k false (settledSession s ring) (settledRing s ring) (settled-sound s ring g (omega arith)) (omega arith)))
     (λ e. none s ring g)
 
 pub drained-leaves : (bit : Bool) (s : IsoChannelState) (ring : List ℕ) → Sound s → Drains s ring (drained bit s ring)
 drained-leaves bit s ring g = drain-leaves (s .head .count - s .head .done) bit s ring g (omega (arith, g .done-in))
 
 -- where it settles none, the ring is as it was
-pub drained-none : (bit : Bool) (s : IsoChannelState) (ring : List ℕ) → Sound s → drained bit s ring .session .head .done ≡ s .head .done → drained bit s ring .ring ≡ ring
+pub drained-none :
+    (bit : Bool) (s : IsoChannelState) (ring : List ℕ) → Sound s → drained bit s ring .session .head .done ≡ s .head .done
+    → drained bit s ring .ring ≡ ring
 drained-none bit s ring g e = pending (ltb (s .head .done) (s .head .count)) refl
   where
     served : (b : Bool) → (bit || isServed s ring) ≡ b → s .head .done < s .head .count → drained bit s ring .ring ≡ ring

@@ -1,6 +1,6 @@
 -- Where a number stands among the requests in use: at a place that has it, or, where none has it, behind all of them. Its place depends on the
 -- numbers alone; and once its request is removed it has none, if the numbers differ.
-use mathlib.Core.Path.{_≡_, refl, _∙_, sym, ap, subst}
+use mathlib.Core.Path.{_≡_, refl, _∙_, sym, ap}
 use mathlib.Core.Bool.{Bool, true, false, cond}
 use mathlib.Core.List.{List, [], _∷_, map}
 use mathlib.Core.Logic.{_≢_}
