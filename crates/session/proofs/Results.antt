@@ -51,8 +51,8 @@ pub record AtMostCancelled (at : ℕ) (s r : IsoChannelState) : Type 0 where
   pub plans : r .plans ≡ s .plans
   pub other : (i : ℕ) → i ≢ at → getD (r .requests) i blankRequest ≡ getD (s .requests) i blankRequest
   pub named :
-    (getD (r .requests) at blankRequest ≡ getD (s .requests) at blankRequest)
-    ⊎ (getD (r .requests) at blankRequest ≡ withOutcome outcome.Cancelled (getD (s .requests) at blankRequest))
+      (getD (r .requests) at blankRequest ≡ getD (s .requests) at blankRequest)
+      ⊎ (getD (r .requests) at blankRequest ≡ withOutcome outcome.Cancelled (getD (s .requests) at blankRequest))
 
 -- ---- "a completed result never changes again except by cancel"
 

@@ -81,8 +81,8 @@ pub record Drains (s : IsoChannelState) (ring : List ℕ) (d : Drained) : Type 0
   pub request : (i : ℕ) → i < s .head .done → getD (d .session .requests) i blankRequest ≡ getD (s .requests) i blankRequest
   pub plan : (j : ℕ) → j < oldestFrom s → getD (d .session .plans) j blankPlan ≡ getD (s .plans) j blankPlan
   pub word :
-    (w : ℕ) → ((j : ℕ) → oldestFrom s ≤ j → j < oldestFrom (d .session) → slot (getD (s .plans) j blankPlan) ≡ w / 2 → ⊥)
-    → getD (d .ring) w 0 ≡ getD ring w 0
+      (w : ℕ) → ((j : ℕ) → oldestFrom s ≤ j → j < oldestFrom (d .session) → slot (getD (s .plans) j blankPlan) ≡ w / 2 → ⊥)
+      → getD (d .ring) w 0 ≡ getD ring w 0
 
 none : (s : IsoChannelState) (ring : List ℕ) → Sound s → Drains s ring (record { session = s; ring = ring })
 none s ring g =
