@@ -78,6 +78,14 @@ looked-order id e s ring g =
     chosen pickReply (λ (r : IsoReply). InOrder s (r .session)) (isFound id s) (reply answer.Done false false s) (polledBy (pollWay s e) s ring)
     (λ f. order-same s g) (λ f. way-order (pollWay s e) s ring g)
 
+-- a refusal, "not yet" and 15 hand nothing out
+refusal-none : (k : ℕ) (o : IsoOutcome) (total n : ℕ) → reclaim.Refused k ≡ reclaim.Completed o total n → ⊥
+refusal-none k o total n e = let z : _≡_ {A = ℕ} 0 1 = cc in absurd (omega arith)
+
+none-handed : (b : Bool) (o : IsoOutcome) (total n : ℕ) → pickAnswer b reclaim.NotYet (reclaim.Refused 15) ≡ reclaim.Completed o total n → ⊥
+none-handed true o total n e = let z : _≡_ {A = ℕ} 0 1 = cc in absurd (omega arith)
+none-handed false o total n e = refusal-none 15 o total n e
+
 -- a number that is at no place is refused with 15, whatever the poll does
 unknown :
     (s : IsoChannelState) (id : ℕ) (e : IsoEvent) (ring : List ℕ) (results : ℕ) → Sound s → requestAt id s ≡ s .head .count
@@ -146,13 +154,9 @@ module _ (s : IsoChannelState) (id : ℕ) (e : IsoEvent) (ring : List ℕ) (resu
       (o : IsoOutcome) (total n : ℕ) → reclaimed s id e ring results .answer ≡ reclaim.Completed o total n → HandedOut id l o total n r
   reclaim-hands-out o total n =
       by-look (λ (x : Reclaimed). x .answer ≡ reclaim.Completed o total n → HandedOut id l o total n (x .session))
-      (λ k u. let z : _≡_ {A = ℕ} 0 1 = cc in absurd (omega arith))
+      (λ k u. absurd (refusal-none k o total n u))
       (λ h u. record { without = without at l l-sound h; number = number-at l l-sound id (omega (arith, l-sound .done-in)); answer = sym u })
-      not-yet
-    where
-      not-yet : (b : Bool) → pickAnswer b reclaim.NotYet (reclaim.Refused 15) ≡ reclaim.Completed o total n → HandedOut id l o total n l
-      not-yet true u = let z : _≡_ {A = ℕ} 0 1 = cc in absurd (omega arith)
-      not-yet false u = let z : _≡_ {A = ℕ} 0 1 = cc in absurd (omega arith)
+      (λ b u. absurd (none-handed b o total n u))
 
   module _ (o : IsoOutcome) (total n : ℕ) (completed : reclaimed s id e ring results .answer ≡ reclaim.Completed o total n) where
     out : HandedOut id l o total n r
@@ -177,16 +181,12 @@ module _ (s : IsoChannelState) (id : ℕ) (e : IsoEvent) (ring : List ℕ) (resu
 
     -- Where the numbers in use differ, its number is at no place any more: neither completed nor pending.
     pub reclaim-gone : NumbersDiffer s → requestAt id r ≡ r .head .count
-    reclaim-gone differ = by-look IsGone (λ k u. let z : _≡_ {A = ℕ} 0 1 = cc in absurd (omega arith)) found not-yet completed
-      where
-        found : at < l .head .done → handedAnswer (requestOf at l) ≡ reclaim.Completed o total n → requestAt id (removed at l) ≡ l .head .count - 1
-        found h u =
-            subst (λ (k : ℕ). requestAt k (removed at l) ≡ l .head .count - 1) (number-at l l-sound id (omega (arith, l-sound .done-in)))
-            (place-gone l l-sound at h (differ-kept s l (order .count) (order .numbers) differ))
-
-        not-yet : (b : Bool) → pickAnswer b reclaim.NotYet (reclaim.Refused 15) ≡ reclaim.Completed o total n → requestAt id l ≡ l .head .count
-        not-yet true u = let z : _≡_ {A = ℕ} 0 1 = cc in absurd (omega arith)
-        not-yet false u = let z : _≡_ {A = ℕ} 0 1 = cc in absurd (omega arith)
+    reclaim-gone differ =
+        by-look IsGone (λ k u. absurd (refusal-none k o total n u))
+        (λ h u. subst (λ (k : ℕ). requestAt k (removed at l) ≡ l .head .count - 1) (number-at l l-sound id (omega (arith, l-sound .done-in)))
+        (place-gone l l-sound at h (differ-kept s l (order .count) (order .numbers) differ)))
+        (λ b u. absurd (none-handed b o total n u))
+        completed
 
     r-sound : Sound r
     r-sound = reclaimed-sound s id e ring results (facts s well)
