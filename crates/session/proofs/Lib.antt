@@ -1,5 +1,10 @@
--- The laws of a session's record, the facts of a submission and of an ending, and that each promise leaves one answer.
+-- The laws of a session's record; the facts of a submission, of an ending, of slots and order, of results and of the record check; and that each
+-- promise leaves one answer.
+pub mod Course
 pub mod Ending
 pub mod Facts
+pub mod HandedOut
 pub mod Laws
+pub mod Results
 pub mod Unique
+pub mod WellFormed

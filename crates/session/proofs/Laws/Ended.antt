@@ -42,7 +42,7 @@ module _ {A B : Type 0} (p : A → B) where
   map-drop (suc n) [] = refl
   map-drop (suc n) (a ∷ l) = map-drop n l
 
-  map-slice : (f t : ℕ) (l : List A) → map p (slice f t l) ≡ slice f t (map p l)
+  pub map-slice : (f t : ℕ) (l : List A) → map p (slice f t l) ≡ slice f t (map p l)
   map-slice f t l = map-drop f (take t l) ∙ ap (drop f) (map-take t l)
 
   -- what a change of an element leaves, a change of a part of a list leaves

@@ -3,13 +3,14 @@
 use mathlib.Core.Path.{_≡_, refl, _∙_, sym, ap, subst, subst⁻¹}
 use mathlib.Core.Bool.{Bool, true, false}
 use mathlib.Core.List.{List, [], _∷_, _++_, map}
+use mathlib.Core.Logic.{_≢_}
 use Prim.Native.Nat.{ℕ, zero, suc, _+_, _-_, _≤_, _<_}
 use native.Mathlib.Nat.{add-zero, le-trans, min-le-left}
 use native.Mathlib.Numerals.{add-one}
 use native.Mathlib.Omega.{arith}
 use lib.Dec.{ltb}
 use lib.ListN.{length, getD, set, take, drop, length-take, length-set, length-append, take-append-drop, drop-of-length-le}
-use lib.Seq.{sets, slice, length-sets, sets-eq, take-suc-set, take-set-lt, drop-set-lt, getD-set-same, getD-set-other, slice-cons, length-slice, length-take-le, take-take, take-at, drop-append-le, drop-append-add, drop-drop, getD-drop, getD-take}
+use lib.Seq.{sets, slice, length-sets, sets-eq, take-suc-set, take-set-lt, drop-set-lt, getD-set-same, getD-set-other, slice-cons, length-slice, length-take-le, take-take, take-at, take-append-add, drop-append-le, drop-append-add, drop-drop, getD-drop, getD-take}
 use borrow.Author.Tests.{ltb-true, ltb-false}
 
 module _ {ℓ} {A : Type ℓ} where
@@ -168,16 +169,31 @@ module _ {ℓ} {A : Type ℓ} where
       ∙ drop-drop (m - f) f (take t l)
       ∙ ap (λ (j : ℕ). slice j t l) on
 
-  -- what holds of each entry below `t` holds of each below the new end
-  pub closed-each :
-      (P : A → Type 0) (at f t : ℕ) (l : List A) (d : A) → at ≤ f → f ≤ t → t ≤ length l → ((i : ℕ) → i < t → P (getD l i d))
+  -- in front of what an entry `m` of the part moved to stand those before `at` and the part up to `m`
+  pub closed-part :
+      (at f m t : ℕ) (l : List A) → at ≤ f → f ≤ m → m ≤ t → t ≤ length l
+      → slice 0 (at + (m - f)) (sets l at (slice f t l)) ≡ slice 0 at l ++ slice f m l
+  closed-part at f m t l h k u n =
+      let long : length (take at l) ≡ at = length-take-le at l (omega arith) in
+      let many : length (slice f m l) ≡ m - f = length-slice f m l (omega arith) in
+      sym (take-take (at + (m - f)) (at + (t - f)) (sets l at (slice f t l)) (omega arith))
+      ∙ ap (take (at + (m - f))) (closed-front at f t l h (omega arith) n)
+      ∙ ap (λ (j : ℕ). take (j + (m - f)) (take at l ++ slice f t l)) (sym long)
+      ∙ take-append-add (take at l) (slice f t l) (m - f)
+      ∙ ap (λ (xs : List A). take at l ++ take (m - f) xs) (slice-split f m t l k u n)
+      ∙ ap (λ (xs : List A). take at l ++ xs) (take-at (slice f m l) (slice m t l) (m - f) many)
+
+  -- what holds of each entry before `at` and of each of the part holds of each below the new end
+  pub closed-parts :
+      (P : A → Type 0) (at f t : ℕ) (l : List A) (d : A) → at ≤ f → f ≤ t → t ≤ length l
+      → ((i : ℕ) → i < at → P (getD l i d)) → ((i : ℕ) → f ≤ i → i < t → P (getD l i d))
       → (i : ℕ) → i < at + (t - f) → P (getD (sets l at (slice f t l)) i d)
-  closed-each P at f t l d h k n g i u = go (ltb i at) refl
+  closed-parts P at f t l d h k n before part i u = go (ltb i at) refl
     where
       go : (b : Bool) → ltb i at ≡ b → P (getD (sets l at (slice f t l)) i d)
       go true e =
           let less : i < at = ltb-true i at e in
-          subst⁻¹ P (getD-sets-before (slice f t l) l at i d less) (g i (omega arith))
+          subst⁻¹ P (getD-sets-before (slice f t l) l at i d less) (before i less)
       go false e =
           let past : at ≤ i = ltb-false i at e in
           let many : length (slice f t l) ≡ t - f = length-slice f t l n in
@@ -186,4 +202,18 @@ module _ {ℓ} {A : Type ℓ} where
           ap (λ (j : ℕ). getD (sets l at (slice f t l)) j d) (sym back)
           ∙ getD-sets-in (slice f t l) l at (i - at) d (omega (arith, many)) (omega (arith, many))
           ∙ getD-slice f t (i - at) l d (omega arith) in
-          subst⁻¹ P moved (g (f + (i - at)) (omega arith))
+          subst⁻¹ P moved (part (f + (i - at)) (omega arith) (omega arith))
+
+  -- and so what holds of each below `t`
+  pub closed-each :
+      (P : A → Type 0) (at f t : ℕ) (l : List A) (d : A) → at ≤ f → f ≤ t → t ≤ length l → ((i : ℕ) → i < t → P (getD l i d))
+      → (i : ℕ) → i < at + (t - f) → P (getD (sets l at (slice f t l)) i d)
+  closed-each P at f t l d h k n g = closed-parts P at f t l d h k n (λ i u. g i (omega arith)) (λ i u v. g i v)
+
+-- a store that puts something other than 0, or goes elsewhere, makes no entry 0
+pub set-some : (l : List ℕ) (i a k : ℕ) → (k ≡ i → a ≢ 0) → getD l k 0 ≢ 0 → getD (set l i a) k 0 ≢ 0
+set-some [] i a k h some = some
+set-some (x ∷ l) zero a zero h some = h refl
+set-some (x ∷ l) zero a (suc k) h some = some
+set-some (x ∷ l) (suc i) a zero h some = some
+set-some (x ∷ l) (suc i) a (suc k) h some = set-some l i a k (λ e. h (ap suc e)) some

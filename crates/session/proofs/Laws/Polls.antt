@@ -3,6 +3,8 @@ use mathlib.Core.Path.{_≡_, sym, _∙_, ap}
 use mathlib.Core.List.{List}
 use mathlib.Core.Bool.{Bool, true, false}
 use Prim.Native.Nat.{ℕ}
+use lib.Dec.{ltb}
+use lib.ListN.{length}
 use Rattle.words.specs.Words.{isSet, complete, halted}
 use Rattle.words.specs.declared.types.Dwc2TransferFault.{Dwc2TransferFault}
 use Rattle.words.specs.declared.types.HcintFault.{HcintFault}
@@ -14,10 +16,13 @@ use Rattle.session.specs.declared.types.IsoHaltReason.the-variants as re
 use Rattle.session.specs.declared.types.IsoOutcome.{IsoOutcome}
 use Rattle.session.specs.declared.types.IsoOutcome.the-variants as outcome
 use Rattle.session.specs.declared.types.IsoChannelState.{IsoChannelState}
+use Rattle.session.specs.declared.reply.IsoEvent.{IsoEvent}
 use Rattle.session.specs.declared.reply.IsoReply.{IsoReply}
 use Rattle.session.specs.declared.reply.PollWay.{PollWay}
 use Rattle.session.specs.declared.reply.PollWay.the-variants.{Nothing, End, Halt, Wait, Settle}
-use Rattle.session.specs.Poll.{outcomeOf, pickPoll, wayByReason, wayByFault, polledBy, polledRingBy}
+use Rattle.session.specs.Session.{ringWords}
+use Rattle.session.specs.Record.{isBadRecord}
+use Rattle.session.specs.Poll.{outcomeOf, pickPoll, wayByReason, wayByFault, pollWay, polledBy, polledRingBy, pickReply, refusedReply, pickWords, polled, polledRing}
 
 pub unexpected : {f : IsoFatal} {b : Bool} (word : ℕ) → f ≡ fatal.Nothing → b ≡ isSet halted word → b ≡ true → End (outcome.UnexpectedHalt word) ≡ wayByReason f word
 unexpected word e p t = let h : isSet halted word ≡ true = sym p ∙ t in rw (e, h)
@@ -56,3 +61,17 @@ polled-by s ring e p = p ∙ ap (λ (w : PollWay). polledBy w s ring) (sym e)
 
 pub polled-ring-by : (s : IsoChannelState) (ring : List ℕ) {w way : PollWay} {r : List ℕ} → w ≡ way → r ≡ polledRingBy way s ring → r ≡ polledRingBy w s ring
 polled-ring-by s ring e p = p ∙ ap (λ (w : PollWay). polledRingBy w s ring) (sym e)
+
+-- what holds of session and ring as they came, and as the way leaves them, holds of what the whole call leaves
+pub by-way :
+    (s : IsoChannelState) (e : IsoEvent) (ring : List ℕ) (P : IsoChannelState → List ℕ → Type 0)
+    → P s ring → P (polledBy (pollWay s e) s ring .session) (polledRingBy (pollWay s e) s ring) → P (polled s e ring .session) (polledRing s e ring)
+by-way s e ring P same by = tests (ltb (length ring) (ringWords (s .cfg))) (isBadRecord s)
+  where
+    tests :
+        (a b : Bool)
+        → P (pickReply a (refusedReply 17 s) (pickReply b (refusedReply 18 s) (polledBy (pollWay s e) s ring)) .session)
+        (pickWords a ring (pickWords b ring (polledRingBy (pollWay s e) s ring)))
+    tests true b = same
+    tests false true = same
+    tests false false = by

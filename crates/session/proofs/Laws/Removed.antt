@@ -9,9 +9,10 @@ use lib.ListN.{length}
 use lib.Seq.{slice, length-sets}
 use Rattle.session.specs.declared.types.IsoChannelState.{IsoChannelState}
 use Rattle.session.specs.Session.{blankRequest, blankPlan, slots, packetsOf, pendingRequests, allPackets, pendingPackets}
+use Rattle.session.specs.Settle.{oldestFrom}
 use Rattle.session.specs.Submit.{pendingPlans}
 use Rattle.session.specs.Reclaim.{requestOf, plansBegin, plansEnd, removed}
-use Rattle.session.proofs.Laws.Lists.{closed-front, closed-end, closed-each}
+use Rattle.session.proofs.Laws.Lists.{closed-front, closed-end, closed-part, closed-each}
 use Rattle.session.proofs.Laws.Record.{Sound, GoodRequest, GoodPlan, packets-next, packets-append, packets-split}
 
 module _ (at : ℕ) (s : IsoChannelState) (g : Sound s) (h : at < s .head .done) where
@@ -87,6 +88,31 @@ module _ (at : ℕ) (s : IsoChannelState) (g : Sound s) (h : at < s .head .done)
   -- the pending requests and their plans are as they were
   pub removed-pending : (pendingRequests (removed at s) ≡ pendingRequests s) × (pendingPlans (removed at s) ≡ pendingPlans s)
   removed-pending = (pending-requests, pending-plans)
+
+  -- and so are the completed ones and theirs, but for it
+  pub removed-completed : slice 0 (s .head .done - 1) (removed at s .requests) ≡ slice 0 at (s .requests) ++ slice (at + 1) (s .head .done) (s .requests)
+  removed-completed =
+      let fewer-done : s .head .done - 1 ≡ at + (s .head .done - (at + 1)) = omega arith in
+      ap (λ (n : ℕ). slice 0 n (removed at s .requests)) fewer-done
+      ∙ closed-part at (at + 1) (s .head .done) count (s .requests) (omega arith) (omega arith) (g .done-in) fits
+
+  -- the packets of the completed ones
+  completed-parts : oldestFrom s ≡ plansEnd at s + packetsOf (slice (at + 1) (s .head .done) (s .requests))
+  completed-parts =
+      let within : s .head .done ≤ length (s .requests) = omega (arith, g .done-in, fits) in
+      omega (arith, packets-split at (s .head .done) (s .requests) (omega arith) within, packets-next at (s .head .done) (s .requests) h within)
+
+  removed-from : oldestFrom (removed at s) ≡ plansBegin at s + (oldestFrom s - plansEnd at s)
+  removed-from =
+      let sum = ap packetsOf removed-completed ∙ packets-append (slice 0 at (s .requests)) (slice (at + 1) (s .head .done) (s .requests)) in
+      omega (arith, sum, completed-parts)
+
+  pub removed-completed-plans :
+      slice 0 (oldestFrom (removed at s)) (removed at s .plans) ≡ slice 0 (plansBegin at s) (s .plans) ++ slice (plansEnd at s) (oldestFrom s) (s .plans)
+  removed-completed-plans =
+      let some : oldestFrom s ≤ allPackets s = omega (arith, packets-split (s .head .done) count (s .requests) (g .done-in) fits) in
+      ap (λ (n : ℕ). slice 0 n (removed at s .plans)) removed-from
+      ∙ closed-part (plansBegin at s) (plansEnd at s) (oldestFrom s) (allPackets s) (s .plans) (omega arith) (omega (arith, completed-parts)) some plans-fit
 
   pub removed-sound : Sound (removed at s)
   removed-sound =

@@ -3,6 +3,7 @@
 use mathlib.Core.Path.{_≡_, refl, sym, ap, _∙_}
 use mathlib.Core.Bool.{Bool, true, false, _||_, cond, or-true, or-false, or-assoc}
 use mathlib.Core.List.{List, [], _∷_}
+use mathlib.Core.Logic.{_≢_}
 use Prim.Native.Nat.{ℕ, zero, suc, _+_, _-_, _*_, _%_, _≤_, _<_}
 use native.Mathlib.Nat.{add-zero, zero-add, mul-suc}
 use native.Mathlib.Numerals.{add-one}
@@ -19,6 +20,7 @@ use Rattle.session.specs.declared.types.IsoPacketPlan.{IsoPacketPlan}
 use Rattle.session.specs.declared.types.TransferStatus.the-variants.{Completed}
 use Rattle.session.specs.Session.{blankPlan}
 use Rattle.session.specs.Submit.{Store, stored, isLast, storesFrom, plansFrom, sum, firstLong, isHeld, anyHeld}
+use Rattle.session.proofs.Laws.Lists.{set-some}
 
 -- ---- lists and slots
 
@@ -64,6 +66,43 @@ module _ (R insert step : ℕ) where
   whole-plan i addr k lengths ring h =
       let all : length (storesFrom R insert step i addr lengths) ≤ k = omega (arith, length-storesFrom i addr lengths) in
       ap (λ (xs : List Store). stored xs ring) (take-all k (storesFrom R insert step i addr lengths) all)
+
+-- the status word of a packet is not 0: its active bit is set
+status-some : (len : ℕ) (last : Bool) → isoStatus len last ≢ 0
+status-some len last e = omega (arith, e)
+
+-- stores that put 0 at no status word
+abbrev Clearless : List Store → Type 0
+Clearless [] = Unit
+Clearless (x ∷ xs) = ((slot : ℕ) → 2 * slot ≡ x .word → x .value ≢ 0) × Clearless xs
+
+clearless-take : (k : ℕ) (xs : List Store) → Clearless xs → Clearless (take k xs)
+clearless-take zero xs h = tt
+clearless-take (suc k) [] h = tt
+clearless-take (suc k) (x ∷ xs) h = (h .0, clearless-take k xs (h .1))
+
+clearless-stored : (xs : List Store) (ring : List ℕ) (slot : ℕ) → Clearless xs → getD ring (2 * slot) 0 ≢ 0 → getD (stored xs ring) (2 * slot) 0 ≢ 0
+clearless-stored [] ring slot h some = some
+clearless-stored (x ∷ xs) ring slot h some =
+    clearless-stored xs (set ring (x .word) (x .value)) slot (h .1) (set-some ring (x .word) (x .value) (2 * slot) (h .0 slot) some)
+
+-- the words of a submission, or as many as may be stored, leave no status word 0 that was not
+module _ (R insert step : ℕ) where
+  stores-clearless : (i addr : ℕ) (lengths : List ℕ) → Clearless (storesFrom R insert step i addr lengths)
+  stores-clearless i addr [] = tt
+  stores-clearless i addr (l ∷ ls) = ((λ slot e. absurd (omega arith)), ((λ slot e. status-some l (isLast ls)), stores-clearless (suc i) (addr + l) ls))
+
+  pub stores-some :
+      (i addr : ℕ) (lengths ring : List ℕ) (slot : ℕ) → getD ring (2 * slot) 0 ≢ 0
+      → getD (stored (storesFrom R insert step i addr lengths) ring) (2 * slot) 0 ≢ 0
+  stores-some i addr lengths ring slot = clearless-stored (storesFrom R insert step i addr lengths) ring slot (stores-clearless i addr lengths)
+
+  pub first-stores-some :
+      (k i addr : ℕ) (lengths ring : List ℕ) (slot : ℕ) → getD ring (2 * slot) 0 ≢ 0
+      → getD (stored (take k (storesFrom R insert step i addr lengths)) ring) (2 * slot) 0 ≢ 0
+  first-stores-some k i addr lengths ring slot =
+      let xs = storesFrom R insert step i addr lengths in
+      clearless-stored (take k xs) ring slot (clearless-take k xs (stores-clearless i addr lengths))
 
 -- no word may be stored any more: the ring stays
 pub stored-none : (left : ℕ) (xs : List Store) (ring : List ℕ) → left ≡ 0 → ring ≡ stored (take left xs) ring
