@@ -25,9 +25,10 @@ use Rattle.session.specs.Poll.{reply, pickReply, pickWords, refusedReply, withR
 use Rattle.session.specs.Cancel.{requestAt, withCancelled, cancelled}
 use Rattle.session.proofs.Laws.Record.{Sound}
 use Rattle.session.proofs.Laws.Ended.{packets, packets-kept, reset-sound, amended-sound, reason-sound}
+use Rattle.session.specs.Reclaim.{requestOf}
 use Rattle.laws.specs.Drawing.{Laid, drawn, Among}
 use Rattle.laws.specs.Run.{State, Cancel, Reset, stillPut, left, step}
-use Rattle.laws.specs.Demand3.{slotOfPlan, requestOf}
+use Rattle.laws.specs.Demand3.{slotOfPlan}
 use Rattle.laws.specs.Invariant.{Fits, Numbered, Invariant}
 use Rattle.laws.proofs.Lists.{among-later}
 use Rattle.laws.proofs.Fitting.{blank, put-length}
@@ -42,7 +43,7 @@ pub record Keeps (st : State) (s : IsoChannelState) (ring : List ℕ) : Type 0 w
 -- one number more does no harm
 pub numbered-more : (s : IsoChannelState) (b : Bool) (n : ℕ) (numbers : List ℕ) → Numbered s numbers → Numbered s (pickWords b numbers (n ∷ numbers))
 numbered-more s true n numbers h = h
-numbered-more s false n numbers h = record { used = λ i k. among-later (requestOf s i .id) n numbers (h .used i k); differ = h .differ }
+numbered-more s false n numbers h = record { used = λ i k. among-later (requestOf i s .id) n numbers (h .used i k); differ = h .differ }
 
 pub left-invariant : (st : State) (s : IsoChannelState) (ring : List ℕ) → Keeps st s ring → Invariant (left st s ring)
 left-invariant st s ring h =
@@ -90,7 +91,7 @@ pub numbered-same :
     (s r : IsoChannelState) (numbers : List ℕ) → Numbered s numbers → r .head .count ≡ s .head .count → map idOf (r .requests) ≡ map idOf (s .requests)
     → Numbered r numbers
 numbered-same s r numbers h c e =
-    let same : (i : ℕ) → requestOf r i .id ≡ requestOf s i .id =
+    let same : (i : ℕ) → requestOf i r .id ≡ requestOf i s .id =
     λ i. sym (List·getD-map idOf (r .requests) i blankRequest) ∙ ap (λ (l : List ℕ). getD l i 0) e ∙ List·getD-map idOf (s .requests) i blankRequest in
     record {
       used = λ i k. subst⁻¹ (λ (n : ℕ). Among n numbers) (same i) (h .used i (omega (arith, c)));
@@ -117,7 +118,7 @@ picked P false x y f g = g refl
 module _ (st : State) (v : Invariant st) where
   module _ (at : ℕ) where
     abbrev amended : IsoRequest
-    amended = withOutcome outcome.Cancelled (requestOf (st .session) at)
+    amended = withOutcome outcome.Cancelled (requestOf at (st .session))
 
     amended-sums : (f : ℕ)
         → packetsOf (slice f (st .session .head .count) (set (st .session .requests) at amended)) ≡ packetsOf (slice f (st .session .head .count) (st .session .requests))

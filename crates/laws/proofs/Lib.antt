@@ -11,7 +11,6 @@ pub mod Planned
 pub mod Polling
 pub mod Promises
 pub mod Reclaiming
-pub mod Removed
 pub mod Settling
 pub mod Stopping
 pub mod Submitting

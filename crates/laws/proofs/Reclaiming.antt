@@ -6,6 +6,7 @@ use Prim.Native.Nat.{ℕ, _+_, _-_, _≤_, _<_}
 use native.Mathlib.Omega.{arith}
 use lib.Dec.{ltb}
 use lib.ListN.{length, drop}
+use lib.Seq.{slice, length-slice}
 use borrow.Author.Tests.{ltb-true, ltb-false}
 use Rattle.session.specs.declared.types.IsoRequest.{IsoRequest}
 use Rattle.session.specs.declared.types.IsoChannelState.{IsoChannelState}
@@ -13,17 +14,39 @@ use Rattle.session.specs.declared.reply.IsoAnswer.the-variants as answer
 use Rattle.session.specs.declared.reply.IsoEvent.{IsoEvent}
 use Rattle.session.specs.declared.reply.Reclaimed.{Reclaimed}
 use Rattle.session.specs.declared.reply.ReclaimAnswer.the-variants as reclaim
+use Rattle.session.specs.Session.{blankRequest, packetsOf}
 use Rattle.session.specs.Record.{isBadRecord}
 use Rattle.session.specs.Poll.{reply, pickReply, pickWords, pollWay, polledBy, polledRingBy}
 use Rattle.session.specs.Cancel.{requestAt}
 use Rattle.session.specs.Reclaim.{isFound, looked, lookedRing, requestOf, removed, handedAnswer, reclaimReply, pickReclaimed, pickAnswer, lookedAgain, isShort, reclaimed, reclaimedRing}
+use Rattle.session.proofs.Laws.Lists.{getD-slice, getD-sets-before, getD-sets-in}
+use Rattle.session.proofs.Laws.Record.{Sound}
+use Rattle.session.proofs.Laws.Removed.{removed-pending, removed-sound}
 use Rattle.laws.specs.Drawing.{Among}
 use Rattle.laws.specs.Run.{State, Reclaim, stillPut, step}
 use Rattle.laws.specs.Demand3.{slotOfPlan}
 use Rattle.laws.specs.Invariant.{Fits, Numbered, Invariant}
 use Rattle.laws.proofs.Keeping.{Keeps, left-invariant, keeps-none}
 use Rattle.laws.proofs.Polling.{polling}
-use Rattle.laws.proofs.Removed.{removed-pending, removed-plans, removed-before, removed-behind, removed-sound}
+
+-- the requests before the one that goes stay, those behind it move down
+module _ (at : ℕ) (s : IsoChannelState) (g : Sound s) (h : at < s .head .done) where
+  abbrev moved : List IsoRequest
+  moved = slice (at + 1) (s .head .count) (s .requests)
+
+  removed-before : (i : ℕ) → i < at → requestOf i (removed at s) ≡ requestOf i s
+  removed-before i l = getD-sets-before moved (s .requests) at i blankRequest l
+
+  removed-behind : (i : ℕ) → at ≤ i → i < s .head .count - 1 → requestOf i (removed at s) ≡ requestOf (i + 1) s
+  removed-behind i l k =
+      let fits : s .head .count ≤ length (s .requests) = omega (arith, g .requests-long, g .count-in) in
+      let many : length moved ≡ s .head .count - (at + 1) = length-slice (at + 1) (s .head .count) (s .requests) fits in
+      let here : i ≡ at + (i - at) = omega arith in
+      let there : at + 1 + (i - at) ≡ i + 1 = omega arith in
+      ap (λ (j : ℕ). requestOf j (removed at s)) here
+      ∙ getD-sets-in moved (s .requests) at (i - at) blankRequest (omega (arith, many)) (omega (arith, many, fits, g .done-in))
+      ∙ getD-slice (at + 1) (s .head .count) (i - at) (s .requests) blankRequest (omega arith)
+      ∙ ap (λ (j : ℕ). requestOf j s) there
 
 abbrev idAt : IsoChannelState → ℕ → ℕ
 idAt s i = requestOf i s .id
@@ -50,7 +73,7 @@ module _ (s : IsoChannelState) (numbers : List ℕ) (v : Numbered s numbers) (at
 removed-keeps : (st : State) (s : IsoChannelState) (ring : List ℕ) → Keeps st s ring → (at : ℕ) → at < s .head .done → Keeps st (removed at s) ring
 removed-keeps st s ring k at h =
     let g = k .fits .sound in
-    let still : stillPut (removed at s) (st .put) ≡ stillPut s (st .put) = ap (λ (n : ℕ). drop (length (st .put) - n) (st .put)) (removed-pending at s g h) in
+    let still : stillPut (removed at s) (st .put) ≡ stillPut s (st .put) = ap (λ (n : ℕ). drop (length (st .put) - n) (st .put)) (ap packetsOf (removed-pending at s g h .0)) in
     record {
       guarded = k .guarded;
       fits =
@@ -59,7 +82,7 @@ removed-keeps st s ring k at h =
             sound = removed-sound at s g h;
             behind = k .fits .behind;
             drawing = k .fits .drawing;
-            in-order = k .fits .in-order ∙ ap (map slotOfPlan) (sym (removed-plans at s g h));
+            in-order = k .fits .in-order ∙ ap (map slotOfPlan) (sym (removed-pending at s g h .1));
             apart = k .fits .apart;
           });
       numbered =

@@ -24,9 +24,10 @@ use Rattle.session.proofs.Ending.{recovery-answers, recovery-idle, recovery-zer
 use Rattle.session.proofs.Laws.Record.{not-bad}
 use Rattle.session.proofs.Laws.Stores.{length-stored, whole-plan}
 use Rattle.session.proofs.Laws.Admitted.{Admitted}
+use Rattle.session.specs.Reclaim.{requestOf}
 use Rattle.laws.specs.Drawing.{Laid, blankLaid, wordsOf, slotOf, wordAt, Holds, Among, Absent}
 use Rattle.laws.specs.Run.{State, Touch}
-use Rattle.laws.specs.Demand3.{upTo, Submission, whole, stopped, plan, slotOfPacket, found, requestOf, Stopped, Recovered}
+use Rattle.laws.specs.Demand3.{upTo, Submission, whole, stopped, plan, slotOfPacket, found, Stopped, Recovered}
 use Rattle.laws.specs.Invariant.{Invariant}
 use Rattle.laws.proofs.Lists.{among-or-absent}
 use Rattle.laws.proofs.Drawn.{stores-are, stored-drawn, stored-other, stored-holds, absent-first, first-hold, status-among, Within, first-behind}
@@ -224,9 +225,9 @@ module _ (st : State) (x : Submission st) where
     long : ringWords (s .cfg) ≤ length left
     long = found-long v k l meanwhile
 
-    once : (i j : ℕ) → i < j → j < s .head .count → requestOf (recovered s (length left) .session) i .id ≡ requestOf (recovered s (length left) .session) j .id → ⊥
+    once : (i j : ℕ) → i < j → j < s .head .count → requestOf i (recovered s (length left) .session) .id ≡ requestOf j (recovered s (length left) .session) .id → ⊥
     once i j h m =
-        subst⁻¹ (λ (r : IsoReply). requestOf (r .session) i .id ≡ requestOf (r .session) j .id → ⊥) (recovery s (v .fits .sound) left long .0)
+        subst⁻¹ (λ (r : IsoReply). requestOf i (r .session) .id ≡ requestOf j (r .session) .id → ⊥) (recovery s (v .fits .sound) left long .0)
         (ended-numbered outcome.Disconnected s (v .fits .sound) (st .numbers) (v .numbered) .differ i j h m)
 
     pub recovering : Recovered st x (recovered s (length left)) (recoveredRing s left)

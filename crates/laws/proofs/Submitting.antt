@@ -24,9 +24,10 @@ use Rattle.session.proofs.Laws.Record.{Sound, packets-past}
 use Rattle.session.proofs.Laws.Stores.{length-stored, length-plansFrom}
 use Rattle.session.proofs.Laws.Kept.{spent-sound, unplugged-sound, all-pushed, pending-pushed, accepted-sound}
 use Rattle.session.proofs.Laws.Admitted.{Admitted}
+use Rattle.session.specs.Reclaim.{requestOf}
 use Rattle.laws.specs.Drawing.{Laid, drawn, slotOf, Among, Absent, Distinct}
 use Rattle.laws.specs.Run.{State, Touch, Submit, touchedBy, planned, usedUp, left, leftWith, recover, submitBy, step}
-use Rattle.laws.specs.Demand3.{slotOfPlan, requestOf}
+use Rattle.laws.specs.Demand3.{slotOfPlan}
 use Rattle.laws.specs.Invariant.{Fits, Numbered, Invariant}
 use Rattle.laws.proofs.Lists.{among-later, distinct-head, distinct-append, slice-behind, map-append}
 use Rattle.laws.proofs.Drawn.{drawn-append, stored-drawn, stores-are}
@@ -144,34 +145,34 @@ module _ (st : State) (t : IsoTransfer) (lengths : List ℕ) (v : Invariant st) 
   fits-in : s .head .count < length (s .requests)
   fits-in = omega (arith, h .entry .requests, v .fits .sound .requests-long)
 
-  id-before : (i : ℕ) → i < s .head .count → requestOf (accepted s t lengths (st .ring)) i .id ≡ requestOf s i .id
+  id-before : (i : ℕ) → i < s .head .count → requestOf i (accepted s t lengths (st .ring)) .id ≡ requestOf i s .id
   id-before i k = ap (λ (r : IsoRequest). r .id) (getD-set-other (s .requests) (s .head .count) i (newRequest next (length lengths)) blankRequest (omega arith))
 
-  id-last : requestOf (accepted s t lengths (st .ring)) (s .head .count) .id ≡ next
+  id-last : requestOf (s .head .count) (accepted s t lengths (st .ring)) .id ≡ next
   id-last = ap (λ (r : IsoRequest). r .id) (getD-set-same (s .requests) (s .head .count) (newRequest next (length lengths)) blankRequest fits-in)
 
   accepted-numbered : Absent next (st .numbers) → Numbered (accepted s t lengths (st .ring)) (next ∷ st .numbers)
   accepted-numbered fresh = record { used = λ i k. used i k (ltb i (s .head .count)) refl; differ = λ i j l k. differ i j l k (ltb j (s .head .count)) refl }
     where
       used : (i : ℕ) → i < s .head .count + 1 → (b : Bool) → ltb i (s .head .count) ≡ b
-          → Among (requestOf (accepted s t lengths (st .ring)) i .id) (next ∷ st .numbers)
+          → Among (requestOf i (accepted s t lengths (st .ring)) .id) (next ∷ st .numbers)
       used i k true e =
           let before : i < s .head .count = ltb-true i (s .head .count) e in
-          subst⁻¹ (λ (n : ℕ). Among n (next ∷ st .numbers)) (id-before i before) (among-later (requestOf s i .id) next (st .numbers) (v .numbered .used i before))
+          subst⁻¹ (λ (n : ℕ). Among n (next ∷ st .numbers)) (id-before i before) (among-later (requestOf i s .id) next (st .numbers) (v .numbered .used i before))
       used i k false e =
           let last : i ≡ s .head .count = omega (arith, ltb-false i (s .head .count) e) in
-          subst⁻¹ (λ (n : ℕ). Among n (next ∷ st .numbers)) (ap (λ (n : ℕ). requestOf (accepted s t lengths (st .ring)) n .id) last ∙ id-last) (0, omega arith, refl)
+          subst⁻¹ (λ (n : ℕ). Among n (next ∷ st .numbers)) (ap (λ (n : ℕ). requestOf n (accepted s t lengths (st .ring)) .id) last ∙ id-last) (0, omega arith, refl)
 
       differ :
           (i j : ℕ) → i < j → j < s .head .count + 1 → (b : Bool) → ltb j (s .head .count) ≡ b
-          → requestOf (accepted s t lengths (st .ring)) i .id ≡ requestOf (accepted s t lengths (st .ring)) j .id → ⊥
+          → requestOf i (accepted s t lengths (st .ring)) .id ≡ requestOf j (accepted s t lengths (st .ring)) .id → ⊥
       differ i j l k true e q =
           let before : j < s .head .count = ltb-true j (s .head .count) e in
           v .numbered .differ i j l before (sym (id-before i (omega arith)) ∙ q ∙ id-before j before)
       differ i j l k false e q =
           let last : j ≡ s .head .count = omega (arith, ltb-false j (s .head .count) e) in
           let before : i < s .head .count = omega arith in
-          let same : requestOf s i .id ≡ next = sym (id-before i before) ∙ q ∙ ap (λ (n : ℕ). requestOf (accepted s t lengths (st .ring)) n .id) last ∙ id-last in
+          let same : requestOf i s .id ≡ next = sym (id-before i before) ∙ q ∙ ap (λ (n : ℕ). requestOf n (accepted s t lengths (st .ring)) .id) last ∙ id-last in
           let a = v .numbered .used i before in
           fresh (a .0) (a .1) (a .2 ∙ same)
 

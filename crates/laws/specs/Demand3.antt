@@ -9,17 +9,16 @@ use lib.ListN.{length, getD, take}
 use Rattle.words.specs.Words.{isSet, active}
 use Rattle.ring.specs.RingSums.{slotAt}
 use Rattle.session.specs.declared.types.IsoPacketPlan.{IsoPacketPlan}
-use Rattle.session.specs.declared.types.IsoRequest.{IsoRequest}
-use Rattle.session.specs.declared.types.IsoChannelState.{IsoChannelState}
 use Rattle.session.specs.declared.transfer.IsoTransfer.{IsoTransfer}
 use Rattle.session.specs.declared.transfer.Submitted.{Submitted}
 use Rattle.session.specs.declared.transfer.SubmitAnswer.the-variants.{Accepted}
 use Rattle.session.specs.declared.reply.IsoAnswer.the-variants.{Done}
 use Rattle.session.specs.declared.reply.IsoReply.{IsoReply}
-use Rattle.session.specs.Session.{blankRequest, slots, ringWords}
+use Rattle.session.specs.Session.{slots, ringWords}
 use Rattle.session.specs.Submit.{insertOf, stepOf, pendingPlans, stored, submitted, submittedRing}
 use Rattle.session.specs.Poll.{recovered, recoveredRing}
 use Rattle.session.proofs.Ending.{IdleAfter, Disconnected}
+use Rattle.session.specs.Reclaim.{requestOf}
 use Rattle.laws.specs.Drawing.{Laid, blankLaid, wordsOf, slotOf, wordAt, Holds, Among, Absent}
 use Rattle.laws.specs.Run.{State, Touch, touchedBy, planned, GuardedRun, reached}
 
@@ -98,9 +97,6 @@ pub record Stopped (st : State) (x : Submission st) (k : ℕ) (ring : List ℕ) 
 abbrev pub found : (st : State) → Submission st → ℕ → List Touch → List ℕ
 found st x k meanwhile = touchedBy (st .session .cfg) meanwhile (stopped st x k)
 
-abbrev pub requestOf : IsoChannelState → ℕ → IsoRequest
-requestOf s i = getD (s .requests) i blankRequest
-
 pub record Recovered (st : State) (x : Submission st) (r : IsoReply) (ring : List ℕ) : Type 0 where
   pub answered : r .answer ≡ Done
   -- "Recovery from the record before that call then yields a zero ring,"
@@ -109,10 +105,10 @@ pub record Recovered (st : State) (x : Submission st) (r : IsoReply) (ring : Lis
   pub idle : IdleAfter (st .session) (r .session)
   -- "and each pending request reported disconnected": in order, behind those completed, which stay
   pub disconnected :
-      (i : ℕ) → st .session .head .done ≤ i → i < st .session .head .count → Disconnected (requestOf (st .session) i) (requestOf (r .session) i)
-  pub completed-stay : (i : ℕ) → i < st .session .head .done → requestOf (r .session) i ≡ requestOf (st .session) i
+      (i : ℕ) → st .session .head .done ≤ i → i < st .session .head .count → Disconnected (requestOf i (st .session)) (requestOf i (r .session))
+  pub completed-stay : (i : ℕ) → i < st .session .head .done → requestOf i (r .session) ≡ requestOf i (st .session)
   -- "once,": no two of the requests reported have one number
-  pub once : (i j : ℕ) → i < j → j < st .session .head .count → requestOf (r .session) i .id ≡ requestOf (r .session) j .id → ⊥
+  pub once : (i j : ℕ) → i < j → j < st .session .head .count → requestOf i (r .session) .id ≡ requestOf j (r .session) .id → ⊥
   -- "the same wherever the cut fell."
   pub same-reply :
       (k : ℕ) → k ≤ 2 * length (x .lengths) → (meanwhile : List Touch) → recovered (st .session) (length (found st x k meanwhile)) ≡ r

@@ -9,9 +9,10 @@ use Rattle.session.specs.declared.types.IsoChannelState.{IsoChannelState}
 use Rattle.session.specs.Session.{ringWords}
 use Rattle.session.specs.Submit.{pendingPlans}
 use Rattle.session.proofs.Laws.Record.{Sound}
+use Rattle.session.specs.Reclaim.{requestOf}
 use Rattle.laws.specs.Drawing.{Laid, drawn, slotOf, Among, Distinct}
 use Rattle.laws.specs.Run.{State}
-use Rattle.laws.specs.Demand3.{slotOfPlan, requestOf}
+use Rattle.laws.specs.Demand3.{slotOfPlan}
 
 -- the ring is zero but for what is put; behind it stand words that no call reads
 pub record Fits (s : IsoChannelState) (ring : List ℕ) (put : List Laid) : Type 0 where
@@ -23,8 +24,8 @@ pub record Fits (s : IsoChannelState) (ring : List ℕ) (put : List Laid) : Type
 
 -- the requests of the session have numbers that were used up, no two the same
 pub record Numbered (s : IsoChannelState) (numbers : List ℕ) : Type 0 where
-  pub used : (i : ℕ) → i < s .head .count → Among (requestOf s i .id) numbers
-  pub differ : (i j : ℕ) → i < j → j < s .head .count → requestOf s i .id ≡ requestOf s j .id → ⊥
+  pub used : (i : ℕ) → i < s .head .count → Among (requestOf i s .id) numbers
+  pub differ : (i j : ℕ) → i < j → j < s .head .count → requestOf i s .id ≡ requestOf j s .id → ⊥
 
 pub record Invariant (st : State) : Type 0 where
   pub guarded : st .session .cfg .mode ≡ Guarded
