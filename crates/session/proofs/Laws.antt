@@ -4,6 +4,7 @@ pub mod Ended
 pub mod Guarded
 pub mod Handed
 pub mod Kept
+pub mod Lent
 pub mod Lists
 pub mod Polled
 pub mod Polls
