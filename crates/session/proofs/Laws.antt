@@ -5,6 +5,7 @@ pub mod Ended
 pub mod Guarded
 pub mod Handed
 pub mod Kept
+pub mod Lent
 pub mod Lists
 pub mod Places
 pub mod Polled

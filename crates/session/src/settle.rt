@@ -7,7 +7,7 @@ ghost use lib.ListN.{set};
 ghost use lib.Seq.{slice, sets};
 ghost use Rattle.words.specs.Words.{isPacketError};
 ghost use Rattle.session.specs.Record.{isBadRecord};
-ghost use Rattle.session.specs.Settle.{movedLength, statusOf, settledBy, settledPlan, oldestFrom, oldestTo, movedTotal, slotsCleared, settledSession, settledRing, isServed, drained};
+ghost use Rattle.session.specs.Settle.{movedLength, statusOf, settledPlan, oldestFrom, oldestTo, movedTotal, slotsCleared, settledSession, settledRing, isServed, drained};
 use crate::store::is_active_at;
 use crate::store::put_word;
 use crate::store::status_at;
@@ -48,10 +48,11 @@ fn status_of(status: u32) -> TransferStatus
 }
 
 // The plan with what its descriptor's status word says.
-fn settled_plan(direction: Direction, plan: IsoPacketPlan, status: u32) -> IsoPacketPlan
-    ensures { λ r. ⌜ r ≡ settledBy direction plan status ⌝ }
+fn settled_plan(direction: Direction, plan: IsoPacketPlan, ring: &[u32]) -> IsoPacketPlan
+    ensures { λ r. ⌜ r ≡ settledPlan direction (now (ring .entry)) plan ⌝ }
 {
     let planned = plan.planned;
+    let status = status_at(ring, plan.desc_index);
     IsoPacketPlan {
         planned,
         desc_index: plan.desc_index,
@@ -60,7 +61,18 @@ fn settled_plan(direction: Direction, plan: IsoPacketPlan, status: u32) -> IsoPa
     }
 }
 
-// The table with the plans from `from` to `to` settled.
+// Settles the plans that it is lent, each where it stands.
+fn settle_packets(packets: &mut [IsoPacketPlan], direction: Direction, ring: &[u32])
+    ensures { λ _. ⌜ now (packets .exit) ≡ map (settledPlan direction (now (ring .entry))) (now (packets .entry)) ⌝ }
+{
+    let mut i: usize = 0;
+    while i < packets.len() {
+        packets[i] = settled_plan(direction, packets[i], ring);
+        i += 1;
+    }
+}
+
+// The table with the plans from `from` to `to` settled: it lends that part of itself.
 fn settle_plans(
     plans: [IsoPacketPlan; 1024],
     from: u32,
@@ -72,14 +84,7 @@ fn settle_plans(
     ensures { λ r. ⌜ r ≡ sets plans from (map (settledPlan direction (now (ring .entry))) (slice from to plans)) ⌝ }
 {
     let mut table = plans;
-    let mut i = from as usize;
-    let end = to as usize;
-    while i < end {
-        let plan = table[i];
-        let status = status_at(ring, plan.desc_index);
-        table[i] = settled_plan(direction, plan, status);
-        i += 1;
-    }
+    settle_packets(&mut table[from as usize..to as usize], direction, ring);
     table
 }
 

@@ -2,15 +2,15 @@
 -- part of a list is changed in place, and how it is written elsewhere, moved down and read after that.
 use mathlib.Core.Path.{_≡_, refl, _∙_, sym, ap, subst, subst⁻¹}
 use mathlib.Core.Bool.{Bool, true, false}
-use mathlib.Core.List.{List, [], _∷_, _++_, map}
+use mathlib.Core.List.{List, [], _∷_, _++_, map, append-nil}
 use mathlib.Core.Logic.{_≢_}
 use Prim.Native.Nat.{ℕ, zero, suc, _+_, _-_, _≤_, _<_}
 use native.Mathlib.Nat.{add-zero, le-trans, min-le-left}
 use native.Mathlib.Numerals.{add-one}
 use native.Mathlib.Omega.{arith}
 use lib.Dec.{ltb}
-use lib.ListN.{length, getD, set, take, drop, length-take, length-set, length-append, take-append-drop, drop-of-length-le}
-use lib.Seq.{sets, slice, length-sets, sets-eq, take-suc-set, take-set-lt, drop-set-lt, getD-set-same, getD-set-other, slice-cons, length-slice, length-take-le, take-take, take-at, take-append-add, drop-append-le, drop-append-add, drop-drop, getD-drop, getD-take}
+use lib.ListN.{length, getD, set, take, drop, length-map, length-take, length-set, length-append, take-append-drop, drop-of-length-le}
+use lib.Seq.{sets, slice, take-length, length-sets, sets-eq, take-suc-set, take-set-lt, drop-set-lt, getD-set-same, getD-set-other, slice-cons, length-slice, length-take-le, take-take, take-at, take-append-add, drop-append-le, drop-append-add, drop-drop, getD-drop, getD-take}
 use borrow.Author.Tests.{ltb-true, ltb-false}
 
 module _ {ℓ} {A : Type ℓ} where
@@ -128,6 +128,31 @@ module _ {ℓ} {A : Type ℓ} where
   -- and where nothing is left, the list is as it is
   pub amend-past : (f : A → A) (i t : ℕ) (l : List A) → t ≤ i → sets l i (map f (slice i t l)) ≡ l
   amend-past f i t l h = write-past f i i t l l h
+
+  -- and where all is left, each entry is changed
+  pub amend-all : (f : A → A) (l : List A) → sets l 0 (map f (slice 0 (length l) l)) ≡ map f l
+  amend-all f l =
+      let whole : slice 0 (length l) l ≡ l = take-length l in
+      let long : length (map f l) ≡ length l = length-map l f in
+      let past : length l ≤ 0 + length (map f l) = omega (arith, long) in
+      ap (λ (vs : List A). sets l 0 (map f vs)) whole
+      ∙ sets-eq (map f l) l 0 (omega (arith, long))
+      ∙ ap (λ (vs : List A). map f l ++ vs) (drop-of-length-le l past)
+      ∙ append-nil (map f l)
+
+  -- a part of a list between what stands before it and behind it, and another of its length in its place
+  pub before-part : (f t : ℕ) (l : List A) → f ≤ t → t ≤ length l → length (take f (take t l)) ≡ f
+  before-part f t l h k = length-take-le f (take t l) (omega (arith, length-take-le t l k))
+
+  pub part-fits : (f t : ℕ) (l vs : List A) → f ≤ t → t ≤ length l → length vs ≡ length (slice f t l) → length (take f (take t l) ++ vs) ≡ length (take t l)
+  part-fits f t l vs h k e =
+      length-append (take f (take t l)) vs ∙ omega (arith, before-part f t l h k, e, length-slice f t l k, length-take-le t l k)
+
+  pub part-stored :
+      (f t : ℕ) (l vs : List A) → f ≤ t → t ≤ length l → length vs ≡ length (slice f t l) → take f (take t l) ++ vs ++ drop t l ≡ sets l f vs
+  part-stored f t l vs h k e =
+      let end : t ≡ f + length vs = omega (arith, e, length-slice f t l k) in
+      ap (λ (a : List A). a ++ vs ++ drop t l) (take-take f t l h) ∙ ap (λ (m : ℕ). take f l ++ vs ++ drop m l) end ∙ sym (sets-eq vs l f (omega arith))
 
   -- one turn of a walk that moves the entries of a part down, and its end
   pub close-next :
