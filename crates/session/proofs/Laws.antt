@@ -13,5 +13,6 @@ pub mod Removed
 pub mod Replies
 pub mod Settled
 pub mod Stores
+pub mod Submits
 pub mod Tests
 pub mod Ways

@@ -17,6 +17,7 @@ use Rattle.session.specs.declared.transfer.SubmitWay.{SubmitWay}
 use Rattle.session.specs.declared.transfer.SubmitWay.the-variants.{Refuse, TooLong, Spend, Early, Cut, Late, Accept}
 use Rattle.session.specs.Session.{ringWords, room, allPackets, pendingPackets, hasReason}
 use Rattle.session.specs.Record.{isBadRecord}
+use Rattle.session.specs.Scan.{isGate}
 use Rattle.session.specs.Submit.{isLow, sum, isClash, isOver, entryChecks, entryRefusal, spendChecks, tooLong, spendRefusal, pickWay, submitWay, Acceptable}
 use Rattle.session.proofs.Laws.Record.{room-few, no-reason}
 use Rattle.session.proofs.Laws.Stores.{none-long}
@@ -110,16 +111,6 @@ module _ (s : IsoChannelState) (t : IsoTransfer) (lengths ring : List ℕ) where
   -- the same of a way that is known
   pub told-of : (way : SubmitWay) → submitWay s t lengths ring ≡ way → Told s t lengths ring way
   told-of way h = subst (Told s t lengths ring) h told
-
--- the ways that pass every refusal before the gates
-abbrev pub isGate : SubmitWay → Bool
-isGate (Refuse n) = false
-isGate (TooLong i) = false
-isGate (Spend n) = false
-isGate Early = true
-isGate Cut = true
-isGate Late = true
-isGate Accept = true
 
 passed : (s : IsoChannelState) (t : IsoTransfer) (lengths ring : List ℕ) (way : SubmitWay) → Told s t lengths ring way → T (isGate way) → Clear s t lengths ring
 passed s t lengths ring (Refuse n) h g = absurd g
