@@ -122,11 +122,11 @@ module _ (R insert step : ℕ) where
 
 module _ (R insert step i : ℕ) (lengths : List ℕ) where
   -- no packet is left: the table stays
-  pub plans-end : (table : List IsoPacketPlan) (to : ℕ) → length lengths ≤ i → table ≡ sets table to (plansFrom R insert step i (drop i lengths))
+  plans-end : (table : List IsoPacketPlan) (to : ℕ) → length lengths ≤ i → table ≡ sets table to (plansFrom R insert step i (drop i lengths))
   plans-end table to h = rw (drop-of-length-le lengths h)
 
   -- the plan of packet i, and those after it behind it
-  pub plans-more : (table : List IsoPacketPlan) (to slot : ℕ) → i < length lengths → slot ≡ slotAt R insert step i
+  plans-more : (table : List IsoPacketPlan) (to slot : ℕ) → i < length lengths → slot ≡ slotAt R insert step i
       → sets (set table to (newPlan (getD lengths i 0) slot)) (to + 1) (plansFrom R insert step (i + 1) (drop (i + 1) lengths))
       ≡ sets table to (plansFrom R insert step i (drop i lengths))
   plans-more table to slot h at = rw (drop-more lengths i h, at, add-one to, add-one i)
@@ -241,7 +241,7 @@ pub marks-all : (held : List Bool) (plans : List IsoPacketPlan) (i to k : ℕ) �
 marks-all held plans i to k e = rw (e, slice-empty to plans, or-false)
 
 -- the marks with those still to be set: one plan more
-pub mark-more : (held marked : List Bool) (plans : List IsoPacketPlan) (i to slot k : ℕ) → i < to → to ≤ length plans → slot ≡ getD plans i blankPlan .«desc_index»
+mark-more : (held marked : List Bool) (plans : List IsoPacketPlan) (i to slot k : ℕ) → i < to → to ≤ length plans → slot ≡ getD plans i blankPlan .«desc_index»
     → getD marked k false ≡ (getD held k false || eqb slot k)
     → (getD marked k false || isHeld (slice (i + 1) to plans) k) ≡ (getD held k false || isHeld (slice i to plans) k)
 mark-more held marked plans i to slot k h fits at e =

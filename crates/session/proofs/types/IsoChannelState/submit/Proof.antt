@@ -3,8 +3,7 @@
 -- packet's. The measure is how many packets are left.
 use mathlib.Core.Path.{_≡_, refl, _∙_, sym, ap, ap₂, subst⁻¹}
 use mathlib.Core.Logic.{_⊎_, inl, inr, ⊎-elim}
-use Prim.Native.Nat.{ℕ, _+_, _-_, _*_, _≤_, _<_}
-use native.Mathlib.Nat.{sub-zero, add-zero}
+use Prim.Native.Nat.{ℕ, _+_, _-_, _≤_, _<_}
 use native.Mathlib.Omega.{arith}
 use lib.Dec.{T}
 use lib.ListN.{length, getD, set, take, drop, length-map, length-set}
@@ -18,9 +17,9 @@ use Rattle.session.specs.declared.transfer.SubmitWay.{SubmitWay}
 use Rattle.session.specs.declared.transfer.SubmitWay.the-variants.{Accept}
 use Rattle.session.specs.Session.{slots}
 use Rattle.session.specs.Scan.{whole, Walked, isGate}
-use Rattle.session.specs.Submit.{stepOf, insertAt, insertOf, plansFrom, submitWay, Acceptable}
+use Rattle.session.specs.Submit.{stepOf, insertAt, insertOf, plansFrom, submitWay}
 use Rattle.session.proofs.Laws.Stores.{newPlan, slot-more, plans-next, plans-past}
-use Rattle.session.proofs.Laws.Admitted.{Admitted, gate-admitted, acceptable, told-of}
+use Rattle.session.proofs.Laws.Admitted.{Admitted, gate-admitted, Acceptable, acceptable, told-of}
 use Rattle.session.proofs.Laws.Submits.{some-added, Pushed, submitted-by, ring-left}
 use Rattle.session.proofs.Laws.Ways.{answer-by, ring-by}
 use Rattle.session.proofs.types.IsoChannelState.submit.Statement.{statement}
@@ -59,8 +58,8 @@ gate way e = subst⁻¹ (λ (w : SubmitWay). T (isGate w)) e tt
 all-added : (c : tie.After-added-packets Inv-loop μ-loop) → 0 < c .added-packets .result → (c .before .before .before .before .before .before .before .submit-way .result ≡ Accept) × (c .added-packets .result ≡ length (c .before .before .before .before .before .before .before .before .before .before .before .before .before .before .args .lengths .now))
 all-added c h = some-added (c .before .before .before .before .before .before .before .submit-way .result) (length (c .before .before .before .before .before .before .before .before .before .before .before .before .before .before .args .lengths .now)) (c .added-packets .result) (c .added-packets .ensures) h
 
-sure : (c : tie.After-added-packets Inv-loop μ-loop) → 0 < c .added-packets .result → Acceptable (c .before .before .before .before .before .before .before .before .before .before .before .before .before .before .args .t1) (c .before .before .before .before .before .insert-of .result) (c .before .before .before .before .before .before .before .before .before .before .before .before .before .before .args .lengths .now)
-sure c h = acceptable (c .before .before .before .before .before .before .before .before .before .before .before .before .before .before .args .t1) (c .before .before .before .before .before .before .before .before .before .before .before .before .before .before .args .transfer) (c .before .before .before .before .before .before .before .before .before .before .before .before .before .before .args .lengths .now) (c .before .before .before .before .before .before .before .before .before .before .before .before .before .before .args .ring .now) (c .before .before .before .before .before .insert-of .result) (admitted ((c .before .before .before .before .before .before .before)) (gate (c .before .before .before .before .before .before .before .submit-way .result) (all-added c h .0)))
+sure : (c : tie.After-added-packets Inv-loop μ-loop) → 0 < c .added-packets .result → Acceptable (c .before .before .before .before .before .before .before .before .before .before .before .before .before .before .args .t1) (c .before .before .before .before .before .before .before .before .before .before .before .before .before .before .args .lengths .now)
+sure c h = acceptable (c .before .before .before .before .before .before .before .before .before .before .before .before .before .before .args .t1) (c .before .before .before .before .before .before .before .before .before .before .before .before .before .before .args .transfer) (c .before .before .before .before .before .before .before .before .before .before .before .before .before .before .args .lengths .now) (c .before .before .before .before .before .before .before .before .before .before .before .before .before .before .args .ring .now) (admitted ((c .before .before .before .before .before .before .before)) (gate (c .before .before .before .before .before .before .before .submit-way .result) (all-added c h .0)))
 
 fits : (c : tie.After-added-packets Inv-loop μ-loop) → 0 < c .added-packets .result → c .before .before .before .before .before .before .before .before .before .scan .result .all + c .added-packets .result ≤ 1024
 fits c h = omega (arith, sure c h .packets, all-added c h .1, walked ((c .before .before .before .before .before .before .before)) (gate (c .before .before .before .before .before .before .before .submit-way .result) (all-added c h .0)) .all)
