@@ -16,5 +16,6 @@ pub mod Removed
 pub mod Replies
 pub mod Settled
 pub mod Stores
+pub mod Submits
 pub mod Tests
 pub mod Ways

@@ -5,6 +5,7 @@ pub mod Open
 pub mod Poll
 pub mod Reclaim
 pub mod Record
+pub mod Scan
 pub mod Session
 pub mod Settle
 pub mod Submit

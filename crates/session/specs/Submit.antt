@@ -205,14 +205,6 @@ submitWay s t lengths ring =
     (pickWay (ltb (tooLong s lengths) (length lengths)) (TooLong (tooLong s lengths))
     (pickWay (not (eqb (spendRefusal s t lengths ring) 0)) (Spend (spendRefusal s t lengths ring)) (gateWay s t (length lengths))))
 
--- what an accepted submission leans on: a sound record with room for it, and lengths within 16 bits
-pub record Acceptable (s : IsoChannelState) (insert : ℕ) (lengths : List ℕ) : Type 0 where
-  pub sound : isBadRecord s ≡ false
-  pub requests : s .head .count + 1 ≤ 64
-  pub packets : allPackets s + length lengths ≤ 1024
-  pub few : length lengths ≤ 255
-  pub short : (k : ℕ) → k < length lengths → getD lengths k 0 ≤ 65535
-
 -- ---- what the call leaves
 
 abbrev pub withHead : IsoChannelState → IsoHead → IsoChannelState
@@ -321,18 +313,6 @@ startWords s t =
 
 abbrev pub noStart : IsoChannelStart
 noStart = record { first = false; hcchar = 0; hctsiz = 0; hcintmsk = 0; frames = frameTable [] }
-
--- an answer with no channel to start, and that of an accepted submission
-abbrev pub answeredBy : SubmitAnswer → IsoChannelState → Submitted
-answeredBy answer s = record { answer = answer; start = noStart; session = s }
-
-abbrev pub acceptedAnswer : IsoChannelState → IsoTransfer → ℕ → List ℕ → Submitted
-acceptedAnswer s t insert lengths =
-    record {
-      answer = answer.Accepted (s .head .«next_request_id»);
-      start = cond (s .head .live) noStart (startWords s t);
-      session = acceptedAt s t insert lengths;
-    }
 
 abbrev pub startAfter : SubmitWay → IsoChannelState → IsoTransfer → IsoChannelStart
 startAfter (Refuse n) s t = noStart

@@ -1,21 +1,34 @@
-// Refusal 18: document 01, "Refusal numbers". The entries in use are walked where they stand: a table handed on would
-// be copied.
+// Refusal 18: document 01, "Refusal numbers". The entries in use are walked once, where they stand: a table handed on would be
+// copied. What a submission asks of the tables is found on the same walk.
 ghost use mathlib.Core.Path.{_≡_};
-ghost use mathlib.Core.Bool.{cond};
+ghost use mathlib.Core.Bool.{true, not, _||_, _&&_, cond};
 ghost use Prim.Native.Nat.{_≤_};
-ghost use lib.Dec.{ltb};
+ghost use lib.Dec.{leb, ltb};
 ghost use Rattle.session.specs.Record.{isBadConfig, isBadRequest, isBadPlan, isBadRecord};
+ghost use Rattle.session.specs.Scan.{Scanned};
 ghost use Rattle.session.specs.Session.{hasReason};
 ghost use Rattle.session.specs.Session.{room as Session·room};
+use crate::tables::rest;
 use crate::tables::wide;
 use crate::types::IsoChannelState;
 use crate::types::IsoConfig;
 use crate::types::IsoFatal;
+use crate::types::IsoHead;
 use crate::types::IsoPacketPlan;
 use crate::types::IsoRequest;
 use ring::iso_max_packets;
 use ring::iso_max_xfer_size;
 use ring::iso_ring_size;
+
+// What one walk finds: whether the record is bad, and where it is not, the packets of all requests and of the pending ones, the
+// newest packet's slot, and a yes for each slot below 256 that a pending packet has.
+pub struct RecordScan {
+    pub bad: bool,
+    pub all: u32,
+    pub pending: u32,
+    pub tail: u16,
+    pub held: [bool; 256],
+}
 
 pub(crate) fn is_bad_config(cfg: IsoConfig) -> bool
     ensures { λ r. ⌜ r ≡ isBadConfig cfg ⌝ }
@@ -52,6 +65,13 @@ pub(crate) fn has_reason(fatal: IsoFatal) -> bool
     }
 }
 
+// The cursor beyond the ring, or requests pending or a reason without a live channel.
+fn is_bad_state(head: IsoHead, slots: u16, fatal: IsoFatal) -> bool
+    ensures { λ r. ⌜ r ≡ leb slots (head .«td_last») || not (head .live) && (ltb (head .done) (head .count) || hasReason fatal) ⌝ }
+{
+    (head.td_last >= slots) | (!head.live & ((head.done < head.count) | has_reason(fatal)))
+}
+
 // The packets of the request at `at`, where it is pending.
 fn wide_from(done: u16, at: u16, packets: u16) -> u32
     ensures { λ r. ⌜ (r ≡ cond (ltb at done) 0 packets) × (r ≤ packets) ⌝ }
@@ -62,15 +82,35 @@ fn wide_from(done: u16, at: u16, packets: u16) -> u32
     wide(packets)
 }
 
+// Where a record is bad the rest is not read.
+fn bad_scan() -> RecordScan
+    ensures { λ r. ⌜ r .bad ≡ true ⌝ }
+{
+    RecordScan {
+        bad: true,
+        all: 0,
+        pending: 0,
+        tail: 0,
+        held: [false; 256],
+    }
+}
+
 impl IsoChannelState {
     // A record that no call leaves behind: its numbers lie beyond their limits.
     pub fn is_bad_record(self) -> bool
         ensures { λ r. ⌜ r ≡ isBadRecord self ⌝ }
     {
+        let scan = self.scan();
+        scan.bad
+    }
+
+    pub(crate) fn scan(self) -> RecordScan
+        ensures { λ r. ⌜ Scanned self r ⌝ }
+    {
         let cfg = self.cfg;
         let head = self.head;
         if is_bad_config(cfg) | ((head.count < head.done) | (head.count > 64)) {
-            return true;
+            return bad_scan();
         }
         let mut all: u32 = 0;
         let mut pending: u32 = 0;
@@ -78,26 +118,39 @@ impl IsoChannelState {
         while i < head.count {
             let request = self.requests[i as usize];
             if is_bad_request(request) {
-                return true;
+                return bad_scan();
             }
             all += wide(request.packets);
             pending += wide_from(head.done, i, request.packets);
             i += 1;
         }
         if (all > 1_024) | (pending > wide(room(cfg))) {
-            return true;
+            return bad_scan();
         }
         let speed = cfg.speed;
         let slots = iso_ring_size(speed);
         let limit = iso_max_xfer_size(speed);
+        let mut held = [false; 256];
         let mut j: u32 = 0;
         while j < all {
-            if is_bad_plan(limit, slots, self.plans[j as usize]) {
-                return true;
+            let plan = self.plans[j as usize];
+            if is_bad_plan(limit, slots, plan) {
+                return bad_scan();
+            }
+            if all - pending <= j {
+                held[plan.desc_index as usize] = true;
             }
             j += 1;
         }
         let fatal = self.fatal;
-        (head.td_last >= slots) | (!head.live & ((head.done < head.count) | has_reason(fatal)))
+        let tail = self.plans[rest(all, 1)].desc_index;
+        let bad = is_bad_state(head, slots, fatal);
+        RecordScan {
+            bad,
+            all,
+            pending,
+            tail,
+            held,
+        }
     }
 }

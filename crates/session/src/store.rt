@@ -1,14 +1,13 @@
-// The loops of a submission: its packets into the ring and into the table of plans, and the tests that walk them.
+// The loops of a submission: its packets into the ring, and the tests that walk them.
 ghost use mathlib.Core.Path.{_≡_};
 ghost use mathlib.Core.Bool.{false};
+ghost use mathlib.Core.List.{List};
 ghost use Prim.Native.Nat.{ℕ, _+_, _*_, _%_, _≤_, _<_};
 ghost use lib.ListN.{length, getD, set, take};
-ghost use lib.Seq.{slice, sets};
 ghost use Rattle.words.specs.Words.{isSet, active};
 ghost use Rattle.ring.specs.RingSums.{slotsFrom};
-ghost use Rattle.session.specs.Submit.{stored, storesFrom, plansFrom, sum, firstLong, isHeld, anyHeld};
-use crate::types::IsoPacketPlan;
-use crate::types::TransferStatus;
+ghost use Rattle.session.specs.declared.types.IsoPacketPlan.{IsoPacketPlan};
+ghost use Rattle.session.specs.Submit.{stored, storesFrom, sum, firstLong, isHeld, anyHeld};
 use words::DmaDescriptor;
 
 // The word at `at`, if the ring has it.
@@ -81,36 +80,6 @@ pub(crate) fn store_packets(
     }
 }
 
-// The table with the packets' plans from `at` on.
-pub(crate) fn put_plans(
-    plans: [IsoPacketPlan; 1024],
-    at: u32,
-    slots: u16,
-    insert: u16,
-    step: u16,
-    lengths: &[u32],
-) -> [IsoPacketPlan; 1024]
-    requires { ⌜ (0 < slots) × (at + length (now lengths) ≤ 1024) × ((k : ℕ) → k < length (now lengths) → getD (now lengths) k 0 ≤ 65535) ⌝ }
-    ensures { λ r. ⌜ r ≡ sets plans at (plansFrom slots insert step 0 (now (lengths .entry))) ⌝ }
-{
-    let mut table = plans;
-    let mut slot = insert % slots;
-    let mut to = at as usize;
-    let mut i: usize = 0;
-    while i < lengths.len() {
-        table[to] = IsoPacketPlan {
-            planned: lengths[i] as u16,
-            desc_index: slot,
-            actual: 0,
-            status: TransferStatus::Completed,
-        };
-        slot = next_slot(slot, step, slots);
-        to += 1;
-        i += 1;
-    }
-    table
-}
-
 // The number of packets before the first that is longer than the limit.
 pub(crate) fn first_long(limit: u16, lengths: &[u32]) -> usize
     ensures { λ r. ⌜ r ≡ firstLong limit (now (lengths .entry)) ⌝ }
@@ -144,21 +113,11 @@ fn wide(x: u32) -> u64
     x as u64
 }
 
-// Whether one of n packets' slots is held by a plan of the table from `from` to `to`: the slots held are marked once, then each
-// packet's is looked up.
-pub(crate) fn any_held(
-    plans: [IsoPacketPlan; 1024],
-    from: u32,
-    to: u32,
-    slots: u16,
-    insert: u16,
-    step: u16,
-    n: usize,
-) -> bool
-    requires { ⌜ (from ≤ to) × (to ≤ 1024) × (0 < slots) × (slots ≤ 256) ⌝ }
-    ensures { λ r. ⌜ r ≡ anyHeld (slice from to plans) (slotsFrom slots insert step 0 n) ⌝ }
+// Whether one of n packets' slots is held, where `held` has a yes for each slot that is.
+pub(crate) fn any_held(held: [bool; 256], slots: u16, insert: u16, step: u16, n: usize) -> bool
+    requires { ⌜ (0 < slots) × (slots ≤ 256) ⌝ }
+    ensures { λ r. ⌜ ((ps : List IsoPacketPlan) → ((k : ℕ) → k < 256 → getD held k false ≡ isHeld ps k) → r ≡ anyHeld ps (slotsFrom slots insert step 0 n)) ⌝ }
 {
-    let held = marks(plans, from, to);
     let mut slot = insert % slots;
     let mut i: usize = 0;
     while i < n {
@@ -169,22 +128,4 @@ pub(crate) fn any_held(
         i += 1;
     }
     false
-}
-
-// A yes for each slot below 256 that a plan from `from` to `to` has.
-fn marks(plans: [IsoPacketPlan; 1024], from: u32, to: u32) -> [bool; 256]
-    requires { ⌜ (from ≤ to) × (to ≤ 1024) ⌝ }
-    ensures { λ r. ⌜ ((k : ℕ) → k < 256 → getD r k false ≡ isHeld (slice from to plans) k) ⌝ }
-{
-    let mut held = [false; 256];
-    let mut i = from as usize;
-    let end = to as usize;
-    while i < end {
-        let slot = plans[i].desc_index;
-        if slot < 256 {
-            held[slot as usize] = true;
-        }
-        i += 1;
-    }
-    held
 }

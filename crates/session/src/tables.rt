@@ -1,6 +1,6 @@
 // Blank tables, and sums over the entries in use.
 ghost use mathlib.Core.Path.{_≡_};
-ghost use Prim.Native.Nat.{_≤_};
+ghost use Prim.Native.Nat.{_-_, _≤_};
 ghost use lib.Seq.{slice};
 ghost use Rattle.session.specs.Session.{blankRequest, blankPlan, packetsOf};
 use crate::types::IsoOutcome;
@@ -49,4 +49,14 @@ pub(crate) fn wide(x: u16) -> u32
     ensures { λ r. ⌜ (r ≡ x) × (r ≤ 65535) ⌝ }
 {
     x as u32
+}
+
+// What is left of `all`.
+pub(crate) fn rest(all: u32, used: u32) -> usize
+    ensures { λ r. ⌜ r ≡ all - used ⌝ }
+{
+    if all <= used {
+        return 0;
+    }
+    (all - used) as usize
 }

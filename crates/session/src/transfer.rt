@@ -45,8 +45,9 @@ pub struct IsoChannelStart {
     pub frames: IsoServiceFrames,
 }
 
+// The session stands first: behind a part that ends unaligned it would be copied twice.
 pub struct Submitted {
+    pub session: IsoChannelState,
     pub answer: SubmitAnswer,
     pub start: IsoChannelStart,
-    pub session: IsoChannelState,
 }

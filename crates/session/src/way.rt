@@ -1,24 +1,33 @@
-// Which way a submission goes, before anything is stored: document 01, "Submit" and "Refusal numbers".
+// Which way a submission goes, before anything is stored: document 01, "Submit" and "Refusal numbers". It is decided on the small
+// parts of the session and on what one walk found in its tables.
 ghost use mathlib.Core.Path.{_≡_};
-ghost use mathlib.Core.Bool.{false};
-ghost use Prim.Native.Nat.{_-_, _≤_};
-ghost use lib.ListN.{length};
-ghost use Rattle.session.specs.Record.{isBadRecord};
-ghost use Rattle.session.specs.Submit.{isLow, isGuarded, entryNumber, entryRefusal, spendNumber, spendRefusal, gateAt, insertOf, isClash, submitWay};
+ghost use mathlib.Core.Bool.{false, _&&_};
+ghost use mathlib.Core.List.{List};
+ghost use Prim.Native.Nat.{ℕ, _≤_, _<_};
+ghost use lib.ListN.{length, getD};
+ghost use Rattle.ring.specs.RingSums.{slotsFrom};
+ghost use Rattle.session.specs.declared.types.IsoRequest.{IsoRequest};
+ghost use Rattle.session.specs.declared.types.IsoPacketPlan.{IsoPacketPlan};
+ghost use Rattle.session.specs.Session.{slots};
+ghost use Rattle.session.specs.Scan.{whole, Walked, Scanned};
+ghost use Rattle.session.specs.Submit.{stepOf, isLow, isGuarded, isHeld, anyHeld, entryNumber, entryRefusal, spendNumber, spendRefusal, gateAt, submitWay};
 use crate::open::ring_words;
 use crate::place::insert_of;
 use crate::place::slots_of;
 use crate::place::step_of;
+use crate::record::RecordScan;
 use crate::record::has_reason;
 use crate::record::room;
 use crate::store::any_held;
 use crate::store::first_long;
 use crate::store::sum_of;
-use crate::tables::packets_of;
+use crate::tables::rest;
 use crate::tables::wide;
 use crate::transfer::IsoTransfer;
 use crate::transfer::SubmitWay;
-use crate::types::IsoChannelState;
+use crate::types::IsoConfig;
+use crate::types::IsoFatal;
+use crate::types::IsoHead;
 use crate::types::IsoMode;
 use ring::Speed;
 use ring::iso_max_xfer_size;
@@ -112,127 +121,101 @@ fn gate_way(live: bool, transfer: IsoTransfer, n: usize) -> SubmitWay
     SubmitWay::Accept
 }
 
-impl IsoChannelState {
-    // 17, 18, 1 to 8: nothing is altered.
-    fn entry_refusal(self, transfer: IsoTransfer, n: usize, words: usize) -> u16
-        ensures { λ r. ⌜ r ≡ entryRefusal self transfer n words ⌝ }
-    {
-        let cfg = self.cfg;
-        if words < ring_words(cfg) {
-            return 17;
-        }
-        if self.is_bad_record() {
-            return 18;
-        }
-        let head = self.head;
-        let requests = self.requests;
-        let all = packets_of(requests, 0, head.count);
-        let pending = packets_of(requests, head.done, head.count);
-        let over = n > rest(wide(room(cfg)), pending);
-        let full = (head.count >= 64) | (n > rest(1_024, all));
-        let fatal = self.fatal;
-        let speed = cfg.speed;
-        entry_number(
-            has_reason(fatal),
-            is_low(speed),
-            !transfer.isochronous,
-            n == 0,
-            !transfer.has_buffer,
-            over & (head.done == head.count),
-            over,
-            full,
-        )
+// 17, 18, 1 to 8: nothing is altered.
+fn entry_refusal(
+    cfg: IsoConfig,
+    head: IsoHead,
+    fatal: IsoFatal,
+    scan: RecordScan,
+    transfer: IsoTransfer,
+    n: usize,
+    words: usize,
+) -> u16
+    ensures { λ r. ⌜ ((requests : List IsoRequest) (plans : List IsoPacketPlan) → Scanned (whole cfg head fatal requests plans) scan → r ≡ entryRefusal (whole cfg head fatal requests plans) transfer n words) × (r ≡ 0 → n ≤ 255) ⌝ }
+{
+    if words < ring_words(cfg) {
+        return 17;
     }
-
-    // Where the first packet goes.
-    pub(crate) fn place(self, transfer: IsoTransfer, ring: &[u32]) -> u16
-        requires { ⌜ isBadRecord self ≡ false ⌝ }
-        ensures { λ r. ⌜ r ≡ insertOf self transfer (now (ring .entry)) ⌝ }
-    {
-        let head = self.head;
-        let requests = self.requests;
-        let at = rest(packets_of(requests, 0, head.count), 1);
-        let tail = self.plans[at];
-        insert_of(self.cfg, head, transfer, tail.desc_index, ring)
+    if scan.bad {
+        return 18;
     }
-
-    // 13: a slot of the submission is one of a pending request.
-    fn clash(self, transfer: IsoTransfer, ring: &[u32], n: usize) -> bool
-        requires { ⌜ isBadRecord self ≡ false ⌝ }
-        ensures { λ r. ⌜ r ≡ isClash self transfer (now (ring .entry)) n ⌝ }
-    {
-        let cfg = self.cfg;
-        let mode = cfg.mode;
-        if !is_guarded(mode) {
-            return false;
-        }
-        let head = self.head;
-        let requests = self.requests;
-        let all = packets_of(requests, 0, head.count);
-        let pending = packets_of(requests, head.done, head.count);
-        let insert = self.place(transfer, ring);
-        let plans = self.plans;
-        any_held(
-            plans,
-            all - pending,
-            all,
-            slots_of(cfg),
-            insert,
-            step_of(cfg),
-            n,
-        )
-    }
-
-    // 10 to 13: the number is spent.
-    fn spend_refusal(self, transfer: IsoTransfer, lengths: &[u32], ring: &[u32]) -> u16
-        requires { ⌜ (isBadRecord self ≡ false) × (length (now lengths) ≤ 1024) ⌝ }
-        ensures { λ r. ⌜ r ≡ spendRefusal self transfer (now (lengths .entry)) (now (ring .entry)) ⌝ }
-    {
-        let sum = sum_of(lengths);
-        let no_channel = !self.head.live & !transfer.channel_free;
-        let clash = self.clash(transfer, ring, lengths.len());
-        spend_number(
-            !(sum == transfer.buffer_len as u64),
-            words::is_beyond(transfer.base, sum),
-            no_channel,
-            clash,
-        )
-    }
-
-    // The way of a submission: what it does follows from this alone.
-    pub(crate) fn submit_way(
-        self,
-        transfer: IsoTransfer,
-        lengths: &[u32],
-        ring: &[u32],
-    ) -> SubmitWay
-        ensures { λ r. ⌜ r ≡ submitWay self transfer (now (lengths .entry)) (now (ring .entry)) ⌝ }
-    {
-        let n = lengths.len();
-        let refused = self.entry_refusal(transfer, n, ring.len());
-        if refused != 0 {
-            return SubmitWay::Refuse(refused);
-        }
-        let cfg = self.cfg;
-        let speed = cfg.speed;
-        let long = first_long(iso_max_xfer_size(speed), lengths);
-        if long < n {
-            return SubmitWay::TooLong(long as u32);
-        }
-        let spent = self.spend_refusal(transfer, lengths, ring);
-        if spent != 0 {
-            return SubmitWay::Spend(spent);
-        }
-        gate_way(self.head.live, transfer, n)
-    }
+    let over = n > rest(wide(room(cfg)), scan.pending);
+    let full = (head.count >= 64) | (n > rest(1_024, scan.all));
+    let speed = cfg.speed;
+    entry_number(
+        has_reason(fatal),
+        is_low(speed),
+        !transfer.isochronous,
+        n == 0,
+        !transfer.has_buffer,
+        over & (head.done == head.count),
+        over,
+        full,
+    )
 }
 
-// What is left of `all`.
-fn rest(all: u32, used: u32) -> usize
-    ensures { λ r. ⌜ r ≡ all - used ⌝ }
+// 13: a slot of the submission is one of a pending request.
+fn clash(cfg: IsoConfig, insert: u16, held: [bool; 256], n: usize) -> bool
+    ensures { λ r. ⌜ ((ps : List IsoPacketPlan) → ((k : ℕ) → k < 256 → getD held k false ≡ isHeld ps k) → r ≡ (isGuarded (cfg .mode) && anyHeld ps (slotsFrom (slots cfg) insert (stepOf cfg) 0 n))) ⌝ }
 {
-    if all <= used {
-        return 0;
+    let mode = cfg.mode;
+    if !is_guarded(mode) {
+        return false;
     }
-    (all - used) as usize
+    any_held(held, slots_of(cfg), insert, step_of(cfg), n)
+}
+
+// 10 to 13: the number is spent.
+fn spend_refusal(
+    cfg: IsoConfig,
+    head: IsoHead,
+    fatal: IsoFatal,
+    scan: RecordScan,
+    transfer: IsoTransfer,
+    lengths: &[u32],
+    ring: &[u32],
+) -> u16
+    requires { ⌜ length (now lengths) ≤ 1024 ⌝ }
+    ensures { λ r. ⌜ ((requests : List IsoRequest) (plans : List IsoPacketPlan) → Walked (whole cfg head fatal requests plans) scan → r ≡ spendRefusal (whole cfg head fatal requests plans) transfer (now (lengths .entry)) (now (ring .entry))) ⌝ }
+{
+    let sum = sum_of(lengths);
+    let no_channel = !head.live & !transfer.channel_free;
+    let insert = insert_of(cfg, head, transfer, scan.tail, ring);
+    let held = scan.held;
+    let clash = clash(cfg, insert, held, lengths.len());
+    spend_number(
+        !(sum == transfer.buffer_len as u64),
+        words::is_beyond(transfer.base, sum),
+        no_channel,
+        clash,
+    )
+}
+
+// The way of a submission: what it does follows from this alone.
+pub(crate) fn submit_way(
+    cfg: IsoConfig,
+    head: IsoHead,
+    fatal: IsoFatal,
+    scan: RecordScan,
+    transfer: IsoTransfer,
+    lengths: &[u32],
+    ring: &[u32],
+) -> SubmitWay
+    ensures { λ r. ⌜ ((requests : List IsoRequest) (plans : List IsoPacketPlan) → Scanned (whole cfg head fatal requests plans) scan → r ≡ submitWay (whole cfg head fatal requests plans) transfer (now (lengths .entry)) (now (ring .entry))) ⌝ }
+{
+    let n = lengths.len();
+    let refused = entry_refusal(cfg, head, fatal, scan, transfer, n, ring.len());
+    if refused != 0 {
+        return SubmitWay::Refuse(refused);
+    }
+    let speed = cfg.speed;
+    let long = first_long(iso_max_xfer_size(speed), lengths);
+    if long < n {
+        return SubmitWay::TooLong(long as u32);
+    }
+    let spent = spend_refusal(cfg, head, fatal, scan, transfer, lengths, ring);
+    if spent != 0 {
+        return SubmitWay::Spend(spent);
+    }
+    gate_way(head.live, transfer, n)
 }

@@ -17,7 +17,8 @@ use Rattle.session.specs.declared.transfer.SubmitWay.{SubmitWay}
 use Rattle.session.specs.declared.transfer.SubmitWay.the-variants.{Refuse, TooLong, Spend, Early, Cut, Late, Accept}
 use Rattle.session.specs.Session.{ringWords, room, allPackets, pendingPackets, hasReason}
 use Rattle.session.specs.Record.{isBadRecord}
-use Rattle.session.specs.Submit.{isLow, sum, isClash, isOver, entryChecks, entryRefusal, spendChecks, tooLong, spendRefusal, pickWay, submitWay, Acceptable}
+use Rattle.session.specs.Scan.{isGate}
+use Rattle.session.specs.Submit.{isLow, sum, isClash, isOver, entryChecks, entryRefusal, spendChecks, tooLong, spendRefusal, pickWay, submitWay}
 use Rattle.session.proofs.Laws.Record.{room-few, no-reason}
 use Rattle.session.proofs.Laws.Stores.{none-long}
 use Rattle.session.proofs.Laws.Tests.{neither, not-both, none}
@@ -110,16 +111,6 @@ module _ (s : IsoChannelState) (t : IsoTransfer) (lengths ring : List ℕ) where
   -- the same of a way that is known
   pub told-of : (way : SubmitWay) → submitWay s t lengths ring ≡ way → Told s t lengths ring way
   told-of way h = subst (Told s t lengths ring) h told
-
--- the ways that pass every refusal before the gates
-abbrev pub isGate : SubmitWay → Bool
-isGate (Refuse n) = false
-isGate (TooLong i) = false
-isGate (Spend n) = false
-isGate Early = true
-isGate Cut = true
-isGate Late = true
-isGate Accept = true
 
 passed : (s : IsoChannelState) (t : IsoTransfer) (lengths ring : List ℕ) (way : SubmitWay) → Told s t lengths ring way → T (isGate way) → Clear s t lengths ring
 passed s t lengths ring (Refuse n) h g = absurd g
@@ -257,11 +248,16 @@ module _ (s : IsoChannelState) (t : IsoTransfer) (lengths ring : List ℕ) (c : 
   pub cuts : t .words < 2 * length lengths → submitWay s t lengths ring ≡ Cut
   cuts h = passes ∙ ap (λ (b : Bool). pickWay b Cut (pickWay (not (s .head .live) && not (t .«gate_enable»)) Late Accept)) (lt-ltb (t .words) (2 * length lengths) h)
 
--- what the loops of an accepted submission lean on
-pub acceptable : (s : IsoChannelState) (t : IsoTransfer) (lengths ring : List ℕ) (insert : ℕ) → Admitted s t lengths ring → Acceptable s insert lengths
-acceptable s t lengths ring insert h =
+-- what the loops of an accepted submission lean on: room for it, and lengths within 16 bits
+pub record Acceptable (s : IsoChannelState) (lengths : List ℕ) : Type 0 where
+  pub requests : s .head .count + 1 ≤ 64
+  pub packets : allPackets s + length lengths ≤ 1024
+  pub few : length lengths ≤ 255
+  pub short : (k : ℕ) → k < length lengths → getD lengths k 0 ≤ 65535
+
+pub acceptable : (s : IsoChannelState) (t : IsoTransfer) (lengths ring : List ℕ) → Admitted s t lengths ring → Acceptable s lengths
+acceptable s t lengths ring h =
     record {
-      sound = h .entry .record-good;
       requests = h .entry .requests;
       packets = h .entry .packets;
       few = omega (arith, h .entry .capacity, room-few (s .cfg));

@@ -20,6 +20,8 @@ use Rattle.session.specs.declared.types.IsoFatal.the-variants.{Nothing, 
 use Rattle.session.specs.declared.types.IsoPacketPlan.{IsoPacketPlan}
 use Rattle.session.specs.declared.types.IsoRequest.{IsoRequest}
 use Rattle.session.specs.Session.{blankRequest, blankPlan, slots, room, packetsOf, allPackets, pendingPackets, hasReason, idleSession}
+use Rattle.session.specs.declared.record.RecordScan.{RecordScan}
+use Rattle.session.specs.Scan.{Scanned}
 use Rattle.session.specs.Record.{isBadConfig, isBadRequest, anyBadRequest, isBadPlan, anyBadPlan, isBadCounts, isBadSums, isBadState, isBadRecord}
 use Rattle.session.proofs.Laws.Lists.{slice-next, slice-past, slice-split, front-each, front-kept}
 use Rattle.session.proofs.Laws.Tests.{neither, not-both, none, unless}
@@ -106,6 +108,13 @@ module _ (limit slots : ℕ) where
 
   pub plan-past : (i t : ℕ) (l : List IsoPacketPlan) → t ≤ i → anyBadPlan limit slots (slice i t l) ≡ false
   plan-past i t l h = ap (anyBadPlan limit slots) (slice-past i t l h)
+
+-- a walk that finds a bad record says only that
+pub bad-found : (s : IsoChannelState) (r : RecordScan) → r .bad ≡ true → isBadRecord s ≡ true → Scanned s r
+bad-found s r e b = record { bad = e ∙ sym b; found = λ g. absurd (both (sym b ∙ g)) }
+  where
+    both : true ≡ false → ⊥
+    both x = let z : _≡_ {A = ℕ} 0 1 = cc in omega arith
 
 -- what each check says of its entry
 pub record GoodConfig (cfg : IsoConfig) : Type 0 where
@@ -225,6 +234,16 @@ no-reason (Reason r) e = let z : _≡_ {A = ℕ} 0 1 = cc in absurd (omega arith
 idle-tests : (live a b : Bool) → (not live && (a || b)) ≡ false → live ≡ false → (a ≡ false) × (b ≡ false)
 idle-tests live a b e off = neither a b (not-both (not live) (a || b) e (ap not off))
 
+-- the sums of a record that is not bad, whatever the tables' lengths
+pub good-sums : (s : IsoChannelState) → isBadRecord s ≡ false → (allPackets s ≤ 1024) × (pendingPackets s ≤ room (s .cfg))
+good-sums s e =
+    let plans = anyBadPlan (packetLimit (s .cfg .speed)) (slots (s .cfg)) (slice 0 (allPackets s) (s .plans)) in
+    let requests = anyBadRequest (slice 0 (s .head .count) (s .requests)) in
+    let n1 = neither (isBadConfig (s .cfg) || isBadCounts s) (requests || (isBadSums s || (plans || isBadState s))) e in
+    let n2 = neither requests (isBadSums s || (plans || isBadState s)) (n1 .1) in
+    let sums = neither (ltb 1024 (allPackets s)) (ltb (room (s .cfg)) (pendingPackets s)) (neither (isBadSums s) (plans || isBadState s) (n2 .1) .0) in
+    (ltb-false 1024 (allPackets s) (sums .0), ltb-false (room (s .cfg)) (pendingPackets s) (sums .1))
+
 pub sound :
     (s : IsoChannelState) → length (s .requests) ≡ 64 → length (s .plans) ≡ 1024 → isBadRecord s ≡ false → Sound s
 sound s rl pl e =
@@ -236,11 +255,10 @@ sound s rl pl e =
     let n4 = neither plans (isBadState s) (n3 .1) in
     let front = neither (isBadConfig (s .cfg)) (isBadCounts s) (n1 .0) in
     let counts = neither (ltb (s .head .count) (s .head .done)) (ltb 64 (s .head .count)) (front .1) in
-    let sums = neither (ltb 1024 (allPackets s)) (ltb (room (s .cfg)) (pendingPackets s)) (n3 .0) in
     let state = neither (leb (slots (s .cfg)) (s .head .«td_last»)) (not (s .head .live) && (ltb (s .head .done) (s .head .count) || hasReason (s .fatal))) (n4 .1) in
     let idle = idle-tests (s .head .live) (ltb (s .head .done) (s .head .count)) (hasReason (s .fatal)) (state .1) in
     let within : s .head .count ≤ 64 = ltb-false 64 (s .head .count) (counts .1) in
-    let few : allPackets s ≤ 1024 = ltb-false 1024 (allPackets s) (sums .0) in
+    let few : allPackets s ≤ 1024 = good-sums s e .0 in
     let done-in : s .head .done ≤ s .head .count = ltb-false (s .head .count) (s .head .done) (counts .0) in
     record {
       requests-long = rl;
@@ -250,7 +268,7 @@ sound s rl pl e =
       count-in = within;
       request = front-each GoodRequest (s .head .count) (s .requests) blankRequest (omega arith) (good-requests (slice 0 (s .head .count) (s .requests)) (n2 .0));
       all-few = few;
-      pending-few = ltb-false (room (s .cfg)) (pendingPackets s) (sums .1);
+      pending-few = good-sums s e .1;
       plan = front-each (GoodPlan (packetLimit (s .cfg .speed)) (slots (s .cfg))) (allPackets s) (s .plans) blankPlan (omega arith) (good-plans (packetLimit (s .cfg .speed)) (slots (s .cfg)) (slice 0 (allPackets s) (s .plans)) (n4 .0));
       cursor = leb-false (slots (s .cfg)) (s .head .«td_last») (state .0);
       idle-done = λ off. omega (arith, done-in, ltb-false (s .head .done) (s .head .count) (idle off .0));

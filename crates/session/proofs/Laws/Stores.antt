@@ -5,12 +5,12 @@ use mathlib.Core.Bool.{Bool, true, false, _||_, cond, or-true, or-false, or-asso
 use mathlib.Core.List.{List, [], _∷_}
 use mathlib.Core.Logic.{_≢_}
 use Prim.Native.Nat.{ℕ, zero, suc, _+_, _-_, _*_, _%_, _≤_, _<_}
-use native.Mathlib.Nat.{add-zero, zero-add, mul-suc}
+use native.Mathlib.Nat.{add-zero, zero-add, mul-suc, min-le-left}
 use native.Mathlib.Numerals.{add-one}
 use native.Mathlib.Omega.{arith}
 use lib.Dec.{eqb, ltb}
-use lib.ListN.{length, getD, set, take, drop, length-drop, length-set, replicate, getD-replicate, drop-of-length-le}
-use lib.Seq.{sets, slice, drop-cons, take-all, take-nil, slice-empty, slice-cons, getD-set-same, getD-set-other}
+use lib.ListN.{length, getD, set, take, drop, length-take, length-drop, length-set, replicate, getD-replicate, drop-of-length-le}
+use lib.Seq.{sets, slice, drop-cons, take-all, take-nil, getD-take, length-take-le, slice-empty, slice-cons, getD-set-same, getD-set-other}
 use borrow.Author.Tests.{lt-ltb, le-ltb, eq-eqb, ne-eqb, ltb-false, eqb-true, eqb-false}
 use Rattle.words.specs.Words.{isoStatus}
 use Rattle.words.specs.declared.descriptor.DmaDescriptor.{DmaDescriptor}
@@ -161,14 +161,26 @@ module _ (R insert step : ℕ) where
 
 module _ (R insert step i : ℕ) (lengths : List ℕ) where
   -- no packet is left: the table stays
-  pub plans-end : (table : List IsoPacketPlan) (to : ℕ) → length lengths ≤ i → table ≡ sets table to (plansFrom R insert step i (drop i lengths))
+  plans-end : (table : List IsoPacketPlan) (to : ℕ) → length lengths ≤ i → table ≡ sets table to (plansFrom R insert step i (drop i lengths))
   plans-end table to h = rw (drop-of-length-le lengths h)
 
   -- the plan of packet i, and those after it behind it
-  pub plans-more : (table : List IsoPacketPlan) (to slot : ℕ) → i < length lengths → slot ≡ slotAt R insert step i
+  plans-more : (table : List IsoPacketPlan) (to slot : ℕ) → i < length lengths → slot ≡ slotAt R insert step i
       → sets (set table to (newPlan (getD lengths i 0) slot)) (to + 1) (plansFrom R insert step (i + 1) (drop (i + 1) lengths))
       ≡ sets table to (plansFrom R insert step i (drop i lengths))
   plans-more table to slot h at = rw (drop-more lengths i h, at, add-one to, add-one i)
+
+-- the same of the first n lengths, in a walk over all of them
+module _ (R insert step i n : ℕ) (lengths : List ℕ) (table : List IsoPacketPlan) (to : ℕ) where
+  pub plans-past : n ≤ i → table ≡ sets table to (plansFrom R insert step i (drop i (take n lengths)))
+  plans-past h = plans-end R insert step i (take n lengths) table to (omega (arith, length-take n lengths, min-le-left n (length lengths)))
+
+  pub plans-next : (slot : ℕ) → i < n → n ≤ length lengths → slot ≡ slotAt R insert step i
+      → sets (set table to (newPlan (getD lengths i 0) slot)) (to + 1) (plansFrom R insert step (i + 1) (drop (i + 1) (take n lengths)))
+      ≡ sets table to (plansFrom R insert step i (drop i (take n lengths)))
+  plans-next slot h fits at =
+      ap (λ (len : ℕ). sets (set table to (newPlan len slot)) (to + 1) (plansFrom R insert step (i + 1) (drop (i + 1) (take n lengths)))) (sym (getD-take n lengths i 0 h))
+      ∙ plans-more R insert step i (take n lengths) table to slot (omega (arith, length-take-le n lengths fits)) at
 
 -- ---- lengths
 
@@ -245,7 +257,7 @@ module _ (R insert step i n : ℕ) (ps : List IsoPacketPlan) (slot : ℕ) (marke
   pub held-later : marked ≡ false → anyHeld ps (slotsFrom R insert step (i + 1) (n - (i + 1))) ≡ anyHeld ps (slotsFrom R insert step i (n - i))
   held-later e = rw (held-more R insert step i n ps h, ← at, ← same, e)
 
--- the marks after one slot more, where it is below 256 and where it is not
+-- the marks after one slot more
 module _ (held marked : List Bool) (slot k : ℕ) (below : k < 256) where
   mark-by : (b : Bool) → eqb slot k ≡ b → length held ≡ 256 → getD (set held slot true) k false ≡ (getD held k false || b)
   mark-by true q n =
@@ -257,20 +269,38 @@ module _ (held marked : List Bool) (slot k : ℕ) (below : k < 256) where
   pub mark-set : length held ≡ 256 → marked ≡ set held slot true → getD marked k false ≡ (getD held k false || eqb slot k)
   mark-set n e = rw e (mark-by (eqb slot k) refl n)
 
-  pub mark-out : 256 ≤ slot → marked ≡ held → getD marked k false ≡ (getD held k false || eqb slot k)
-  mark-out l e = rw (e, ne-eqb slot k (λ q. omega arith), or-false)
-
 -- before the first mark, and after the last
-pub marks-none : (ps : List IsoPacketPlan) (k : ℕ) → k < 256 → (getD (replicate 256 false) k false || isHeld ps k) ≡ isHeld ps k
-marks-none ps k h = rw (getD-replicate 256 k false false h)
+pub marks-first : (from to : ℕ) (plans : List IsoPacketPlan) (k : ℕ) → k < 256
+    → (getD (replicate 256 false) k false || isHeld (slice (from + (0 - from)) to plans) k) ≡ isHeld (slice from to plans) k
+marks-first from to plans k h =
+    let e : from + (0 - from) ≡ from = omega arith in
+    rw (getD-replicate 256 k false false h, e)
 
 pub marks-all : (held : List Bool) (plans : List IsoPacketPlan) (i to k : ℕ) → i ≡ to → getD held k false ≡ (getD held k false || isHeld (slice i to plans) k)
 marks-all held plans i to k e = rw (e, slice-empty to plans, or-false)
 
 -- the marks with those still to be set: one plan more
-pub mark-more : (held marked : List Bool) (plans : List IsoPacketPlan) (i to slot k : ℕ) → i < to → to ≤ length plans → slot ≡ getD plans i blankPlan .«desc_index»
+mark-more : (held marked : List Bool) (plans : List IsoPacketPlan) (i to slot k : ℕ) → i < to → to ≤ length plans → slot ≡ getD plans i blankPlan .«desc_index»
     → getD marked k false ≡ (getD held k false || eqb slot k)
     → (getD marked k false || isHeld (slice (i + 1) to plans) k) ≡ (getD held k false || isHeld (slice i to plans) k)
 mark-more held marked plans i to slot k h fits at e =
     rw (e, slice-cons i to plans blankPlan h fits, add-one i, at)
     (or-assoc (getD held k false) (eqb (getD plans i blankPlan .«desc_index») k) (isHeld (slice (suc i) to plans) k))
+
+-- the same on a walk from the first plan on, which marks those from `from` on: a pending plan, and one before them
+pub mark-pending : (held marked : List Bool) (plans : List IsoPacketPlan) (from j to slot k : ℕ) → from ≤ j → j < to → to ≤ length plans
+    → slot ≡ getD plans j blankPlan .«desc_index» → getD marked k false ≡ (getD held k false || eqb slot k)
+    → (getD marked k false || isHeld (slice (from + ((j + 1) - from)) to plans) k) ≡ (getD held k false || isHeld (slice (from + (j - from)) to plans) k)
+mark-pending held marked plans from j to slot k l h fits at e =
+    let here : from + (j - from) ≡ j = omega arith in
+    let next : from + ((j + 1) - from) ≡ j + 1 = omega arith in
+    ap (λ (i : ℕ). getD marked k false || isHeld (slice i to plans) k) next
+    ∙ mark-more held marked plans j to slot k h fits at e
+    ∙ ap (λ (i : ℕ). getD held k false || isHeld (slice i to plans) k) (sym here)
+
+pub mark-done : (held marked : List Bool) (plans : List IsoPacketPlan) (from j to k : ℕ) → j < from → marked ≡ held
+    → (getD marked k false || isHeld (slice (from + ((j + 1) - from)) to plans) k) ≡ (getD held k false || isHeld (slice (from + (j - from)) to plans) k)
+mark-done held marked plans from j to k l e =
+    let same : from + ((j + 1) - from) ≡ from + (j - from) = omega arith in
+    ap (λ (m : List Bool). getD m k false || isHeld (slice (from + ((j + 1) - from)) to plans) k) e
+    ∙ ap (λ (i : ℕ). getD held k false || isHeld (slice i to plans) k) same

@@ -1,7 +1,7 @@
 -- The laws of the tests of a submission: the code's flags are the definition's tests, and numbers that agree in each flag are equal.
 use mathlib.Core.Path.{_≡_, _∙_, sym, ap, subst}
 use mathlib.Core.Bool.{Bool, true, false, not, _&&_, _||_, cond}
-use mathlib.Core.List.{List}
+use mathlib.Core.List.{List, [], _∷_}
 use Prim.Native.Nat.{ℕ, _+_, _-_, _≤_, _<_}
 use native.Mathlib.Decide.{decLe}
 use native.Mathlib.Omega.{arith}
@@ -13,7 +13,8 @@ use Rattle.session.specs.declared.transfer.SubmitWay.the-variants.{Refus
 use Rattle.session.specs.declared.transfer.Submitted.{Submitted}
 use Rattle.session.specs.declared.transfer.IsoTransfer.{IsoTransfer}
 use Rattle.session.specs.declared.types.IsoChannelState.{IsoChannelState}
-use Rattle.session.specs.Submit.{entryNumber, spendNumber, pickWay, submitWay, submittedBy, submitted, ringAfter, submittedRing}
+use Rattle.session.specs.Submit.{_⇒_, entryNumber, spendNumber, pickWay, submitWay, submittedBy, submitted, ringAfter, submittedRing}
+use Rattle.session.proofs.Laws.Checks.{_and_, none-holds}
 
 -- one more than count is above the limit just where count reaches it
 count-test : (limit count : ℕ) → leb limit count ≡ ltb limit (count + 1)
@@ -32,7 +33,20 @@ pub entry-equal :
     → entryNumber reason low kind empty none (over && alone) over full ≡ entryNumber reason′ low′ kind empty none (over′ && alone) over′ full′
 entry-equal kind empty none alone r l o f = rw (r, l, o, f)
 
--- where neither 17 nor 18 holds, the rest decides
+-- no test held, so the submission is not over the capacity
+pub not-over : (reason low kind empty none alone over full : Bool) → entryNumber reason low kind empty none alone over full ≡ 0 → over ≡ false
+not-over reason low kind empty none alone over full e =
+    none-holds (reason ⇒ 1 ∷ low ⇒ 2 ∷ kind ⇒ 3 ∷ empty ⇒ 4 ∷ none ⇒ 5 ∷ alone ⇒ 6 ∷ over ⇒ 7 ∷ full ⇒ 8 ∷ [])
+    (omega arith and omega arith and omega arith and omega arith and omega arith and omega arith and omega arith and omega arith and tt)
+    e .1 .1 .1 .1 .1 .1 .0
+
+-- 17 and 18 by themselves; where neither holds, the rest decides
+pub entry-short : {short : Bool} (rest : ℕ) → short ≡ true → 17 ≡ cond short 17 rest
+entry-short rest s = rw s
+
+pub entry-bad : {short bad : Bool} (rest : ℕ) → short ≡ false → bad ≡ true → 18 ≡ cond short 17 (cond bad 18 rest)
+entry-bad rest s b = rw (s, b)
+
 pub entry-rest : {short bad : Bool} (rest : ℕ) → short ≡ false → bad ≡ false → rest ≡ cond short 17 (cond bad 18 rest)
 entry-rest rest s b = rw (s, b)
 

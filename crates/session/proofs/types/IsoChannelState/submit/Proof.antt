@@ -1,205 +1,231 @@
--- `submit` acts by its way: each arm knows the way, and there the definitions of the answer and of the ring are the arm's own.
-use mathlib.Core.Path.{_≡_, refl, _∙_, sym, ap, subst⁻¹}
-use Prim.Native.Nat.{ℕ, _≤_}
-use lib.ListN.{length, take}
+-- `submit` acts by its way: ring, numbers, answer and start are what their functions answer for it, and the tables gain the packets that the way
+-- adds. The invariant: only the plans change, and those still to be put, put into the table as it is now, give the goal; `slot` is the next
+-- packet's. The measure is how many packets are left.
+use mathlib.Core.Path.{_≡_, refl, _∙_, sym, ap, ap₂, subst⁻¹}
+use mathlib.Core.Logic.{_⊎_, inl, inr, ⊎-elim}
+use Prim.Native.Nat.{ℕ, _+_, _-_, _≤_, _<_}
+use native.Mathlib.Omega.{arith}
 use lib.Dec.{T}
-use Rattle.session.specs.declared.transfer.SubmitWay.{SubmitWay}
-use Rattle.session.specs.declared.transfer.SubmitWay.the-variants.{Early, Cut, Late, Accept}
-use Rattle.session.specs.declared.transfer.SubmitAnswer.the-variants as answer
-use Rattle.session.specs.Session.{slots, cleared}
-use Rattle.session.specs.Submit.{stepOf, stored, storesFrom, insertOf, submitWay, answeredBy, acceptedAnswer}
-use Rattle.session.proofs.Laws.Stores.{whole-plan}
-use Rattle.session.proofs.Laws.Admitted.{Admitted, gate-admitted, isGate, acceptable, told-of}
-use Rattle.session.proofs.Laws.Ways.{answer-by, ring-by}
+use lib.ListN.{length, getD, set, take, drop, length-map, length-set}
+use lib.Seq.{sets}
 use borrow.Author.Needs.{needs}
+use Rattle.ring.specs.RingSums.{slotAt}
+use Rattle.ring.proofs.Steps.{first-slot}
+use Rattle.session.specs.declared.types.IsoChannelState.{IsoChannelState}
+use Rattle.session.specs.declared.types.IsoRequest.{IsoRequest}
+use Rattle.session.specs.declared.transfer.SubmitWay.{SubmitWay}
+use Rattle.session.specs.declared.transfer.SubmitWay.the-variants.{Accept}
+use Rattle.session.specs.Session.{slots}
+use Rattle.session.specs.Scan.{whole, Walked, isGate}
+use Rattle.session.specs.Submit.{stepOf, insertAt, insertOf, plansFrom, submitWay}
+use Rattle.session.proofs.Laws.Stores.{newPlan, slot-more, plans-next, plans-past}
+use Rattle.session.proofs.Laws.Admitted.{Admitted, gate-admitted, Acceptable, acceptable, told-of}
+use Rattle.session.proofs.Laws.Submits.{some-added, Pushed, submitted-by, ring-left}
+use Rattle.session.proofs.Laws.Ways.{answer-by, ring-by}
 use Rattle.session.proofs.types.IsoChannelState.submit.Statement.{statement}
 use Rattle.session.proofs.types.IsoChannelState.submit.Tie as tie
 
--- what a submission says that passed every refusal
-facts : (c : tie.After-submit-way) (way : SubmitWay) → way ≡ submitWay (c .before .before .before .before .args .self) (c .before .before .before .before .args .transfer) (c .before .before .before .before .args .lengths .now) (c .before .before .before .before .args .ring .now) → T (isGate way) → Admitted (c .before .before .before .before .args .self) (c .before .before .before .before .args .transfer) (c .before .before .before .before .args .lengths .now) (c .before .before .before .before .args .ring .now)
-facts c = gate-admitted (c .before .before .before .before .args .self) (c .before .before .before .before .args .transfer) (c .before .before .before .before .args .lengths .now) (c .before .before .before .before .args .ring .now)
+abbrev Inv-loop : tie.InvT-loop
+Inv-loop transfer lengths ring self₀ cfg head way insert n slots step slot₀ to₀ i₀ self slot to i =
+    (i ≤ n) × (slot ≡ slotAt slots insert step i) × (to ≡ to₀ + i) × (length (self .plans) ≡ 1024)
+    × (self ≡ whole (self₀ .cfg) (self₀ .head) (self₀ .fatal) (self₀ .requests) (self .plans))
+    × (sets (self .plans) to (plansFrom slots insert step i (drop i (take n lengths))) ≡ sets (self₀ .plans) to₀ (plansFrom slots insert step 0 (take n lengths)))
 
-submit-way-requires : tie.Need-submit-way-requires
+abbrev μ-loop : tie.MeasureT-loop
+μ-loop transfer lengths ring self₀ cfg head way insert n slots step slot₀ to₀ i₀ self slot to i = n - i
+
+-- the table of plans has its length
+long-plans : (c : tie.Start Inv-loop μ-loop) → length (c .args .t1 .plans) ≡ 1024
+long-plans c = sym (length-map (c .args .t1 .plans) _) ∙ c .good .0 .1 .1 .1 .1 .1 .1 .0 .1 .0 .1
+
+-- the way, and what a submission says that passed every refusal
+way-is : (c : tie.After-submit-way Inv-loop μ-loop) → c .submit-way .result ≡ submitWay (c .before .before .before .before .before .before .before .args .t1) (c .before .before .before .before .before .before .before .args .transfer) (c .before .before .before .before .before .before .before .args .lengths .now) (c .before .before .before .before .before .before .before .args .ring .now)
+way-is c = c .submit-way .ensures (c .before .before .before .before .before .before .before .args .t1 .requests) (c .before .before .before .before .before .before .before .args .t1 .plans) (c .before .before .scan .ensures)
+
+admitted : (c : tie.After-submit-way Inv-loop μ-loop) → T (isGate (c .submit-way .result)) → Admitted (c .before .before .before .before .before .before .before .args .t1) (c .before .before .before .before .before .before .before .args .transfer) (c .before .before .before .before .before .before .before .args .lengths .now) (c .before .before .before .before .before .before .before .args .ring .now)
+admitted c g = gate-admitted (c .before .before .before .before .before .before .before .args .t1) (c .before .before .before .before .before .before .before .args .transfer) (c .before .before .before .before .before .before .before .args .lengths .now) (c .before .before .before .before .before .before .before .args .ring .now) (c .submit-way .result) (way-is c) g
+
+walked : (c : tie.After-submit-way Inv-loop μ-loop) → T (isGate (c .submit-way .result)) → Walked (c .before .before .before .before .before .before .before .args .t1) (c .before .before .scan .result)
+walked c g = c .before .before .scan .ensures .found (admitted c g .entry .record-good)
+
+insert-is : (c : tie.After-insert-of Inv-loop μ-loop) → T (isGate (c .before .before .submit-way .result)) → c .insert-of .result ≡ insertOf (c .before .before .before .before .before .before .before .before .before .args .t1) (c .before .before .before .before .before .before .before .before .before .args .transfer) (c .before .before .before .before .before .before .before .before .before .args .ring .now)
+insert-is c g = c .insert-of .ensures ∙ ap (λ (tail : ℕ). insertAt (c .before .before .before .before .before .before .before .before .before .args .t1 .cfg) (c .before .before .before .before .before .before .before .before .before .args .t1 .head) (c .before .before .before .before .before .before .before .before .before .args .transfer) tail (c .before .before .before .before .before .before .before .before .before .args .ring .now)) (walked ((c .before .before)) g .tail)
+
+gate : (way : SubmitWay) → way ≡ Accept → T (isGate way)
+gate way e = subst⁻¹ (λ (w : SubmitWay). T (isGate w)) e tt
+
+-- where packets are added the submission is accepted, and the tables have room
+all-added : (c : tie.After-added-packets Inv-loop μ-loop) → 0 < c .added-packets .result → (c .before .before .before .before .before .before .before .submit-way .result ≡ Accept) × (c .added-packets .result ≡ length (c .before .before .before .before .before .before .before .before .before .before .before .before .before .before .args .lengths .now))
+all-added c h = some-added (c .before .before .before .before .before .before .before .submit-way .result) (length (c .before .before .before .before .before .before .before .before .before .before .before .before .before .before .args .lengths .now)) (c .added-packets .result) (c .added-packets .ensures) h
+
+sure : (c : tie.After-added-packets Inv-loop μ-loop) → 0 < c .added-packets .result → Acceptable (c .before .before .before .before .before .before .before .before .before .before .before .before .before .before .args .t1) (c .before .before .before .before .before .before .before .before .before .before .before .before .before .before .args .lengths .now)
+sure c h = acceptable (c .before .before .before .before .before .before .before .before .before .before .before .before .before .before .args .t1) (c .before .before .before .before .before .before .before .before .before .before .before .before .before .before .args .transfer) (c .before .before .before .before .before .before .before .before .before .before .before .before .before .before .args .lengths .now) (c .before .before .before .before .before .before .before .before .before .before .before .before .before .before .args .ring .now) (admitted ((c .before .before .before .before .before .before .before)) (gate (c .before .before .before .before .before .before .before .submit-way .result) (all-added c h .0)))
+
+fits : (c : tie.After-added-packets Inv-loop μ-loop) → 0 < c .added-packets .result → c .before .before .before .before .before .before .before .before .before .scan .result .all + c .added-packets .result ≤ 1024
+fits c h = omega (arith, sure c h .packets, all-added c h .1, walked ((c .before .before .before .before .before .before .before)) (gate (c .before .before .before .before .before .before .before .submit-way .result) (all-added c h .0)) .all)
+
+scan-requires : tie.Need-scan-requires Inv-loop μ-loop
+scan-requires c κs = search needs
+
+submit-way-requires : tie.Need-submit-way-requires Inv-loop μ-loop
 submit-way-requires c κs = search needs
 
-enum-known-way : tie.Need-enum-known-way
-enum-known-way c = search needs
+insert-of-requires : tie.Need-insert-of-requires Inv-loop μ-loop
+insert-of-requires c κs = search needs
 
-answered-requires : tie.Need-answered-requires
-answered-requires c κs = search needs
+store-by-requires : tie.Need-store-by-requires Inv-loop μ-loop
+store-by-requires c κs = λ g. (admitted ((c .before .before .before)) g .entry .ring-long, admitted ((c .before .before .before)) g .address)
 
-enum-known-way-2 : tie.Need-enum-known-way-2
-enum-known-way-2 c = search needs
+added-packets-requires : tie.Need-added-packets-requires Inv-loop μ-loop
+added-packets-requires c κs = search needs
 
-spend-requires : tie.Need-spend-requires
-spend-requires c κs = search needs
+slots-of-requires : tie.Need-slots-of-requires Inv-loop μ-loop
+slots-of-requires c κs = search needs
 
-answered-requires-2 : tie.Need-answered-requires-2
-answered-requires-2 c κs = search needs
+step-of-requires : tie.Need-step-of-requires Inv-loop μ-loop
+step-of-requires c κs = search needs
 
-enum-known-way-3 : tie.Need-enum-known-way-3
-enum-known-way-3 c = search needs
+rem-slot : tie.Need-rem-slot Inv-loop μ-loop
+rem-slot c = search needs
 
-spend-requires-2 : tie.Need-spend-requires-2
-spend-requires-2 c κs = search needs
+cast-to : tie.Need-cast-to Inv-loop μ-loop
+cast-to c = search needs
 
-answered-requires-3 : tie.Need-answered-requires-3
-answered-requires-3 c κs = search needs
+loop-holds : tie.Need-loop-holds Inv-loop μ-loop
+loop-holds c =
+    (omega arith, sym (first-slot (c .before .before .slots-of .result) (c .before .before .before .before .before .before .before .before .insert-of .result) (c .before .step-of .result)), omega arith, long-plans ((c .before .before .before .before .before .before .before .before .before .before .before .before .before .before .before .before .before)), refl, refl)
 
-enum-told : tie.Need-enum-told
-enum-told c = search needs
+mul-t31 : tie.Need-mul-t31 Inv-loop μ-loop
+mul-t31 c = omega (arith, fits ((c .before .before .before .before .before)) (omega arith))
 
-ring-words-requires : tie.Need-ring-words-requires
-ring-words-requires c κs = search needs
+shared-slice-read-t33 : tie.Need-shared-slice-read-t33 Inv-loop μ-loop
+shared-slice-read-t33 c = omega (arith, all-added ((c .before .before .before .before .before .before)) (omega arith) .1)
 
-clear-ring-requires : tie.Need-clear-ring-requires
-clear-ring-requires c κs =
-    subst⁻¹ (λ (n : ℕ). n ≤ length (c .before .before .before .before .before .before .before .before .args .ring .now)) (c .ring-words .ensures .0) (facts (c .before .before .before .before) Early (sym (c .before .before .enum-told .given .1) ∙ c .before .before .before .before .submit-way .ensures) tt .entry .ring-long)
+cast-t34 : tie.Need-cast-t34 Inv-loop μ-loop
+cast-t34 c = omega (arith, sure ((c .before .before .before .before .before .before)) (omega arith) .short (c .before .before .loop .i) (omega (arith, all-added ((c .before .before .before .before .before .before)) (omega arith) .1)))
 
-unplug-requires : tie.Need-unplug-requires
-unplug-requires c κs = search needs
+mul-t37 : tie.Need-mul-t37 Inv-loop μ-loop
+mul-t37 c = omega (arith, fits ((c .before .before .before .before .before .before)) (omega arith), c .before .before .loop .inv .2)
 
-answered-requires-4 : tie.Need-answered-requires-4
-answered-requires-4 c κs = search needs
+element-set-from-self : tie.Need-element-set-from-self Inv-loop μ-loop
+element-set-from-self c = omega (arith, fits ((c .before .before .before .before .before .before)) (omega arith), c .before .before .loop .inv .2, c .before .before .loop .inv .3)
 
-enum-told-2 : tie.Need-enum-told-2
-enum-told-2 c = search needs
+next-slot-requires : tie.Need-next-slot-requires Inv-loop μ-loop
+next-slot-requires c κs = search needs
 
-place-requires : tie.Need-place-requires
-place-requires c κs =
-    facts (c .before .before .before) Cut (sym (c .before .enum-told2 .given .1) ∙ c .before .before .before .submit-way .ensures) tt .entry .record-good
+add-to : tie.Need-add-to Inv-loop μ-loop
+add-to c = omega (arith, fits ((c .before .before .before .before .before .before .before)) (omega arith), c .before .before .before .loop .inv .2)
 
-store-requires : tie.Need-store-requires
-store-requires c κs = facts (c .before .before .before .before .before) Cut (sym (c .before .before .before .enum-told2 .given .1) ∙ c .before .before .before .before .before .submit-way .ensures) tt .address
+add-i : tie.Need-add-i Inv-loop μ-loop
+add-i c = omega (arith, fits ((c .before .before .before .before .before .before .before)) (omega arith))
 
-answered-requires-5 : tie.Need-answered-requires-5
-answered-requires-5 c κs = search needs
+loop-less : tie.Need-loop-less Inv-loop μ-loop
+loop-less c = omega arith
 
-enum-told-3 : tie.Need-enum-told-3
-enum-told-3 c = search needs
+loop-again : tie.Need-loop-again Inv-loop μ-loop
+loop-again c =
+    let a = c .before .before .before .before .before .before .before .before .before .before .before .before .before .before .before .before .before .before .before .before .before .args in
+    let now = c .before .before .before .loop in
+    let n = c .before .before .before .before .before .before .before .added-packets .result in
+    let R = c .before .before .before .before .before .before .slots-of .result in
+    let insert = c .before .before .before .before .before .before .before .before .before .before .before .before .insert-of .result in
+    let step = c .before .before .before .before .before .step-of .result in
+    let many : n ≤ length (a .lengths .now) = omega (arith, all-added ((c .before .before .before .before .before .before .before)) (omega arith) .1) in (
+      omega arith,
+      slot-more R insert step (now .i) (now .slot) (c .next-slot .result) (now .inv .1) (c .next-slot .ensures),
+      omega arith,
+      length-set (now .self .plans) _ _ ∙ now .inv .3,
+      ap (λ (s : IsoChannelState). whole (s .cfg) (s .head) (s .fatal) (s .requests) (set (now .self .plans) (now .to) (newPlan (getD (a .lengths .now) (now .i) 0) (now .slot)))) (now .inv .4),
+      plans-next R insert step (now .i) n (a .lengths .now) (now .self .plans) (now .to) (now .slot) (omega arith) many (now .inv .1) ∙ now .inv .5,
+    )
 
-ring-words-requires-2 : tie.Need-ring-words-requires-2
-ring-words-requires-2 c κs = search needs
+new-request-requires : tie.Need-new-request-requires Inv-loop μ-loop
+new-request-requires c κs = omega (arith, sure ((c .before .before .before .before .before .before)) (omega arith) .few, all-added ((c .before .before .before .before .before .before)) (omega arith) .1)
 
-clear-ring-requires-2 : tie.Need-clear-ring-requires-2
-clear-ring-requires-2 c κs =
-    subst⁻¹ (λ (n : ℕ). n ≤ length (c .before .before .before .before .before .before .before .before .args .ring .now)) (c .ring-words2 .ensures .0) (facts (c .before .before .before .before) Late (sym (c .before .before .enum-told3 .given .1) ∙ c .before .before .before .before .submit-way .ensures) tt .entry .ring-long)
+cast-t42 : tie.Need-cast-t42 Inv-loop μ-loop
+cast-t42 c = search needs
 
-unplug-requires-2 : tie.Need-unplug-requires-2
-unplug-requires-2 c κs = search needs
+mul-t43 : tie.Need-mul-t43 Inv-loop μ-loop
+mul-t43 c = omega (arith, sure ((c .before .before .before .before .before .before .before .before)) (omega arith) .requests)
 
-answered-requires-6 : tie.Need-answered-requires-6
-answered-requires-6 c κs = search needs
+element-set-from-self-2 : tie.Need-element-set-from-self-2 Inv-loop μ-loop
+element-set-from-self-2 c = omega (arith, sure ((c .before .before .before .before .before .before .before .before)) (omega arith) .requests)
 
-enum-told-4 : tie.Need-enum-told-4
-enum-told-4 c = search needs
+head-after-requires : tie.Need-head-after-requires Inv-loop μ-loop
+head-after-requires c κs = λ e. omega (arith, admitted ((c .before .before .before .before .before .before .before .before .before .before .before .before .before)) (gate (c .before .before .before .before .before .before .before .before .before .before .before .before .before .submit-way .result) e) .entry .requests)
 
-place-requires-2 : tie.Need-place-requires-2
-place-requires-2 c κs =
-    facts (c .before .before .before) Accept (sym (c .before .enum-told4 .given .1) ∙ c .before .before .before .submit-way .ensures) tt .entry .record-good
+answer-of-requires : tie.Need-answer-of-requires Inv-loop μ-loop
+answer-of-requires c κs = search needs
 
-store-requires-2 : tie.Need-store-requires-2
-store-requires-2 c κs = facts (c .before .before .before .before .before) Accept (sym (c .before .before .before .enum-told4 .given .1) ∙ c .before .before .before .before .before .submit-way .ensures) tt .address
+start-if-requires : tie.Need-start-if-requires Inv-loop μ-loop
+start-if-requires c κs = search needs
 
-accepted-requires : tie.Need-accepted-requires
-accepted-requires c κs =
-    acceptable (c .before .before .before .before .before .before .before .before .before .before .before .before .args .self) (c .before .before .before .before .before .before .before .before .before .before .before .before .args .transfer) (c .before .before .before .before .before .before .before .before .before .before .before .before .args .lengths .now) (c .before .before .before .before .before .before .before .before .before .before .before .before .args .ring .now) (c .before .before .before .before .place2 .result) (facts (c .before .before .before .before .before .before .before .before) Accept (sym (c .before .before .before .before .before .before .enum-told4 .given .1) ∙ c .before .before .before .before .before .before .before .before .submit-way .ensures) tt)
-
-same-length : tie.Need-same-length
+same-length : tie.Need-same-length Inv-loop μ-loop
 same-length c = search needs
 
-returns : tie.Need-returns
+returns : tie.Need-returns Inv-loop μ-loop
 returns c =
-    (answer-by (c .before .before .before .before .before .before .before .before .args .self) (c .before .before .before .before .before .before .before .before .args .transfer) (c .before .before .before .before .before .before .before .before .args .lengths .now) (c .before .before .before .before .before .before .before .before .args .ring .now) (sym (c .before .before .way .given .1) ∙ c .before .before .before .before .submit-way .ensures) (c .answered .ensures), ring-by (c .before .before .before .before .before .before .before .before .args .self) (c .before .before .before .before .before .before .before .before .args .transfer) (c .before .before .before .before .before .before .before .before .args .lengths .now) (c .before .before .before .before .before .before .before .before .args .ring .now) (sym (c .before .before .way .given .1) ∙ c .before .before .before .before .submit-way .ensures) refl)
-
-same-length-2 : tie.Need-same-length-2
-same-length-2 c = search needs
-
-returns-2 : tie.Need-returns-2
-returns-2 c =
-    (answer-by (c .before .before .before .before .before .before .before .before .before .args .self) (c .before .before .before .before .before .before .before .before .before .args .transfer) (c .before .before .before .before .before .before .before .before .before .args .lengths .now) (c .before .before .before .before .before .before .before .before .before .args .ring .now) (sym (c .before .before .before .way2 .given .1) ∙ c .before .before .before .before .before .submit-way .ensures) (c .answered2 .ensures ∙ ap (answeredBy (answer.PacketTooLong (c .before .before .before .way2 .given .0 .0))) (c .before .spend .ensures)), ring-by (c .before .before .before .before .before .before .before .before .before .args .self) (c .before .before .before .before .before .before .before .before .before .args .transfer) (c .before .before .before .before .before .before .before .before .before .args .lengths .now) (c .before .before .before .before .before .before .before .before .before .args .ring .now) (sym (c .before .before .before .way2 .given .1) ∙ c .before .before .before .before .before .submit-way .ensures) refl)
-
-same-length-3 : tie.Need-same-length-3
-same-length-3 c = search needs
-
-returns-3 : tie.Need-returns-3
-returns-3 c =
-    (answer-by (c .before .before .before .before .before .before .before .before .before .args .self) (c .before .before .before .before .before .before .before .before .before .args .transfer) (c .before .before .before .before .before .before .before .before .before .args .lengths .now) (c .before .before .before .before .before .before .before .before .before .args .ring .now) (sym (c .before .before .before .way3 .given .1) ∙ c .before .before .before .before .before .submit-way .ensures) (c .answered3 .ensures ∙ ap (answeredBy (answer.Refused (c .before .before .before .way3 .given .0 .0))) (c .before .spend2 .ensures)), ring-by (c .before .before .before .before .before .before .before .before .before .args .self) (c .before .before .before .before .before .before .before .before .before .args .transfer) (c .before .before .before .before .before .before .before .before .before .args .lengths .now) (c .before .before .before .before .before .before .before .before .before .args .ring .now) (sym (c .before .before .before .way3 .given .1) ∙ c .before .before .before .before .before .submit-way .ensures) refl)
-
-same-length-4 : tie.Need-same-length-4
-same-length-4 c = search needs
-
-returns-4 : tie.Need-returns-4
-returns-4 c =
-    (answer-by (c .before .before .before .before .before .before .before .before .before .before .before .before .before .args .self) (c .before .before .before .before .before .before .before .before .before .before .before .before .before .args .transfer) (c .before .before .before .before .before .before .before .before .before .before .before .before .before .args .lengths .now) (c .before .before .before .before .before .before .before .before .before .before .before .before .before .args .ring .now) (sym (c .before .before .before .before .before .before .before .enum-told .given .1) ∙ c .before .before .before .before .before .before .before .before .before .submit-way .ensures) (c .answered4 .ensures ∙ ap (answeredBy (answer.Refused 14)) (c .before .unplug .ensures)), ring-by (c .before .before .before .before .before .before .before .before .before .before .before .before .before .args .self) (c .before .before .before .before .before .before .before .before .before .before .before .before .before .args .transfer) (c .before .before .before .before .before .before .before .before .before .before .before .before .before .args .lengths .now) (c .before .before .before .before .before .before .before .before .before .before .before .before .before .args .ring .now) (sym (c .before .before .before .before .before .before .before .enum-told .given .1) ∙ c .before .before .before .before .before .before .before .before .before .submit-way .ensures) (c .before .before .before .before .clear-ring .ensures ∙ ap (λ (n : ℕ). cleared n (c .before .before .before .before .before .before .before .before .before .before .before .before .before .args .ring .now)) (c .before .before .before .before .before .ring-words .ensures .0)))
-
-same-length-5 : tie.Need-same-length-5
-same-length-5 c = search needs
-
-returns-5 : tie.Need-returns-5
-returns-5 c =
-    (answer-by (c .before .before .before .before .before .before .before .before .before .before .before .before .before .args .self) (c .before .before .before .before .before .before .before .before .before .before .before .before .before .args .transfer) (c .before .before .before .before .before .before .before .before .before .before .before .before .before .args .lengths .now) (c .before .before .before .before .before .before .before .before .before .before .before .before .before .args .ring .now) (sym (c .before .before .before .before .before .before .before .enum-told2 .given .1) ∙ c .before .before .before .before .before .before .before .before .before .submit-way .ensures) (c .answered5 .ensures), ring-by (c .before .before .before .before .before .before .before .before .before .before .before .before .before .args .self) (c .before .before .before .before .before .before .before .before .before .before .before .before .before .args .transfer) (c .before .before .before .before .before .before .before .before .before .before .before .before .before .args .lengths .now) (c .before .before .before .before .before .before .before .before .before .before .before .before .before .args .ring .now) (sym (c .before .before .before .before .before .before .before .enum-told2 .given .1) ∙ c .before .before .before .before .before .before .before .before .before .submit-way .ensures) (c .before .before .before .store .ensures ∙ ap (λ (i : ℕ). stored (take (c .before .before .before .before .before .before .before .before .before .before .before .before .before .args .transfer .words) (storesFrom (slots (c .before .before .before .before .before .before .before .before .before .before .before .before .before .args .self .cfg)) i (stepOf (c .before .before .before .before .before .before .before .before .before .before .before .before .before .args .self .cfg)) 0 (c .before .before .before .before .before .before .before .before .before .before .before .before .before .args .transfer .base) (c .before .before .before .before .before .before .before .before .before .before .before .before .before .args .lengths .now))) (c .before .before .before .before .before .before .before .before .before .before .before .before .before .args .ring .now)) (c .before .before .before .before .before .place .ensures)))
-
-same-length-6 : tie.Need-same-length-6
-same-length-6 c = search needs
-
-returns-6 : tie.Need-returns-6
-returns-6 c =
-    (answer-by (c .before .before .before .before .before .before .before .before .before .before .before .before .before .args .self) (c .before .before .before .before .before .before .before .before .before .before .before .before .before .args .transfer) (c .before .before .before .before .before .before .before .before .before .before .before .before .before .args .lengths .now) (c .before .before .before .before .before .before .before .before .before .before .before .before .before .args .ring .now) (sym (c .before .before .before .before .before .before .before .enum-told3 .given .1) ∙ c .before .before .before .before .before .before .before .before .before .submit-way .ensures) (c .answered6 .ensures ∙ ap (answeredBy (answer.Refused 14)) (c .before .unplug2 .ensures)), ring-by (c .before .before .before .before .before .before .before .before .before .before .before .before .before .args .self) (c .before .before .before .before .before .before .before .before .before .before .before .before .before .args .transfer) (c .before .before .before .before .before .before .before .before .before .before .before .before .before .args .lengths .now) (c .before .before .before .before .before .before .before .before .before .before .before .before .before .args .ring .now) (sym (c .before .before .before .before .before .before .before .enum-told3 .given .1) ∙ c .before .before .before .before .before .before .before .before .before .submit-way .ensures) (c .before .before .before .before .clear-ring2 .ensures ∙ ap (λ (n : ℕ). cleared n (c .before .before .before .before .before .before .before .before .before .before .before .before .before .args .ring .now)) (c .before .before .before .before .before .ring-words2 .ensures .0)))
-
-same-length-7 : tie.Need-same-length-7
-same-length-7 c = search needs
-
-returns-7 : tie.Need-returns-7
-returns-7 c = (
-  answer-by (c .before .before .before .before .before .before .before .before .before .before .before .before .before .args .self) (c .before .before .before .before .before .before .before .before .before .before .before .before .before .args .transfer) (c .before .before .before .before .before .before .before .before .before .before .before .before .before .args .lengths .now) (c .before .before .before .before .before .before .before .before .before .before .before .before .before .args .ring .now) (sym (c .before .before .before .before .before .before .before .enum-told4 .given .1) ∙ c .before .before .before .before .before .before .before .before .before .submit-way .ensures) (c .accepted .ensures ∙ ap (λ (i : ℕ). acceptedAnswer (c .before .before .before .before .before .before .before .before .before .before .before .before .before .args .self) (c .before .before .before .before .before .before .before .before .before .before .before .before .before .args .transfer) i (c .before .before .before .before .before .before .before .before .before .before .before .before .before .args .lengths .now)) (c .before .before .before .before .before .place2 .ensures)),
-  ring-by (c .before .before .before .before .before .before .before .before .before .before .before .before .before .args .self) (c .before .before .before .before .before .before .before .before .before .before .before .before .before .args .transfer) (c .before .before .before .before .before .before .before .before .before .before .before .before .before .args .lengths .now) (c .before .before .before .before .before .before .before .before .before .before .before .before .before .args .ring .now) (sym (c .before .before .before .before .before .before .before .enum-told4 .given .1) ∙ c .before .before .before .before .before .before .before .before .before .submit-way .ensures)
-      (c .before .before .before .store2 .ensures ∙ ap (λ (i : ℕ). stored (take (c .before .before .before .before .before .before .before .before .before .before .before .before .before .args .transfer .words) (storesFrom (slots (c .before .before .before .before .before .before .before .before .before .before .before .before .before .args .self .cfg)) i (stepOf (c .before .before .before .before .before .before .before .before .before .before .before .before .before .args .self .cfg)) 0 (c .before .before .before .before .before .before .before .before .before .before .before .before .before .args .transfer .base) (c .before .before .before .before .before .before .before .before .before .before .before .before .before .args .lengths .now))) (c .before .before .before .before .before .before .before .before .before .before .before .before .before .args .ring .now)) (c .before .before .before .before .before .place2 .ensures)
-      ∙ whole-plan (slots (c .before .before .before .before .before .before .before .before .before .before .before .before .before .args .self .cfg)) (insertOf (c .before .before .before .before .before .before .before .before .before .before .before .before .before .args .self) (c .before .before .before .before .before .before .before .before .before .before .before .before .before .args .transfer) (c .before .before .before .before .before .before .before .before .before .before .before .before .before .args .ring .now)) (stepOf (c .before .before .before .before .before .before .before .before .before .before .before .before .before .args .self .cfg)) 0 (c .before .before .before .before .before .before .before .before .before .before .before .before .before .args .transfer .base) (c .before .before .before .before .before .before .before .before .before .before .before .before .before .args .transfer .words) (c .before .before .before .before .before .before .before .before .before .before .before .before .before .args .lengths .now) (c .before .before .before .before .before .before .before .before .before .before .before .before .before .args .ring .now) (told-of (c .before .before .before .before .before .before .before .before .before .before .before .before .before .args .self) (c .before .before .before .before .before .before .before .before .before .before .before .before .before .args .transfer) (c .before .before .before .before .before .before .before .before .before .before .before .before .before .args .lengths .now) (c .before .before .before .before .before .before .before .before .before .before .before .before .before .args .ring .now) Accept (sym (sym (c .before .before .before .before .before .before .before .enum-told4 .given .1) ∙ c .before .before .before .before .before .before .before .before .before .submit-way .ensures)) .1)),
-)
+    let a = c .before .before .before .before .before .before .before .before .before .before .before .before .before .before .before .before .before .before .before .before .before .before .before .before .args in
+    let s = a .t1 in
+    let L = a .lengths .now in
+    let now = c .before .before .before .before .before .before .loop in
+    let n = c .before .before .before .before .before .before .before .before .before .before .added-packets .result in
+    let insert = c .before .before .before .before .before .before .before .before .before .before .before .before .before .before .before .insert-of .result in
+    let all = c .before .before .before .before .before .before .before .before .before .before .before .before .before .before .before .before .before .before .before .scan .result .all in
+    let way = c .before .before .before .before .before .before .before .before .before .before .before .before .before .before .before .before .before .submit-way .result in
+    let there = insert-is ((c .before .before .before .before .before .before .before .before .before .before .before .before .before .before .before)) in
+    let end : now .i ≡ n = omega arith in
+    let put : now .self .plans ≡ sets (s .plans) all (plansFrom (slots (s .cfg)) insert (stepOf (s .cfg)) 0 (take n L)) =
+    plans-past (c .before .before .before .before .before .before .before .before .before .slots-of .result) insert (c .before .before .before .before .before .before .before .before .step-of .result) (now .i) n L (now .self .plans) (now .to) (omega arith)
+    ∙ now .inv .5
+    ∙ ap₂ (λ (R k : ℕ). sets (s .plans) all (plansFrom R insert k 0 (take n L))) (c .before .before .before .before .before .before .before .before .before .slots-of .ensures .0) (c .before .before .before .before .before .before .before .before .step-of .ensures) in
+    let last : now .slot ≡ slotAt (slots (s .cfg)) insert (stepOf (s .cfg)) n =
+    now .inv .1 ∙ ap (slotAt (c .before .before .before .before .before .before .before .before .before .slots-of .result) insert (c .before .before .before .before .before .before .before .before .step-of .result)) end ∙ ap₂ (λ (R k : ℕ). slotAt R insert k n) (c .before .before .before .before .before .before .before .before .before .slots-of .ensures .0) (c .before .before .before .before .before .before .before .before .step-of .ensures) in
+    let push : Pushed s (a .transfer) L (a .ring .now) insert n all (now .slot) way (c .before .before .before .before .if1 .self) (now .self .plans) =
+    ⊎-elim
+    (λ w. inl (w .0 .taken, w .3 ∙ ap₂ (λ (x : IsoChannelState) (q : IsoRequest). whole (x .cfg) (x .head) (x .fatal) (set (x .requests) (s .head .count) q) (x .plans)) (now .inv .4) (w .1 .ensures)))
+    (λ w. inr (w .0 .left, w .1 ∙ now .inv .4))
+    (c .before .before .before .before .if1 .came) in
+    let accepts : way ≡ Accept → Admitted s (a .transfer) L (a .ring .now) = λ e. admitted ((c .before .before .before .before .before .before .before .before .before .before .before .before .before .before .before .before .before)) (gate way e) in (
+      answer-by s (a .transfer) L (a .ring .now) (way-is ((c .before .before .before .before .before .before .before .before .before .before .before .before .before .before .before .before .before)))
+          (submitted-by s (a .transfer) L (a .ring .now) insert n all (now .slot) way (c .before .before .before .before .if1 .self) (now .self .plans) (c .before .before .answer-of .result) (c .start-if .result) (c .before .before .before .head-after .result) push put (c .before .before .before .before .before .before .before .before .before .before .added-packets .ensures) there
+          (λ e. (walked ((c .before .before .before .before .before .before .before .before .before .before .before .before .before .before .before .before .before)) (gate way e) .all, accepts e .entry .some)) last (c .before .before .answer-of .ensures) (c .start-if .ensures) (c .before .before .before .head-after .ensures)),
+      ring-by s (a .transfer) L (a .ring .now) (way-is ((c .before .before .before .before .before .before .before .before .before .before .before .before .before .before .before .before .before)))
+          (c .before .before .before .before .before .before .before .before .before .before .before .before .before .store-by .ensures ∙ ring-left s (a .transfer) L (a .ring .now) insert way there (λ e. told-of s (a .transfer) L (a .ring .now) Accept (sym (way-is ((c .before .before .before .before .before .before .before .before .before .before .before .before .before .before .before .before .before))) ∙ e) .1)),
+    )
 
 pub submit-spec : {M : Type 1} → statement M
 submit-spec =
     tie.close
     (tie.spec
+    Inv-loop
+    μ-loop
+    scan-requires
     submit-way-requires
-    enum-known-way
-    answered-requires
-    enum-known-way-2
-    spend-requires
-    answered-requires-2
-    enum-known-way-3
-    spend-requires-2
-    answered-requires-3
-    enum-told
-    ring-words-requires
-    clear-ring-requires
-    unplug-requires
-    answered-requires-4
-    enum-told-2
-    place-requires
-    store-requires
-    answered-requires-5
-    enum-told-3
-    ring-words-requires-2
-    clear-ring-requires-2
-    unplug-requires-2
-    answered-requires-6
-    enum-told-4
-    place-requires-2
-    store-requires-2
-    accepted-requires
+    insert-of-requires
+    store-by-requires
+    added-packets-requires
+    slots-of-requires
+    step-of-requires
+    rem-slot
+    cast-to
+    loop-holds
+    mul-t31
+    shared-slice-read-t33
+    cast-t34
+    mul-t37
+    element-set-from-self
+    next-slot-requires
+    add-to
+    add-i
+    loop-less
+    loop-again
+    new-request-requires
+    cast-t42
+    mul-t43
+    element-set-from-self-2
+    head-after-requires
+    answer-of-requires
+    start-if-requires
     same-length
-    returns
-    same-length-2
-    returns-2
-    same-length-3
-    returns-3
-    same-length-4
-    returns-4
-    same-length-5
-    returns-5
-    same-length-6
-    returns-6
-    same-length-7
-    returns-7)
+    returns)

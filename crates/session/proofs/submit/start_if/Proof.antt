@@ -1,0 +1,23 @@
+-- `start_if`: each arm knows whether this submission is the first.
+use mathlib.Core.Path.{_∙_, sym, ap}
+use mathlib.Core.Bool.{Bool, cond}
+use Rattle.session.specs.Scan.{only}
+use Rattle.session.specs.Submit.{noStart, startWords}
+use borrow.Author.Needs.{needs}
+use Rattle.session.proofs.submit.start_if.Statement.{statement}
+use Rattle.session.proofs.submit.start_if.Tie as tie
+
+start-words-requires : tie.Need-start-words-requires
+start-words-requires c κs = search needs
+
+returns : tie.Need-returns
+returns c = c .start-words .ensures ∙ sym (ap (λ (b : Bool). cond b (startWords (only (c .before .before .args .cfg) (c .before .before .args .head)) (c .before .before .args .transfer)) noStart) (c .before .if1 .taken))
+
+no-start-requires : tie.Need-no-start-requires
+no-start-requires c κs = search needs
+
+returns-2 : tie.Need-returns-2
+returns-2 c = c .no-start .ensures ∙ sym (ap (λ (b : Bool). cond b (startWords (only (c .before .before .args .cfg) (c .before .before .args .head)) (c .before .before .args .transfer)) noStart) (c .before .if1 .left))
+
+pub start-if-spec : {M : Type 1} → statement M
+start-if-spec = tie.close (tie.spec start-words-requires returns no-start-requires returns-2)

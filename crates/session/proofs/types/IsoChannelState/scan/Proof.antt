@@ -1,0 +1,370 @@
+-- `scan` tests in the definition's order: each return is the definition at the tests that led there. The invariants: what is still to walk
+-- holds a bad entry exactly if the whole does, its packets and those counted are all of them, and a slot is marked, or a pending plan still to
+-- be passed has it, just where a pending plan has it. The measures are the entries left.
+use mathlib.Core.Path.{_≡_, refl, _∙_, sym, ap, ap₂}
+use mathlib.Core.List.{List}
+use mathlib.Core.Bool.{Bool, true, false, not, _||_, _&&_}
+use mathlib.Core.Logic.{⊎-elim}
+use Prim.Native.Nat.{ℕ, _+_, _-_, _*_, _≤_, _<_}
+use native.Mathlib.Nat.{zero-add}
+use native.Mathlib.Omega.{arith}
+use lib.Dec.{leb, ltb}
+use lib.ListN.{length, getD, length-map, length-set}
+use lib.Seq.{slice}
+use borrow.Author.Needs.{needs}
+use borrow.Author.Tests.{ltb-false}
+use Rattle.ring.specs.RingSums.{packetLimit}
+use Rattle.session.specs.declared.types.IsoChannelState.{IsoChannelState}
+use Rattle.session.specs.declared.types.IsoPacketPlan.{IsoPacketPlan}
+use Rattle.session.specs.Session.{blankRequest, blankPlan, slots, room, packetsOf, allPackets, pendingPackets, hasReason}
+use Rattle.session.specs.Record.{isBadConfig, isBadCounts, anyBadRequest, isBadSums, anyBadPlan, isBadRecord}
+use Rattle.session.specs.Submit.{isHeld}
+use Rattle.session.proofs.Laws.Record.{ring-few, packets-next, packets-past, packets-split, pending-next, request-here, request-next, request-past, plan-here, plan-next, plan-past, good-request, good-plan, bad-found}
+use Rattle.session.proofs.Laws.Stores.{marks-first, marks-all, mark-set, mark-pending, mark-done}
+use Rattle.session.proofs.Laws.Tests.{neither}
+use Rattle.session.proofs.types.IsoChannelState.scan.Statement.{statement}
+use Rattle.session.proofs.types.IsoChannelState.scan.Tie as tie
+
+abbrev Inv-loop : tie.InvT-loop
+Inv-loop self cfg head all₀ pending₀ i₀ all pending i =
+    (i ≤ head .count) × (all ≤ i * 255) × (pending ≤ i * 255)
+    × (anyBadRequest (slice 0 (head .count) (self .requests)) ≡ anyBadRequest (slice i (head .count) (self .requests)))
+    × (all + packetsOf (slice i (head .count) (self .requests)) ≡ packetsOf (slice 0 (head .count) (self .requests)))
+    × (pending + packetsOf (slice (head .done + (i - head .done)) (head .count) (self .requests)) ≡ packetsOf (slice (head .done) (head .count) (self .requests)))
+
+abbrev μ-loop : tie.MeasureT-loop
+μ-loop self cfg head all₀ pending₀ i₀ all pending i = head .count - i
+
+abbrev Inv-loop2 : tie.InvT-loop2
+Inv-loop2 self head all pending i slots limit held₀ j₀ held j =
+    (j ≤ all) × (anyBadPlan limit slots (slice 0 all (self .plans)) ≡ anyBadPlan limit slots (slice j all (self .plans)))
+    × (length held ≡ 256)
+    × ((k : ℕ) → k < 256
+    → (getD held k false || isHeld (slice ((all - pending) + (j - (all - pending))) all (self .plans)) k) ≡ isHeld (slice (all - pending) all (self .plans)) k)
+
+abbrev μ-loop2 : tie.MeasureT-loop2
+μ-loop2 self head all pending i slots limit held₀ j₀ held j = all - j
+
+-- the tables have their lengths
+long-requests : (c : tie.Start Inv-loop μ-loop Inv-loop2 μ-loop2) → length (c .args .t1 .requests) ≡ 64
+long-requests c = sym (length-map (c .args .t1 .requests) _) ∙ c .good .0 .1 .1 .1 .1 .1 .0 .1 .0 .1
+
+long-plans : (c : tie.Start Inv-loop μ-loop Inv-loop2 μ-loop2) → length (c .args .t1 .plans) ≡ 1024
+long-plans c = sym (length-map (c .args .t1 .plans) _) ∙ c .good .0 .1 .1 .1 .1 .1 .1 .0 .1 .0 .1
+
+-- what each test that was passed says of the definition
+past1 : (c : tie.Else1 Inv-loop μ-loop Inv-loop2 μ-loop2) → (isBadConfig (c .before .before .before .before .before .before .args .t1 .cfg) || isBadCounts (c .before .before .before .before .before .before .args .t1)) ≡ false
+past1 c = ap (λ (b : Bool). b || isBadCounts (c .before .before .before .before .before .before .args .t1)) (sym (c .before .before .before .is-bad-config .ensures)) ∙ c .if1 .left
+
+counts : (c : tie.Else1 Inv-loop μ-loop Inv-loop2 μ-loop2) → (c .before .before .before .before .before .before .args .t1 .head .done ≤ c .before .before .before .before .before .before .args .t1 .head .count) × (c .before .before .before .before .before .before .args .t1 .head .count ≤ 64)
+counts c =
+    let s = c .before .before .before .before .before .before .args .t1 in
+    let n = neither (ltb (s .head .count) (s .head .done)) (ltb 64 (s .head .count)) (neither (isBadConfig (s .cfg)) (isBadCounts s) (past1 c) .1) in
+    (ltb-false (s .head .count) (s .head .done) (n .0), ltb-false 64 (s .head .count) (n .1))
+
+within : (c : tie.Else1 Inv-loop μ-loop Inv-loop2 μ-loop2) → c .before .before .before .before .before .before .args .t1 .head .count ≤ length (c .before .before .before .before .before .before .args .t1 .requests)
+within c = omega (arith, counts c .1, long-requests ((c .before .before .before .before .before .before)))
+
+past2 : (c : tie.Else2 Inv-loop μ-loop Inv-loop2 μ-loop2) → anyBadRequest (slice 0 (c .before .before .before .before .before .before .before .before .before .args .t1 .head .count) (c .before .before .before .before .before .before .before .before .before .args .t1 .requests)) ≡ false
+past2 c = c .before .before .loop .inv .3 ∙ request-past (c .before .before .loop .i) (c .before .before .before .before .before .before .before .before .before .args .t1 .head .count) (c .before .before .before .before .before .before .before .before .before .args .t1 .requests) (c .if2 .left)
+
+-- the sums that the code tests are the definition's
+all-is : (c : tie.Else2 Inv-loop μ-loop Inv-loop2 μ-loop2) → c .before .before .loop .all ≡ allPackets (c .before .before .before .before .before .before .before .before .before .args .t1)
+all-is c = omega (arith, c .before .before .loop .inv .4, packets-past (c .before .before .loop .i) (c .before .before .before .before .before .before .before .before .before .args .t1 .head .count) (c .before .before .before .before .before .before .before .before .before .args .t1 .requests) (c .if2 .left))
+
+pending-is : (c : tie.Else2 Inv-loop μ-loop Inv-loop2 μ-loop2) → c .before .before .loop .pending ≡ pendingPackets (c .before .before .before .before .before .before .before .before .before .args .t1)
+pending-is c =
+    let s = c .before .before .before .before .before .before .before .before .before .args .t1 in
+    let past : s .head .count ≤ s .head .done + (c .before .before .loop .i - s .head .done) = omega (arith, c .if2 .left) in
+    omega (arith, c .before .before .loop .inv .5, packets-past (s .head .done + (c .before .before .loop .i - s .head .done)) (s .head .count) (s .requests) past)
+
+-- the pending packets are among all of them
+pending-in : (c : tie.Else2 Inv-loop μ-loop Inv-loop2 μ-loop2) → c .before .before .loop .pending ≤ c .before .before .loop .all
+pending-in c =
+    let s = c .before .before .before .before .before .before .before .before .before .args .t1 in
+    omega (arith, all-is c, pending-is c, packets-split (s .head .done) (s .head .count) (s .requests) (counts ((c .before .before .before)) .0) (within ((c .before .before .before))))
+
+sums-are : (c : tie.After-wide2 Inv-loop μ-loop Inv-loop2 μ-loop2) → (ltb 1024 (c .before .before .before .before .loop .all) || ltb (c .wide2 .result) (c .before .before .before .before .loop .pending)) ≡ isBadSums (c .before .before .before .before .before .before .before .before .before .before .before .args .t1)
+sums-are c =
+    ap (λ (all : ℕ). ltb 1024 all || ltb (c .wide2 .result) (c .before .before .before .before .loop .pending)) (all-is ((c .before .before)))
+    ∙ ap₂ (λ (most pending : ℕ). ltb 1024 (allPackets (c .before .before .before .before .before .before .before .before .before .before .before .args .t1)) || ltb most pending) (c .wide2 .ensures .0 ∙ c .before .room .ensures) (pending-is ((c .before .before)))
+
+past3 : (c : tie.Else4 Inv-loop μ-loop Inv-loop2 μ-loop2) → isBadSums (c .before .before .before .before .before .before .before .before .before .before .before .before .args .t1) ≡ false
+past3 c = sym (sums-are ((c .before))) ∙ c .if4 .left
+
+few-plans : (c : tie.Else4 Inv-loop μ-loop Inv-loop2 μ-loop2) → c .before .before .before .before .before .loop .all ≤ 1024
+few-plans c =
+    let s = c .before .before .before .before .before .before .before .before .before .before .before .before .args .t1 in
+    omega (arith, all-is ((c .before .before .before)), ltb-false 1024 (allPackets s) (neither (ltb 1024 (allPackets s)) (ltb (room (s .cfg)) (pendingPackets s)) (past3 c) .0))
+
+-- and so are the plans that it walks
+abbrev isBadPlans : IsoChannelState → Bool
+isBadPlans s = anyBadPlan (packetLimit (s .cfg .speed)) (slots (s .cfg)) (slice 0 (allPackets s) (s .plans))
+
+plans-equal :
+    {found : Bool} {limit limit′ size size′ all all′ : ℕ} (l : List IsoPacketPlan) → found ≡ anyBadPlan limit size (slice 0 all l) → limit ≡ limit′
+    → size ≡ size′ → all ≡ all′ → found ≡ anyBadPlan limit′ size′ (slice 0 all′ l)
+plans-equal l e p q r = cc
+
+-- a plan that is not bad has a slot below 256
+slot-below : (c : tie.Else5 Inv-loop μ-loop Inv-loop2 μ-loop2) → getD (c .before .before .before .before .before .before .before .before .before .before .before .before .before .before .before .before .before .before .before .args .t1 .plans) (c .before .before .before .before .loop2 .j) blankPlan .«desc_index» < 256
+slot-below c =
+    let good = sym (c .before .is-bad-plan .ensures) ∙ c .if5 .left in
+    omega (arith, good-plan (c .before .before .before .before .before .iso-max-xfer-size .result) (c .before .before .before .before .before .before .iso-ring-size .result) (getD (c .before .before .before .before .before .before .before .before .before .before .before .before .before .before .before .before .before .before .before .args .t1 .plans) (c .before .before .before .before .loop2 .j) blankPlan) good .slot, c .before .before .before .before .before .before .iso-ring-size .ensures, ring-few (c .before .before .before .before .before .before .before .before .before .before .before .before .before .before .before .before .before .before .before .args .t1 .cfg .speed))
+
+is-bad-config-requires : tie.Need-is-bad-config-requires Inv-loop μ-loop Inv-loop2 μ-loop2
+is-bad-config-requires c κs = search needs
+
+bad-scan-requires : tie.Need-bad-scan-requires Inv-loop μ-loop Inv-loop2 μ-loop2
+bad-scan-requires c κs = search needs
+
+returns : tie.Need-returns Inv-loop μ-loop Inv-loop2 μ-loop2
+returns c =
+    let s = c .before .before .before .before .before .before .before .args .t1 in
+    let e1 : (isBadConfig (s .cfg) || isBadCounts s) ≡ true = ap (λ (b : Bool). b || isBadCounts s) (sym (c .before .before .before .before .is-bad-config .ensures)) ∙ c .before .if1 .taken in
+    let bad : isBadRecord s ≡ true = simp e1 in
+    bad-found s (c .bad-scan .result) (c .bad-scan .ensures) bad
+
+loop-holds : tie.Need-loop-holds Inv-loop μ-loop Inv-loop2 μ-loop2
+loop-holds c =
+    let s = c .before .before .before .before .before .before .args .t1 in
+    let first : s .head .done + (0 - s .head .done) ≡ s .head .done = omega arith in
+    (omega arith, omega arith, omega arith, refl, zero-add (allPackets s), zero-add (packetsOf (slice (s .head .done + (0 - s .head .done)) (s .head .count) (s .requests))) ∙ ap (λ (f : ℕ). packetsOf (slice f (s .head .count) (s .requests))) first)
+
+cast-request : tie.Need-cast-request Inv-loop μ-loop Inv-loop2 μ-loop2
+cast-request c = search needs
+
+mul-request : tie.Need-mul-request Inv-loop μ-loop Inv-loop2 μ-loop2
+mul-request c = omega (arith, counts ((c .before .before .before)) .1, c .if2 .taken)
+
+element-copy-out-request : tie.Need-element-copy-out-request Inv-loop μ-loop Inv-loop2 μ-loop2
+element-copy-out-request c = omega (arith, counts ((c .before .before .before)) .1, c .if2 .taken)
+
+is-bad-request-requires : tie.Need-is-bad-request-requires Inv-loop μ-loop Inv-loop2 μ-loop2
+is-bad-request-requires c κs = search needs
+
+bad-scan-requires-2 : tie.Need-bad-scan-requires-2 Inv-loop μ-loop Inv-loop2 μ-loop2
+bad-scan-requires-2 c κs = search needs
+
+returns-2 : tie.Need-returns-2 Inv-loop μ-loop Inv-loop2 μ-loop2
+returns-2 c =
+    let s = c .before .before .before .before .before .before .before .before .before .before .before .before .before .args .t1 in
+    let now = c .before .before .before .before .before .before .loop in
+    let e1 : (isBadConfig (s .cfg) || isBadCounts s) ≡ false = past1 ((c .before .before .before .before .before .before .before)) in
+    let here = sym (c .before .before .is-bad-request .ensures) ∙ c .before .if3 .taken in
+    let e2 : anyBadRequest (slice 0 (s .head .count) (s .requests)) ≡ true =
+    now .inv .3 ∙ request-here (now .i) (s .head .count) (s .requests) (c .before .before .before .before .if2 .taken) (within ((c .before .before .before .before .before .before .before))) here in
+    let bad : isBadRecord s ≡ true = simp (e1, e2) in
+    bad-found s (c .bad-scan2 .result) (c .bad-scan2 .ensures) bad
+
+wide-requires : tie.Need-wide-requires Inv-loop μ-loop Inv-loop2 μ-loop2
+wide-requires c κs = search needs
+
+add-all : tie.Need-add-all Inv-loop μ-loop Inv-loop2 μ-loop2
+add-all c = omega (arith, counts ((c .before .before .before .before .before .before .before)) .1, c .before .before .before .before .if2 .taken, c .before .before .before .before .before .before .loop .inv .1, c .wide .ensures .1)
+
+wide-from-requires : tie.Need-wide-from-requires Inv-loop μ-loop Inv-loop2 μ-loop2
+wide-from-requires c κs = search needs
+
+add-pending : tie.Need-add-pending Inv-loop μ-loop Inv-loop2 μ-loop2
+add-pending c = omega (arith, counts ((c .before .before .before .before .before .before .before .before)) .1, c .before .before .before .before .before .if2 .taken, c .before .before .before .before .before .before .before .loop .inv .2, c .wide-from .ensures .1, c .before .wide .ensures .0, c .before .wide .ensures .1)
+
+add-i : tie.Need-add-i Inv-loop μ-loop Inv-loop2 μ-loop2
+add-i c = omega (arith, counts ((c .before .before .before .before .before .before .before .before)) .1, c .before .before .before .before .before .if2 .taken)
+
+loop-less : tie.Need-loop-less Inv-loop μ-loop Inv-loop2 μ-loop2
+loop-less c = omega (arith, c .before .before .before .before .before .if2 .taken)
+
+loop-again : tie.Need-loop-again Inv-loop μ-loop Inv-loop2 μ-loop2
+loop-again c =
+    let s = c .before .before .before .before .before .before .before .before .before .before .before .before .before .before .args .t1 in
+    let now = c .before .before .before .before .before .before .before .loop in
+    let good = sym (c .before .before .before .is-bad-request .ensures) ∙ c .before .before .if3 .left in
+    let few = good-request (getD (s .requests) (now .i) blankRequest) good .few in
+    let less : now .i < s .head .count = c .before .before .before .before .before .if2 .taken in
+    let long = within ((c .before .before .before .before .before .before .before .before)) in
+    (omega (arith, less), omega (arith, now .inv .1, few, c .before .wide .ensures .0), omega (arith, now .inv .2, few, c .wide-from .ensures .1), now .inv .3 ∙ request-next (now .i) (s .head .count) (s .requests) less long good, omega (arith, now .inv .4, packets-next (now .i) (s .head .count) (s .requests) less long, c .before .wide .ensures .0), omega (arith, now .inv .5, pending-next (s .head .done) (now .i) (s .head .count) (s .requests) less long, c .wide-from .ensures .0))
+
+room-requires : tie.Need-room-requires Inv-loop μ-loop Inv-loop2 μ-loop2
+room-requires c κs = search needs
+
+wide-requires-2 : tie.Need-wide-requires-2 Inv-loop μ-loop Inv-loop2 μ-loop2
+wide-requires-2 c κs = search needs
+
+bad-scan-requires-3 : tie.Need-bad-scan-requires-3 Inv-loop μ-loop Inv-loop2 μ-loop2
+bad-scan-requires-3 c κs = search needs
+
+returns-3 : tie.Need-returns-3 Inv-loop μ-loop Inv-loop2 μ-loop2
+returns-3 c =
+    let s = c .before .before .before .before .before .before .before .before .before .before .before .before .before .args .t1 in
+    let e1 : (isBadConfig (s .cfg) || isBadCounts s) ≡ false = past1 ((c .before .before .before .before .before .before .before)) in
+    let e2 : anyBadRequest (slice 0 (s .head .count) (s .requests)) ≡ false = past2 ((c .before .before .before .before)) in
+    let e3 : isBadSums s ≡ true = sym (sums-are ((c .before .before))) ∙ c .before .if4 .taken in
+    let bad : isBadRecord s ≡ true = simp (e1, e2, e3) in
+    bad-found s (c .bad-scan3 .result) (c .bad-scan3 .ensures) bad
+
+iso-ring-size-requires : tie.Need-iso-ring-size-requires Inv-loop μ-loop Inv-loop2 μ-loop2
+iso-ring-size-requires c κs = search needs
+
+iso-max-xfer-size-requires : tie.Need-iso-max-xfer-size-requires Inv-loop μ-loop Inv-loop2 μ-loop2
+iso-max-xfer-size-requires c κs = search needs
+
+loop2-holds : tie.Need-loop2-holds Inv-loop μ-loop Inv-loop2 μ-loop2
+loop2-holds c =
+    (omega arith, refl, refl, marks-first (c .before .before .before .before .before .before .before .loop .all - c .before .before .before .before .before .before .before .loop .pending) (c .before .before .before .before .before .before .before .loop .all) (c .before .before .before .before .before .before .before .before .before .before .before .before .before .before .args .t1 .plans))
+
+cast-plan : tie.Need-cast-plan Inv-loop μ-loop Inv-loop2 μ-loop2
+cast-plan c = search needs
+
+mul-plan : tie.Need-mul-plan Inv-loop μ-loop Inv-loop2 μ-loop2
+mul-plan c = omega (arith, few-plans ((c .before .before .before .before)))
+
+element-copy-out-plan : tie.Need-element-copy-out-plan Inv-loop μ-loop Inv-loop2 μ-loop2
+element-copy-out-plan c = omega (arith, few-plans ((c .before .before .before .before)))
+
+is-bad-plan-requires : tie.Need-is-bad-plan-requires Inv-loop μ-loop Inv-loop2 μ-loop2
+is-bad-plan-requires c κs = search needs
+
+bad-scan-requires-4 : tie.Need-bad-scan-requires-4 Inv-loop μ-loop Inv-loop2 μ-loop2
+bad-scan-requires-4 c κs = search needs
+
+returns-4 : tie.Need-returns-4 Inv-loop μ-loop Inv-loop2 μ-loop2
+returns-4 c =
+    let s = c .before .before .before .before .before .before .before .before .before .before .before .before .before .before .before .before .before .before .before .before .args .t1 in
+    let now = c .before .before .before .before .before .loop2 in
+    let limit = c .before .before .before .before .before .before .iso-max-xfer-size .result in
+    let size = c .before .before .before .before .before .before .before .iso-ring-size .result in
+    let all = c .before .before .before .before .before .before .before .before .before .before .before .before .before .loop .all in
+    let e1 : (isBadConfig (s .cfg) || isBadCounts s) ≡ false = past1 ((c .before .before .before .before .before .before .before .before .before .before .before .before .before .before)) in
+    let e2 : anyBadRequest (slice 0 (s .head .count) (s .requests)) ≡ false = past2 ((c .before .before .before .before .before .before .before .before .before .before .before)) in
+    let e3 : isBadSums s ≡ false = past3 ((c .before .before .before .before .before .before .before .before)) in
+    let here = sym (c .before .before .is-bad-plan .ensures) ∙ c .before .if5 .taken in
+    let one = now .inv .1 ∙ plan-here limit size (now .j) all (s .plans) (omega arith) (omega (arith, few-plans ((c .before .before .before .before .before .before .before .before)), long-plans ((c .before .before .before .before .before .before .before .before .before .before .before .before .before .before .before .before .before .before .before .before)))) here in
+    let e4 : isBadPlans s ≡ true = sym (plans-equal (s .plans) (sym one) (c .before .before .before .before .before .before .iso-max-xfer-size .ensures) (c .before .before .before .before .before .before .before .iso-ring-size .ensures) (all-is ((c .before .before .before .before .before .before .before .before .before .before .before)))) in
+    let bad : isBadRecord s ≡ true = simp (e1, e2, e3, e4) in
+    bad-found s (c .bad-scan4 .result) (c .bad-scan4 .ensures) bad
+
+sub-if6 : tie.Need-sub-if6 Inv-loop μ-loop Inv-loop2 μ-loop2
+sub-if6 c = omega (arith, pending-in ((c .before .before .before .before .before .before .before .before .before .before)))
+
+cast-held : tie.Need-cast-held Inv-loop μ-loop Inv-loop2 μ-loop2
+cast-held c = omega (arith, slot-below ((c .before .before)))
+
+array-write-held : tie.Need-array-write-held Inv-loop μ-loop Inv-loop2 μ-loop2
+array-write-held c = omega (arith, slot-below ((c .before .before)))
+
+add-j : tie.Need-add-j Inv-loop μ-loop Inv-loop2 μ-loop2
+add-j c = omega (arith, few-plans ((c .before .before .before .before .before .before .before .before)))
+
+loop2-less : tie.Need-loop2-less Inv-loop μ-loop Inv-loop2 μ-loop2
+loop2-less c = omega arith
+
+loop2-again : tie.Need-loop2-again Inv-loop μ-loop Inv-loop2 μ-loop2
+loop2-again c =
+    let s = c .before .before .before .before .before .before .before .before .before .before .before .before .before .before .before .before .before .before .before .before .args .t1 in
+    let now = c .before .before .before .before .before .loop2 in
+    let all = c .before .before .before .before .before .before .before .before .before .before .before .before .before .loop .all in
+    let from = all - c .before .before .before .before .before .before .before .before .before .before .before .before .before .loop .pending in
+    let slot = getD (s .plans) (now .j) blankPlan .«desc_index» in
+    let good = sym (c .before .before .is-bad-plan .ensures) ∙ c .before .if5 .left in
+    let fits : all ≤ length (s .plans) = omega (arith, few-plans ((c .before .before .before .before .before .before .before .before)), long-plans ((c .before .before .before .before .before .before .before .before .before .before .before .before .before .before .before .before .before .before .before .before))) in (
+      omega arith,
+      now .inv .1 ∙ plan-next (c .before .before .before .before .before .before .iso-max-xfer-size .result) (c .before .before .before .before .before .before .before .iso-ring-size .result) (now .j) all (s .plans) (omega arith) fits good,
+      ⊎-elim (λ w. ap length (w .2) ∙ simp length-set (now .inv .2)) (λ w. ap length (w .1) ∙ now .inv .2) (c .if6 .came),
+      λ k h. ⊎-elim
+          (λ w. mark-pending (now .held) (c .if6 .held) (s .plans) from (now .j) all slot k (w .0 .taken) (omega arith) fits refl (mark-set (now .held) (c .if6 .held) slot k h (now .inv .2) (w .2)))
+          (λ w. mark-done (now .held) (c .if6 .held) (s .plans) from (now .j) all k (w .0 .left) (w .1))
+          (c .if6 .came)
+          ∙ now .inv .3 k h,
+    )
+
+rest-requires : tie.Need-rest-requires Inv-loop μ-loop Inv-loop2 μ-loop2
+rest-requires c κs = search needs
+
+mul-tail : tie.Need-mul-tail Inv-loop μ-loop Inv-loop2 μ-loop2
+mul-tail c = omega (arith, few-plans ((c .before .before .before .before .before)), c .rest .ensures)
+
+element-copy-out-tail : tie.Need-element-copy-out-tail Inv-loop μ-loop Inv-loop2 μ-loop2
+element-copy-out-tail c = omega (arith, few-plans ((c .before .before .before .before .before)), c .rest .ensures)
+
+is-bad-state-requires : tie.Need-is-bad-state-requires Inv-loop μ-loop Inv-loop2 μ-loop2
+is-bad-state-requires c κs = search needs
+
+returns-5 : tie.Need-returns-5 Inv-loop μ-loop Inv-loop2 μ-loop2
+returns-5 c =
+    let s = c .before .before .before .before .before .before .before .before .before .before .before .before .before .before .before .before .before .before .args .t1 in
+    let now = c .before .before .before .loop2 in
+    let limit = c .before .before .before .before .iso-max-xfer-size .result in
+    let size = c .before .before .before .before .before .iso-ring-size .result in
+    let all = c .before .before .before .before .before .before .before .before .before .before .before .loop .all in
+    let from = all - c .before .before .before .before .before .before .before .before .before .before .before .loop .pending in
+    let e1 : (isBadConfig (s .cfg) || isBadCounts s) ≡ false = past1 ((c .before .before .before .before .before .before .before .before .before .before .before .before)) in
+    let e2 : anyBadRequest (slice 0 (s .head .count) (s .requests)) ≡ false = past2 ((c .before .before .before .before .before .before .before .before .before)) in
+    let e3 : isBadSums s ≡ false = past3 ((c .before .before .before .before .before .before)) in
+    let none = now .inv .1 ∙ plan-past limit size (now .j) all (s .plans) (omega arith) in
+    let e4 : isBadPlans s ≡ false = sym (plans-equal (s .plans) (sym none) (c .before .before .before .before .iso-max-xfer-size .ensures) (c .before .before .before .before .before .iso-ring-size .ensures) (all-is ((c .before .before .before .before .before .before .before .before .before)))) in
+    let bad : c .is-bad-state .result ≡ isBadRecord s = simp (e1, e2, e3, e4) (c .is-bad-state .ensures ∙ ap (λ (n : ℕ). leb n (s .head .«td_last») || not (s .head .live) && (ltb (s .head .done) (s .head .count) || hasReason (s .fatal))) (c .before .before .before .before .before .iso-ring-size .ensures)) in
+    let at : c .before .rest .result ≡ allPackets s - 1 = c .before .rest .ensures ∙ ap (λ (a : ℕ). a - 1) (all-is ((c .before .before .before .before .before .before .before .before .before))) in
+    record {
+      bad = bad;
+      found = λ e.
+          record {
+            all = all-is ((c .before .before .before .before .before .before .before .before .before));
+            pending = pending-is ((c .before .before .before .before .before .before .before .before .before));
+            tail = ap (λ (k : ℕ). getD (s .plans) k blankPlan .«desc_index») at;
+            held = λ k h.
+                marks-all (now .held) (s .plans) (from + (now .j - from)) all k (omega arith)
+                ∙ now .inv .3 k h
+                ∙ ap₂ (λ (a p : ℕ). isHeld (slice (a - p) a (s .plans)) k) (all-is ((c .before .before .before .before .before .before .before .before .before))) (pending-is ((c .before .before .before .before .before .before .before .before .before)));
+          };
+    }
+
+pub scan-spec : {M : Type 1} → statement M
+scan-spec =
+    tie.close
+    (tie.spec
+    Inv-loop
+    μ-loop
+    Inv-loop2
+    μ-loop2
+    is-bad-config-requires
+    bad-scan-requires
+    returns
+    loop-holds
+    cast-request
+    mul-request
+    element-copy-out-request
+    is-bad-request-requires
+    bad-scan-requires-2
+    returns-2
+    wide-requires
+    add-all
+    wide-from-requires
+    add-pending
+    add-i
+    loop-less
+    loop-again
+    room-requires
+    wide-requires-2
+    bad-scan-requires-3
+    returns-3
+    iso-ring-size-requires
+    iso-max-xfer-size-requires
+    loop2-holds
+    cast-plan
+    mul-plan
+    element-copy-out-plan
+    is-bad-plan-requires
+    bad-scan-requires-4
+    returns-4
+    sub-if6
+    cast-held
+    array-write-held
+    add-j
+    loop2-less
+    loop2-again
+    rest-requires
+    mul-tail
+    element-copy-out-tail
+    is-bad-state-requires
+    returns-5)

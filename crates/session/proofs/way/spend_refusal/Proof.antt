@@ -1,0 +1,57 @@
+-- `spend_refusal`: the code's flags are the definition's tests, in every session that the walk speaks of.
+use mathlib.Core.Path.{_∙_, ap}
+use mathlib.Core.Bool.{not, _&&_}
+use Prim.Native.Nat.{ℕ}
+use lib.Dec.{eqb}
+use lib.ListN.{length}
+use Rattle.words.specs.Words.{isBeyond}
+use Rattle.ring.specs.RingSums.{slotsFrom}
+use Rattle.session.specs.Session.{slots}
+use Rattle.session.specs.Scan.{whole}
+use Rattle.session.specs.Submit.{isGuarded, anyHeld, pendingPlans, insertAt, stepOf}
+use Rattle.session.proofs.Laws.Ways.{spend-equal}
+use borrow.Author.Needs.{needs}
+use Rattle.session.proofs.way.spend_refusal.Statement.{statement}
+use Rattle.session.proofs.way.spend_refusal.Tie as tie
+
+sum-of-requires : tie.Need-sum-of-requires
+sum-of-requires c κs = search needs
+
+insert-of-requires : tie.Need-insert-of-requires
+insert-of-requires c κs = search needs
+
+clash-requires : tie.Need-clash-requires
+clash-requires c κs = search needs
+
+cast-spend-number : tie.Need-cast-spend-number
+cast-spend-number c = search needs
+
+is-beyond-requires : tie.Need-is-beyond-requires
+is-beyond-requires c κs = search needs
+
+spend-number-requires : tie.Need-spend-number-requires
+spend-number-requires c κs = search needs
+
+returns : tie.Need-returns
+returns c = λ requests plans w.
+    let a = c .before .before .before .before .before .before .before .before .before .before .before .args in
+    let s = whole (a .cfg) (a .head) (a .fatal) requests plans in
+    let n = length (a .lengths .now) in
+    c .spend-number .ensures
+    ∙ spend-equal (not (a .head .live) && not (a .transfer .«channel_free»))
+    (ap (λ (x : ℕ). not (eqb x (a .transfer .«buffer_len»))) (c .before .before .before .before .before .before .before .before .sum-of .ensures))
+    (c .before .is-beyond .ensures ∙ ap (isBeyond (a .transfer .base)) (c .before .before .before .before .before .before .before .before .sum-of .ensures))
+    (c .before .before .before .clash .ensures (pendingPlans s) (w .held)
+    ∙ ap (λ (i : ℕ). isGuarded (a .cfg .mode) && anyHeld (pendingPlans s) (slotsFrom (slots (a .cfg)) i (stepOf (a .cfg)) 0 n)) (c .before .before .before .before .before .insert-of .ensures ∙ ap (λ (tail : ℕ). insertAt (a .cfg) (a .head) (a .transfer) tail (a .ring .now)) (w .tail)))
+
+pub spend-refusal-spec : {M : Type 1} → statement M
+spend-refusal-spec =
+    tie.close
+    (tie.spec
+    sum-of-requires
+    insert-of-requires
+    clash-requires
+    cast-spend-number
+    is-beyond-requires
+    spend-number-requires
+    returns)
