@@ -104,6 +104,8 @@ impl IsoChannelState {
         scan.bad
     }
 
+    // The tests of refusal 18 in one walk over the entries in use. It is one function, long as it is: a part of it would be handed a
+    // table, which is a copy.
     pub(crate) fn scan(self) -> RecordScan
         ensures { λ r. ⌜ Scanned self r ⌝ }
     {
