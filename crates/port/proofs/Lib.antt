@@ -1,0 +1,2 @@
+-- The laws of the bytes of a session.
+pub mod Laws

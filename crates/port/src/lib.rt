@@ -1,0 +1,2 @@
+// The C interface: document 01, "What must change shape", and include/dwc2_port.h. A session crosses as bytes (docs/LAYOUT.md).
+mod numbers;
