@@ -1,2 +1,4 @@
+pub mod Entries
 pub mod Runs
 pub mod Numbers
+pub mod Tags

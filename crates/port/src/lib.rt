@@ -1,2 +1,4 @@
 // The C interface: document 01, "What must change shape", and include/dwc2_port.h. A session crosses as bytes (docs/LAYOUT.md).
+mod entries;
 mod numbers;
+mod tags;

@@ -1,6 +1,7 @@
 // Numbers in a run of bytes, little-endian, at an offset.
 ghost use mathlib.Core.Path.{_≡_};
 ghost use Prim.Native.Nat.{_+_, _≤_, _<_};
+ghost use mathlib.Core.List.{[], _∷_};
 ghost use lib.ListN.{length, drop};
 ghost use lib.Seq.{sets};
 ghost use Rattle.port.specs.Bytes.{byteOf, u16Of, u32Of, u64Of, u16Bytes, u32Bytes, u64Bytes};
@@ -61,4 +62,20 @@ pub(crate) fn put_u64(bytes: &mut [u8], at: usize, x: u64)
 {
     put_u32(bytes, at, (x % 4_294_967_296) as u32);
     put_u32(bytes, at + 4, (x / 4_294_967_296) as u32);
+}
+
+pub(crate) fn put_byte(bytes: &mut [u8], at: usize, x: u8)
+    requires { ⌜ at + 1 ≤ length (now bytes) ⌝ }
+    ensures { λ _. ⌜ now (bytes .exit) ≡ sets (now (bytes .entry)) at (x ∷ []) ⌝ }
+{
+    bytes[at] = x;
+}
+
+pub(crate) fn put_three(bytes: &mut [u8], at: usize, x: u8, y: u8, z: u8)
+    requires { ⌜ at + 3 ≤ length (now bytes) ⌝ }
+    ensures { λ _. ⌜ now (bytes .exit) ≡ sets (now (bytes .entry)) at (x ∷ y ∷ z ∷ []) ⌝ }
+{
+    bytes[at] = x;
+    bytes[at + 1] = y;
+    bytes[at + 2] = z;
 }

@@ -1,9 +1,10 @@
 -- How the code reads and writes a number: what stands at an offset is what the rest from there begins with.
 use mathlib.Core.Path.{_≡_, refl, _∙_, sym, ap}
-use mathlib.Core.List.{List}
-use Prim.Native.Nat.{ℕ, _+_, _*_, _/_, _%_}
+use mathlib.Core.List.{List, [], _∷_}
+use Prim.Native.Nat.{ℕ, suc, _+_, _*_, _/_, _%_}
 use native.Mathlib.Nat.{add-zero}
 use native.Mathlib.Numerals.{add-one}
+use native.Mathlib.Omega.{arith}
 use lib.ListN.{length, getD, set, drop}
 use lib.Seq.{sets, getD-drop, drop-drop}
 use Rattle.port.specs.Bytes.{byteOf, u16Of, u32Of, u64Of, u16Bytes, u32Bytes, u64Bytes}
@@ -46,11 +47,16 @@ pub u32-put :
     → next ≡ sets xs at (u32Bytes x)
 unfolding u32Bytes
 u32-put xs now next at x p q =
-    then xs now next at (at + 2) (u16Bytes (x % 65536)) (u16Bytes (x / 65536)) p (ap (λ (n : ℕ). at + n) (sym (length-u16 (x % 65536)))) q
+    then xs at (at + 2) (u16Bytes (x % 65536)) (u16Bytes (x / 65536)) p (ap (λ (n : ℕ). at + n) (sym (length-u16 (x % 65536)))) q
 
 pub u64-put :
     (xs now next : List ℕ) (at x : ℕ) → now ≡ sets xs at (u32Bytes (x % 4294967296)) → next ≡ sets now (at + 4) (u32Bytes (x / 4294967296))
     → next ≡ sets xs at (u64Bytes x)
 unfolding u64Bytes
 u64-put xs now next at x p q =
-    then xs now next at (at + 4) (u32Bytes (x % 4294967296)) (u32Bytes (x / 4294967296)) p (ap (λ (n : ℕ). at + n) (sym (length-u32 (x % 4294967296)))) q
+    then xs at (at + 4) (u32Bytes (x % 4294967296)) (u32Bytes (x / 4294967296)) p (ap (λ (n : ℕ). at + n) (sym (length-u32 (x % 4294967296)))) q
+
+pub three-put : (xs : List ℕ) (at x y z : ℕ) → set (set (set xs at x) (at + 1) y) (at + 2) z ≡ sets xs at (x ∷ y ∷ z ∷ [])
+three-put xs at x y z =
+    let two : at + 2 ≡ suc (suc at) = omega arith in
+    ap (λ (n : ℕ). set (set (set xs at x) n y) (at + 2) z) (add-one at) ∙ ap (λ (n : ℕ). set (set (set xs at x) (suc at) y) n z) two

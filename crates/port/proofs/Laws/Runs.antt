@@ -16,6 +16,8 @@ module _ {A : Type 0} where
       ap (λ (n : ℕ). sets (sets (set l i a) (suc i) xs) n ys) on ∙ sets-append xs (set l i a) (suc i) ys
 
   -- the same as a step of code: `now` holds the first run, and the second is stored where it ends
-  pub then : (l now next : List A) (at p : ℕ) (xs ys : List A) → now ≡ sets l at xs → p ≡ at + length xs → next ≡ sets now p ys → next ≡ sets l at (xs ++ ys)
-  then l now next at p xs ys e f g =
+  pub then :
+      (l : List A) {now next : List A} (at p : ℕ) (xs ys : List A) → now ≡ sets l at xs → p ≡ at + length xs → next ≡ sets now p ys
+      → next ≡ sets l at (xs ++ ys)
+  then l at p xs ys e f g =
       g ∙ ap (λ (m : List A). sets m p ys) e ∙ ap (λ (n : ℕ). sets (sets l at xs) n ys) f ∙ sets-append xs l at ys
