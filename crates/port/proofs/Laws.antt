@@ -1,4 +1,7 @@
 pub mod Entries
+pub mod Head
+pub mod Loaded
 pub mod Runs
 pub mod Numbers
+pub mod Tables
 pub mod Tags
