@@ -188,15 +188,13 @@ dwc2_iso_reply dwc2_iso_recover(uint8_t *session, size_t session_len, uint32_t *
 /* Tests a session and alters nothing: 0, or 17 or 18 of the bytes, or 18 of the record. */
 uint32_t dwc2_iso_check(const uint8_t *session, size_t session_len);
 
-/* ==== TO COME: the ring sums and planning. Declared so that callers can be written; the archive does not have them yet. */
+/* ---- Ring sums ("Ring sums", document 01). A number that names no speed or direction is refused with 18 and zeros. */
 
 /* An answer that may be refused: `value` is 0 then. */
 typedef struct dwc2_number {
-    uint32_t refusal; /* 0 or 18 */
+    uint32_t refusal; /* 0, or the refusal number */
     uint32_t value;
 } dwc2_number;
-
-/* ---- Ring sums. A number that names no speed or direction: 18. */
 
 /* The slots of a ring, and the most bytes of one packet. */
 dwc2_number dwc2_iso_ring_size(uint8_t speed);
@@ -226,6 +224,8 @@ typedef struct dwc2_service_frames {
 } dwc2_service_frames;
 
 dwc2_service_frames dwc2_iso_service_frames(uint32_t start_full_frame, uint16_t interval, uint8_t speed);
+
+/* ==== TO COME: planning. Declared so that callers can be written; the archive does not have it yet. */
 
 /* ---- Planning. The array: 32-bit words, 2 a descriptor, status then address; at least 2,048 words (17). */
 
