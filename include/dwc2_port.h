@@ -225,9 +225,12 @@ typedef struct dwc2_service_frames {
 
 dwc2_service_frames dwc2_iso_service_frames(uint32_t start_full_frame, uint16_t interval, uint8_t speed);
 
-/* ==== TO COME: planning. Declared so that callers can be written; the archive does not have it yet. */
-
-/* ---- Planning. The array: 32-bit words, 2 a descriptor, status then address; at least 2,048 words (17). */
+/* ---- Planning ("Planning transfers", document 01).
+ *
+ * The array: 32-bit words, 2 a descriptor, status then address. A call needs at least 2,048 words (17); words behind the plan stay.
+ * Lengths are bytes, and addresses are bus addresses. Where a number names nothing, the call is refused with 18 and zeros before any
+ * other test; then 17, 18, 19, 20, 11 in this order, as far as a call has them. Refused, nothing is altered.
+ */
 
 /* `count` descriptors, each of `chunk` bytes but the last, of `last` bytes. */
 typedef struct dwc2_split {
@@ -259,58 +262,64 @@ typedef struct dwc2_stage {
 typedef struct dwc2_data_request {
     uint64_t base;
     uint64_t len;
-    uint16_t max_packet_size;
-    uint8_t kind; /* DWC2_KIND_BULK or DWC2_KIND_INTERRUPT */
-    uint8_t direction;
-    uint8_t port_speed;
-    uint8_t device;
-    uint8_t endpoint;
-    uint8_t odd_frame; /* yes/no */
-    uint8_t toggle;    /* 0 DATA0, else DATA1 */
+    uint16_t max_packet_size; /* at most 2,047; 0 counts as 1 */
+    uint8_t kind;             /* DWC2_KIND_BULK or DWC2_KIND_INTERRUPT; any other number: 18 */
+    uint8_t direction;        /* DWC2_DIRECTION_* */
+    uint8_t port_speed;       /* DWC2_SPEED_* */
+    uint8_t device;           /* at most 127 */
+    uint8_t endpoint;         /* at most 15 */
+    uint8_t odd_frame;        /* yes/no, of an interrupt transfer */
+    uint8_t toggle;           /* 0 DATA0, else DATA1: as the last transfer left it */
 } dwc2_data_request;
 
 typedef struct dwc2_data_plan {
-    uint32_t refusal; /* 17, 18, 20 or 11 */
-    uint32_t toggle;  /* after the transfer */
-    uint32_t count;   /* stages in use; the others are zeros */
-    dwc2_stage stages[4];
+    uint32_t refusal;     /* 0, or 17, 18, 20, 11 */
+    uint32_t toggle;      /* 0 or 1: after the transfer; as it came where 17, 18 of a limit, 20 or 11 refused it */
+    uint32_t count;       /* stages in use; refused, 0 */
+    dwc2_stage stages[4]; /* in the order in which they run; those not in use are zeros */
 } dwc2_data_plan;
 
+/* Plans a bulk or interrupt transfer and writes its descriptors into the array. */
 dwc2_data_plan dwc2_data_stages(dwc2_data_request request, uint32_t *array, size_t array_words);
 
 typedef struct dwc2_control_request {
-    uint64_t len;
-    uint64_t setup_dma;
-    uint64_t data_dma;
-    uint64_t status_dma;
-    uint16_t max_packet_size;
-    uint8_t direction;
-    uint8_t device;
+    uint64_t len;             /* of the data; 0: none */
+    uint64_t setup_dma;       /* of the eight bytes of the setup packet */
+    uint64_t data_dma;        /* of the data; not looked at where there is none */
+    uint64_t status_dma;      /* for a status packet that comes in; not looked at where it goes out */
+    uint16_t max_packet_size; /* at most 2,047; below 8 counts as 8 */
+    uint8_t direction;        /* DWC2_DIRECTION_*, of the data */
+    uint8_t device;           /* at most 127 */
 } dwc2_control_request;
 
 typedef struct dwc2_control_plan {
-    uint32_t refusal; /* 17, 18, 19 or 11 */
-    uint32_t has_data;
+    uint32_t refusal;  /* 0, or 17, 18, 19, 11 */
+    uint32_t has_data; /* 1: the data stage is to be run */
     dwc2_stage setup;
-    dwc2_stage data;
+    dwc2_stage data; /* zeros where there is no data */
     dwc2_stage status;
 } dwc2_control_plan;
 
+/* Plans a control transfer on endpoint 0 and writes its descriptors into the array. */
 dwc2_control_plan dwc2_build_control_plan(dwc2_control_request request, uint32_t *array, size_t array_words);
 
-/* The bytes that a finished stage moved, from the array as the controller left it: 17, 18. */
+/*
+ * The bytes that a finished stage moved, from the array as the controller left it. Refused with 18 where `role` names nothing; then
+ * with 17, and with 18 for a stage that no planning call makes.
+ */
 dwc2_number dwc2_stage_actual_length(dwc2_stage stage, const uint32_t *array, size_t array_words);
 
 typedef struct dwc2_setup_packet {
-    uint32_t refusal; /* 18, 19 */
-    uint8_t bytes[8];
+    uint32_t refusal; /* 0, or 18, 19 */
+    uint8_t bytes[8]; /* refused: zeros */
 } dwc2_setup_packet;
 
-/* `request_type` 0 standard, 1 class, 2 vendor, 3 reserved; `recipient` 0 device, 1 interface, 2 endpoint, 3 other. */
+/*
+ * The setup packet of a control transfer of `len` bytes. `request_type` is 0 standard, 1 class, 2 vendor, 3 reserved; `recipient` is
+ * 0 device, 1 interface, 2 endpoint, 3 other; any other number: 18.
+ */
 dwc2_setup_packet dwc2_setup_packet_bytes(uint8_t request_type, uint8_t recipient, uint8_t direction, uint8_t request, uint16_t value,
                                           uint16_t index, uint64_t len);
-
-/* ==== End of what is to come. */
 
 #ifdef __cplusplus
 }

@@ -2,6 +2,8 @@
 -- contract, so it fails where the promise is weakened.
 use mathlib.Core.Path.{refl}
 use Rattle.words.proofs.Unique.{Unique, equal}
+use Rattle.plan.proofs.Unique.{equal-both}
+use Rattle.port.proofs.planning
 use Rattle.port.proofs.ring_sums
 
 pub iso-ring-size-unique : Unique 0 ring_sums.dwc2_iso_ring_size.Kinds.ps ring_sums.dwc2_iso_ring_size.Kinds.r ring_sums.dwc2_iso_ring_size.Reads.Post
@@ -36,3 +38,21 @@ next-request-id-unique κs a x y u v = equal refl
 
 pub iso-service-frames-unique : Unique 0 ring_sums.dwc2_iso_service_frames.Kinds.ps ring_sums.dwc2_iso_service_frames.Kinds.r ring_sums.dwc2_iso_service_frames.Reads.Post
 iso-service-frames-unique κs a x y u v = equal refl
+
+pub split-dma-lengths-unique : Unique 0 planning.dwc2_split_dma_lengths.Kinds.ps planning.dwc2_split_dma_lengths.Kinds.r planning.dwc2_split_dma_lengths.Reads.Post
+split-dma-lengths-unique κs a x y u v = equal refl
+
+pub packet-count-unique : Unique 0 planning.dwc2_packet_count.Kinds.ps planning.dwc2_packet_count.Kinds.r planning.dwc2_packet_count.Reads.Post
+packet-count-unique κs a x y u v = equal refl
+
+pub data-stages-unique : Unique 1 planning.dwc2_data_stages.Kinds.ps planning.dwc2_data_stages.Kinds.r planning.dwc2_data_stages.Reads.Post
+data-stages-unique κs a x y u v = equal-both
+
+pub build-control-plan-unique : Unique 1 planning.dwc2_build_control_plan.Kinds.ps planning.dwc2_build_control_plan.Kinds.r planning.dwc2_build_control_plan.Reads.Post
+build-control-plan-unique κs a x y u v = equal-both
+
+pub stage-actual-length-unique : Unique 1 planning.dwc2_stage_actual_length.Kinds.ps planning.dwc2_stage_actual_length.Kinds.r planning.dwc2_stage_actual_length.Reads.Post
+stage-actual-length-unique κs a x y u v = equal refl
+
+pub setup-packet-bytes-unique : Unique 0 planning.dwc2_setup_packet_bytes.Kinds.ps planning.dwc2_setup_packet_bytes.Kinds.r planning.dwc2_setup_packet_bytes.Reads.Post
+setup-packet-bytes-unique κs a x y u v = equal refl

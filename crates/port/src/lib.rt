@@ -2,5 +2,6 @@
 mod entries;
 mod load;
 mod numbers;
+mod planning;
 mod ring_sums;
 mod tags;
