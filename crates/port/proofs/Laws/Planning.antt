@@ -1,4 +1,5 @@
--- Planning by numbers: what is answered where a number names nothing, and where all name something.
+-- Planning by numbers: what is answered where a number names nothing, and where all name something; and that a stage which planning hands out
+-- is read as the stage that it was.
 use mathlib.Core.Bool.{Bool, true, false}
 use mathlib.Core.List.{List, [], _∷_, map}
 use mathlib.Core.Path.{_≡_, refl, sym, ap, _∙_}
@@ -9,15 +10,20 @@ use Rattle.plan.specs.declared.types.ControlRequest.{ControlRequest}
 use Rattle.plan.specs.declared.types.DataRequest.{DataRequest}
 use Rattle.plan.specs.declared.types.Dwc2ControlPlan.{Dwc2ControlPlan}
 use Rattle.plan.specs.declared.types.Dwc2DataPlan.{Dwc2DataPlan}
+use Rattle.plan.specs.declared.types.Dwc2StageRole.{Dwc2StageRole}
+use Rattle.plan.specs.declared.types.Dwc2StageRole.the-variants as role
+use Rattle.plan.specs.declared.types.Dwc2TransferStage.{Dwc2TransferStage}
 use Rattle.plan.specs.ControlPlan.{controlPlan, controlArray}
 use Rattle.plan.specs.DataStages.{blankStage, dataPlan, dataArray}
 use Rattle.plan.specs.Numbers.{answerNumber}
+use Rattle.plan.specs.StageLength.{stageLength}
 use Rattle.port.specs.declared.planning.PortControlPlan.{PortControlPlan}
 use Rattle.port.specs.declared.planning.PortControlRequest.{PortControlRequest}
 use Rattle.port.specs.declared.planning.PortDataPlan.{PortDataPlan}
 use Rattle.port.specs.declared.planning.PortDataRequest.{PortDataRequest}
 use Rattle.port.specs.declared.planning.PortStage.{PortStage}
-use Rattle.port.specs.Planning.{stageNumbers, dataRequestOf, isBadData, dataNumbers, unnamedData, dataPlanNumbers, dataArrayAfter}
+use Rattle.port.specs.Planning.{roleNumber, roleOf, isBadRole, stageNumbers, stageOf, lengthNumber, stageMovedNumber}
+use Rattle.port.specs.Planning.{dataRequestOf, isBadData, dataNumbers, unnamedData, dataPlanNumbers, dataArrayAfter}
 use Rattle.port.specs.Planning.{controlRequestOf, controlNumbers, unnamedControl, controlPlanNumbers, controlArrayAfter}
 use Rattle.port.specs.Sums.{isBadDirection}
 use Rattle.port.specs.Tags.{pick, flagTag}
@@ -100,3 +106,38 @@ control-named r array e h k g n = (
       (n ∙ ap controlNumbers (g .0 ∙ ap (λ (q : ControlRequest). controlPlan q (length array)) k)),
   second-of array (controlArray (controlRequestOf r) array) e h (g .1 ∙ ap (λ (q : ControlRequest). controlArray q array) k),
 )
+
+role-named : (r : Dwc2StageRole) → isBadRole (roleNumber r) ≡ false
+role-named role.Data = refl
+role-named role.ControlSetup = refl
+role-named role.ControlData = refl
+role-named role.ControlStatus = refl
+
+role-back : (r : Dwc2StageRole) → roleOf (roleNumber r) ≡ r
+role-back role.Data = refl
+role-back role.ControlSetup = refl
+role-back role.ControlData = refl
+role-back role.ControlStatus = refl
+
+pub stage-back : (s : Dwc2TransferStage) → stageOf (stageNumbers s) ≡ s
+stage-back s =
+    ap
+    (λ (r : Dwc2StageRole). record {
+      role = r;
+      hcchar = s .hcchar;
+      hctsiz = s .hctsiz;
+      «dma_addr» = s .«dma_addr»;
+      «desc_base» = s .«desc_base»;
+      descs = s .descs;
+      len = s .len;
+    })
+    (role-back (s .role))
+
+pub moved-back : (s : Dwc2TransferStage) (array : List ℕ) → lengthNumber (stageLength s array) ≡ stageMovedNumber (stageNumbers s) array
+moved-back s array =
+    second-of
+    (record { refusal = 18; value = 0 })
+    (lengthNumber (stageLength (stageOf (stageNumbers s)) array))
+    refl
+    (role-named (s .role))
+    (ap (λ (t : Dwc2TransferStage). lengthNumber (stageLength t array)) (sym (stage-back s)))

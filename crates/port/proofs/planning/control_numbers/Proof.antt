@@ -19,7 +19,14 @@ stage-numbers-requires-3 : tie.Need-stage-numbers-requires-3
 stage-numbers-requires-3 c κs = search needs
 
 returns : tie.Need-returns
-returns c = rw (c .stage-numbers3 .ensures, c .before .stage-numbers2 .ensures, c .before .before .stage-numbers .ensures, c .before .before .before .flag-number .ensures, c .before .before .before .before .answer-number .ensures)
+returns c =
+    rw (
+      c .stage-numbers3 .ensures,
+      c .before .stage-numbers2 .ensures,
+      c .before .before .stage-numbers .ensures,
+      c .before .before .before .flag-number .ensures,
+      c .before .before .before .before .answer-number .ensures,
+    )
 
 pub control-numbers-spec : {M : Type 1} → statement M
 control-numbers-spec =

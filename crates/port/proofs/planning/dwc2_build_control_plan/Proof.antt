@@ -12,7 +12,13 @@ unnamed-control-requires : tie.Need-unnamed-control-requires
 unnamed-control-requires c κs = search needs
 
 returns : tie.Need-returns
-returns c = control-unnamed (c .before .before .before .before .args .request) (now (c .before .before .before .before .args .array)) (c .before .before .is-bad-direction .ensures) (c .before .if1 .taken) (c .unnamed-control .ensures)
+returns c =
+    control-unnamed
+    (c .before .before .before .before .args .request)
+    (now (c .before .before .before .before .args .array))
+    (c .before .before .is-bad-direction .ensures)
+    (c .before .if1 .taken)
+    (c .unnamed-control .ensures)
 
 control-request-of-requires : tie.Need-control-request-of-requires
 control-request-of-requires c κs = search needs
@@ -27,7 +33,15 @@ same-length : tie.Need-same-length
 same-length c = search needs
 
 returns-2 : tie.Need-returns-2
-returns-2 c = control-named (c .before .before .before .before .before .before .before .before .before .args .request) (now (c .before .before .before .before .before .before .before .before .before .args .array)) (c .before .before .before .before .before .before .before .is-bad-direction .ensures) (c .before .before .before .before .before .before .if1 .left) (c .before .before .before .before .before .control-request-of .ensures) (c .before .before .before .build-control-plan .ensures) (c .control-numbers .ensures)
+returns-2 c =
+    control-named
+    (c .before .before .before .before .before .before .before .before .before .args .request)
+    (now (c .before .before .before .before .before .before .before .before .before .args .array))
+    (c .before .before .before .before .before .before .before .is-bad-direction .ensures)
+    (c .before .before .before .before .before .before .if1 .left)
+    (c .before .before .before .before .before .control-request-of .ensures)
+    (c .before .before .before .build-control-plan .ensures)
+    (c .control-numbers .ensures)
 
 pub dwc2-build-control-plan-spec : {M : Type 1} → statement M
 dwc2-build-control-plan-spec =

@@ -12,7 +12,13 @@ unnamed-data-requires : tie.Need-unnamed-data-requires
 unnamed-data-requires c κs = search needs
 
 returns : tie.Need-returns
-returns c = data-unnamed (c .before .before .before .before .args .request) (now (c .before .before .before .before .args .array)) (c .before .before .is-bad-data .ensures) (c .before .if1 .taken) (c .unnamed-data .ensures)
+returns c =
+    data-unnamed
+    (c .before .before .before .before .args .request)
+    (now (c .before .before .before .before .args .array))
+    (c .before .before .is-bad-data .ensures)
+    (c .before .if1 .taken)
+    (c .unnamed-data .ensures)
 
 data-request-of-requires : tie.Need-data-request-of-requires
 data-request-of-requires c κs = search needs
@@ -27,7 +33,15 @@ same-length : tie.Need-same-length
 same-length c = search needs
 
 returns-2 : tie.Need-returns-2
-returns-2 c = data-named (c .before .before .before .before .before .before .before .before .before .args .request) (now (c .before .before .before .before .before .before .before .before .before .args .array)) (c .before .before .before .before .before .before .before .is-bad-data .ensures) (c .before .before .before .before .before .before .if1 .left) (c .before .before .before .before .before .data-request-of .ensures) (c .before .before .before .data-stages .ensures) (c .data-numbers .ensures)
+returns-2 c =
+    data-named
+    (c .before .before .before .before .before .before .before .before .before .args .request)
+    (now (c .before .before .before .before .before .before .before .before .before .args .array))
+    (c .before .before .before .before .before .before .before .is-bad-data .ensures)
+    (c .before .before .before .before .before .before .if1 .left)
+    (c .before .before .before .before .before .data-request-of .ensures)
+    (c .before .before .before .data-stages .ensures)
+    (c .data-numbers .ensures)
 
 pub dwc2-data-stages-spec : {M : Type 1} → statement M
 dwc2-data-stages-spec =

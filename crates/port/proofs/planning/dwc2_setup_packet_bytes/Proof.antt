@@ -1,5 +1,4 @@
 -- The packet of crate `plan` for what the numbers name.
-use mathlib.Core.Path.{ap, _∙_}
 use Rattle.port.proofs.Laws.Planning.{first-of, second-of}
 use borrow.Author.Needs.{needs}
 use Rattle.port.proofs.planning.dwc2_setup_packet_bytes.Statement.{statement}
@@ -27,7 +26,18 @@ setup-numbers-requires : tie.Need-setup-numbers-requires
 setup-numbers-requires c κs = search needs
 
 returns-2 : tie.Need-returns-2
-returns-2 c = second-of _ _ (c .before .before .before .before .before .is-bad-setup .ensures) (c .before .before .before .before .if1 .left) (rw (c .setup-numbers .ensures, c .before .setup-packet-bytes .ensures, c .before .before .direction-of .ensures, c .before .before .before .setup-of .ensures))
+returns-2 c =
+    second-of
+    _
+    _
+    (c .before .before .before .before .before .is-bad-setup .ensures)
+    (c .before .before .before .before .if1 .left)
+    (rw (
+      c .setup-numbers .ensures,
+      c .before .setup-packet-bytes .ensures,
+      c .before .before .direction-of .ensures,
+      c .before .before .before .setup-of .ensures,
+    ))
 
 pub dwc2-setup-packet-bytes-spec : {M : Type 1} → statement M
 dwc2-setup-packet-bytes-spec =

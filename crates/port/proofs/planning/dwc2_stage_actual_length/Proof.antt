@@ -19,7 +19,17 @@ length-number-requires : tie.Need-length-number-requires
 length-number-requires c κs = search needs
 
 returns-2 : tie.Need-returns-2
-returns-2 c = second-of _ _ refl (le-ltb _ _ (c .before .before .before .if1 .left)) (rw (c .length-number .ensures, c .before .stage-actual-length .ensures, c .before .before .stage-of .ensures))
+returns-2 c =
+    second-of
+    _
+    _
+    refl
+    (le-ltb _ _ (c .before .before .before .if1 .left))
+    (rw (
+      c .length-number .ensures,
+      c .before .stage-actual-length .ensures,
+      c .before .before .stage-of .ensures,
+    ))
 
 pub dwc2-stage-actual-length-spec : {M : Type 1} → statement M
 dwc2-stage-actual-length-spec =
