@@ -1,0 +1,122 @@
+-- One entry of a table: what the code reads field by field is the entry that the rest begins with, and what it writes field by field is the
+-- entry's bytes.
+use mathlib.Core.Path.{_≡_, refl, _∙_, sym, ap}
+use mathlib.Core.Bool.{Bool}
+use mathlib.Core.List.{List, [], _∷_, _++_}
+use Prim.Native.Nat.{ℕ, _+_}
+use lib.Dec.{ltb}
+use lib.ListN.{length, drop}
+use lib.Seq.{sets, drop-drop}
+use Rattle.session.specs.declared.types.IsoOutcome.{IsoOutcome}
+use Rattle.session.specs.declared.types.TransferStatus.{TransferStatus}
+use Rattle.session.specs.declared.types.IsoRequest.{IsoRequest}
+use Rattle.session.specs.declared.types.IsoPacketPlan.{IsoPacketPlan}
+use Rattle.port.specs.declared.tags.Tagged.{Tagged}
+use Rattle.port.specs.Bytes.{byteOf, u16Of, u32Of, u64Of, u16Bytes, u32Bytes, u64Bytes}
+use Rattle.port.specs.Tags.{statusTag, statusOf, tagged, taggedBytes, taggedOf, outcomeTagged, outcomeOf, isBadTagged}
+use Rattle.port.specs.Layout.{requestBytes, requestOf, isBadRequestBytes, planBytes, planOf, isBadPlanBytes}
+use Rattle.port.proofs.Laws.Runs.{then}
+
+-- a field of an entry
+pub field : {A : Type 0} (f : List ℕ → A) (n at : ℕ) (xs : List ℕ) → f (drop (at + n) xs) ≡ f (drop n (drop at xs))
+field f n at xs = ap f (sym (drop-drop n at xs))
+
+-- ---- reading
+
+pub tagged-at :
+    (xs : List ℕ) (at tag kind word : ℕ) → tag ≡ byteOf (drop at xs) → kind ≡ byteOf (drop (at + 1) xs) → word ≡ u32Of (drop (at + 2) xs)
+    → tagged tag kind word ≡ taggedOf (drop at xs)
+unfolding taggedOf
+tagged-at xs at tag kind word p q r =
+    ap (λ (n : ℕ). tagged n kind word) p
+    ∙ ap (λ (n : ℕ). tagged (byteOf (drop at xs)) n word) (q ∙ field byteOf 1 at xs)
+    ∙ ap (tagged (byteOf (drop at xs)) (byteOf (drop 1 (drop at xs)))) (r ∙ field u32Of 2 at xs)
+
+abbrev pub request : ℕ → ℕ → ℕ → IsoOutcome → IsoRequest
+request id packets total outcome = record { id = id; packets = packets; «actual_length» = total; outcome = outcome }
+
+pub request-at :
+    (xs : List ℕ) (at id packets total : ℕ) (t : Tagged) (outcome : IsoOutcome)
+    → id ≡ u64Of (drop at xs)
+    → packets ≡ u16Of (drop (at + 12) xs)
+    → total ≡ u32Of (drop (at + 8) xs)
+    → t ≡ taggedOf (drop (at + 14) xs)
+    → outcome ≡ outcomeOf t
+    → request id packets total outcome ≡ requestOf (drop at xs)
+unfolding requestOf
+request-at xs at id packets total t outcome p q r s o =
+    ap (λ (n : ℕ). request n packets total outcome) p
+    ∙ ap (λ (n : ℕ). request (u64Of (drop at xs)) n total outcome) (q ∙ field u16Of 12 at xs)
+    ∙ ap (λ (n : ℕ). request (u64Of (drop at xs)) (u16Of (drop 12 (drop at xs))) n outcome) (r ∙ field u32Of 8 at xs)
+    ∙ ap (request (u64Of (drop at xs)) (u16Of (drop 12 (drop at xs))) (u32Of (drop 8 (drop at xs)))) (o ∙ ap outcomeOf (s ∙ field taggedOf 14 at xs))
+
+pub bad-request-at :
+    (xs : List ℕ) (at : ℕ) (t : Tagged) (b : Bool) → t ≡ taggedOf (drop (at + 14) xs) → b ≡ isBadTagged 3 4 t → b ≡ isBadRequestBytes (drop at xs)
+unfolding isBadRequestBytes
+bad-request-at xs at t b p q = q ∙ ap (isBadTagged 3 4) (p ∙ field taggedOf 14 at xs)
+
+abbrev pub plan : ℕ → ℕ → ℕ → TransferStatus → IsoPacketPlan
+plan planned slot actual status = record { planned = planned; «desc_index» = slot; actual = actual; status = status }
+
+pub plan-at :
+    (xs : List ℕ) (at planned slot actual tag : ℕ) (status : TransferStatus)
+    → planned ≡ u16Of (drop at xs)
+    → slot ≡ u16Of (drop (at + 2) xs)
+    → actual ≡ u16Of (drop (at + 4) xs)
+    → tag ≡ byteOf (drop (at + 6) xs)
+    → status ≡ statusOf tag
+    → plan planned slot actual status ≡ planOf (drop at xs)
+unfolding planOf
+plan-at xs at planned slot actual tag status p q r s o =
+    ap (λ (n : ℕ). plan n slot actual status) p
+    ∙ ap (λ (n : ℕ). plan (u16Of (drop at xs)) n actual status) (q ∙ field u16Of 2 at xs)
+    ∙ ap (λ (n : ℕ). plan (u16Of (drop at xs)) (u16Of (drop 2 (drop at xs))) n status) (r ∙ field u16Of 4 at xs)
+    ∙ ap (plan (u16Of (drop at xs)) (u16Of (drop 2 (drop at xs))) (u16Of (drop 4 (drop at xs)))) (o ∙ ap statusOf (s ∙ field byteOf 6 at xs))
+
+pub bad-plan-at : (xs : List ℕ) (at tag : ℕ) → tag ≡ byteOf (drop (at + 6) xs) → ltb 1 tag ≡ isBadPlanBytes (drop at xs)
+unfolding isBadPlanBytes
+bad-plan-at xs at tag p = ap (ltb 1) (p ∙ field byteOf 6 at xs)
+
+-- ---- writing
+
+pub tagged-put :
+    (xs : List ℕ) {a b c : List ℕ} (at : ℕ) (t : Tagged) → a ≡ sets xs at (t .tag ∷ []) → b ≡ sets a (at + 1) (t .kind ∷ [])
+    → c ≡ sets b (at + 2) (u32Bytes (t .word))
+    → c ≡ sets xs at (taggedBytes t)
+unfolding taggedBytes
+tagged-put xs at t p q r =
+    then xs at (at + 2) (t .tag ∷ t .kind ∷ []) (u32Bytes (t .word)) (then xs at (at + 1) (t .tag ∷ []) (t .kind ∷ []) p refl q) refl r
+
+pub request-put :
+    (xs : List ℕ) {a b c d : List ℕ} (at : ℕ) (r : IsoRequest) (t : Tagged)
+    → a ≡ sets xs at (u64Bytes (r .id))
+    → b ≡ sets a (at + 8) (u32Bytes (r .«actual_length»))
+    → c ≡ sets b (at + 12) (u16Bytes (r .packets))
+    → t ≡ outcomeTagged (r .outcome)
+    → d ≡ sets c (at + 14) (taggedBytes t)
+    → d ≡ sets xs at (requestBytes r)
+unfolding requestBytes u64Bytes u32Bytes u16Bytes
+request-put xs {c = c} at r t p q s o u =
+    let id : List ℕ = u64Bytes (r .id) in
+    let total : List ℕ = u32Bytes (r .«actual_length») in
+    let packets : List ℕ = u16Bytes (r .packets) in
+    then xs at (at + 14) (id ++ total ++ packets) (taggedBytes (outcomeTagged (r .outcome)))
+        (then xs at (at + 12) (id ++ total) packets (then xs at (at + 8) id total p refl q) refl s) refl
+        (u ∙ ap (λ (x : Tagged). sets c (at + 14) (taggedBytes x)) o)
+
+pub plan-put :
+    (xs : List ℕ) {a b c d : List ℕ} (at : ℕ) (r : IsoPacketPlan) (tag : ℕ)
+    → a ≡ sets xs at (u16Bytes (r .planned))
+    → b ≡ sets a (at + 2) (u16Bytes (r .«desc_index»))
+    → c ≡ sets b (at + 4) (u16Bytes (r .actual))
+    → tag ≡ statusTag (r .status)
+    → d ≡ sets c (at + 6) (tag ∷ [])
+    → d ≡ sets xs at (planBytes r)
+unfolding planBytes u16Bytes
+plan-put xs {c = c} at r tag p q s o u =
+    let planned : List ℕ = u16Bytes (r .planned) in
+    let slot : List ℕ = u16Bytes (r .«desc_index») in
+    let actual : List ℕ = u16Bytes (r .actual) in
+    then xs at (at + 6) (planned ++ slot ++ actual) (statusTag (r .status) ∷ [])
+        (then xs at (at + 4) (planned ++ slot) actual (then xs at (at + 2) planned slot p refl q) refl s) refl
+        (u ∙ ap (λ (n : ℕ). sets c (at + 6) (n ∷ [])) o)

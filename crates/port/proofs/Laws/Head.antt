@@ -1,0 +1,83 @@
+-- The head of a session's bytes, field by field.
+use mathlib.Core.Path.{_≡_, refl, _∙_, sym, ap}
+use mathlib.Core.Bool.{Bool, not, _||_}
+use mathlib.Core.List.{List, [], _∷_, _++_}
+use Prim.Native.Nat.{ℕ, _+_}
+use lib.Dec.{eqb, ltb}
+use lib.ListN.{length, drop}
+use lib.Seq.{sets}
+use Rattle.ring.specs.declared.speed.Speed.{Speed}
+use Rattle.words.specs.declared.types.Direction.{Direction}
+use Rattle.session.specs.declared.types.IsoMode.{IsoMode}
+use Rattle.session.specs.declared.types.IsoConfig.{IsoConfig}
+use Rattle.session.specs.declared.types.IsoHead.{IsoHead}
+use Rattle.port.specs.declared.tags.Tagged.{Tagged}
+use Rattle.port.specs.Bytes.{byteOf, u16Of, u32Of, u64Of, u16Bytes, u32Bytes, u64Bytes}
+use Rattle.port.specs.Tags.{speedTag, speedOf, directionTag, directionOf, modeTag, modeOf, flagTag, flagOf, taggedOf, isBadTagged}
+use Rattle.port.specs.Layout.{markBytes, configBytes, configOf, headBytes, headOf, isBadMark, isBadHead}
+use Rattle.port.proofs.Laws.Runs.{then}
+
+abbrev pub config : Speed → Direction → ℕ → ℕ → ℕ → ℕ → ℕ → IsoMode → IsoConfig
+config speed direction interval endpoint device size mult mode =
+    record {
+      speed = speed;
+      direction = direction;
+      interval = interval;
+      endpoint = endpoint;
+      device = device;
+      «max_packet_size» = size;
+      mult = mult;
+      mode = mode;
+    }
+
+pub config-at :
+    (xs : List ℕ) {a b c : ℕ} {speed : Speed} {direction : Direction} {mode : IsoMode} {interval endpoint device size mult : ℕ}
+    → a ≡ byteOf (drop 5 xs)
+    → speed ≡ speedOf a
+    → b ≡ byteOf (drop 6 xs)
+    → direction ≡ directionOf b
+    → interval ≡ u16Of (drop 8 xs)
+    → endpoint ≡ byteOf (drop 12 xs)
+    → device ≡ byteOf (drop 13 xs)
+    → size ≡ u16Of (drop 10 xs)
+    → mult ≡ byteOf (drop 14 xs)
+    → c ≡ byteOf (drop 7 xs)
+    → mode ≡ modeOf c
+    → config speed direction interval endpoint device size mult mode ≡ configOf xs
+unfolding configOf
+config-at xs ea es eb ed ei ee ev ez eu ec em = rw (es, ea, ed, eb, ei, ee, ev, ez, eu, em, ec)
+
+abbrev pub head : ℕ → Bool → ℕ → ℕ → ℕ → ℕ → IsoHead
+head next live cursor start done count =
+    record { «next_request_id» = next; live = live; «td_last» = cursor; «start_full_frame» = start; done = done; count = count }
+
+pub head-at :
+    (xs : List ℕ) {a next cursor start done count : ℕ}
+    → next ≡ u64Of (drop 16 xs)
+    → a ≡ byteOf (drop 15 xs)
+    → cursor ≡ u16Of (drop 28 xs)
+    → start ≡ u32Of (drop 24 xs)
+    → done ≡ u16Of (drop 30 xs)
+    → count ≡ u16Of (drop 32 xs)
+    → head next (not (eqb a 0)) cursor start done count ≡ headOf xs
+unfolding headOf
+head-at xs en ea ec es ed eo = rw (en, ea, ec, es, ed, eo)
+
+pub bad-mark-at :
+    (xs : List ℕ) {a b c v : ℕ} → a ≡ byteOf xs → b ≡ byteOf (drop 1 xs) → c ≡ byteOf (drop 2 xs) → v ≡ u16Of (drop 3 xs)
+    → (not (eqb a 68) || (not (eqb b 87) || (not (eqb c 83) || not (eqb v 1)))) ≡ isBadMark xs
+unfolding isBadMark
+bad-mark-at xs ea eb ec ev = rw (ea, eb, ec, ev)
+
+pub bad-head-at :
+    (xs : List ℕ) {a b c d : ℕ} {t : Tagged} {e : Bool}
+    → a ≡ byteOf (drop 5 xs)
+    → b ≡ byteOf (drop 6 xs)
+    → c ≡ byteOf (drop 7 xs)
+    → d ≡ byteOf (drop 15 xs)
+    → t ≡ taggedOf (drop 34 xs)
+    → e ≡ isBadTagged 2 2 t
+    → (ltb 2 a || (ltb 1 b || (ltb 1 c || (ltb 1 d || e)))) ≡ isBadHead xs
+unfolding isBadHead
+bad-head-at xs {a} {b} {c} {d} ea eb ec ed et ee =
+    ap (λ (x : Bool). ltb 2 a || (ltb 1 b || (ltb 1 c || (ltb 1 d || x)))) (ee ∙ ap (isBadTagged 2 2) et) ∙ rw (ea, eb, ec, ed)

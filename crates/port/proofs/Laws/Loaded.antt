@@ -1,0 +1,63 @@
+-- The whole of a session's bytes: whether they are refused, and the session.
+use mathlib.Core.Path.{_≡_, refl, _∙_, sym, ap}
+use mathlib.Core.Bool.{Bool, true, false, _||_, cond}
+use mathlib.Core.List.{List}
+use Prim.Native.Nat.{ℕ, _≤_, _<_}
+use lib.Dec.{ltb}
+use lib.ListN.{length, drop}
+use borrow.Author.Tests.{lt-ltb, le-ltb}
+use Rattle.session.specs.declared.types.IsoConfig.{IsoConfig}
+use Rattle.session.specs.declared.types.IsoHead.{IsoHead}
+use Rattle.session.specs.declared.types.IsoFatal.{IsoFatal}
+use Rattle.session.specs.declared.types.IsoRequest.{IsoRequest}
+use Rattle.session.specs.declared.types.IsoPacketPlan.{IsoPacketPlan}
+use Rattle.session.specs.declared.types.IsoChannelState.{IsoChannelState}
+use Rattle.port.specs.declared.tags.Tagged.{Tagged}
+use Rattle.port.specs.Tags.{taggedOf, fatalOf}
+use Rattle.port.specs.Layout.{configOf, headOf, requestOf, planOf, tableOf, anyOf, isBadMark, isBadHead, isBadRequestBytes, isBadPlanBytes, isBadLayout, layoutNumber, sessionOf}
+
+abbrev pub session : IsoConfig → IsoHead → IsoFatal → List IsoRequest → List IsoPacketPlan → IsoChannelState
+session cfg head fatal requests plans = record { cfg = cfg; head = head; fatal = fatal; requests = requests; plans = plans }
+
+pub session-at :
+    (xs : List ℕ) {cfg : IsoConfig} {head : IsoHead} {fatal : IsoFatal} {t : Tagged} {requests : List IsoRequest} {plans : List IsoPacketPlan}
+    → cfg ≡ configOf xs
+    → head ≡ headOf xs
+    → t ≡ taggedOf (drop 34 xs)
+    → fatal ≡ fatalOf t
+    → requests ≡ tableOf requestOf 20 64 (drop 40 xs)
+    → plans ≡ tableOf planOf 7 1024 (drop 1320 xs)
+    → session cfg head fatal requests plans ≡ sessionOf xs
+unfolding sessionOf
+session-at xs ec eh et ef er ep = rw (ec, eh, ef, et, er, ep)
+
+pub short-layout : (xs : List ℕ) → length xs < 8488 → 17 ≡ layoutNumber xs
+short-layout xs h = sym (ap (λ (b : Bool). cond b 17 (cond (isBadLayout xs) 18 0)) (lt-ltb (length xs) 8488 h))
+
+-- the tests of the four parts, as the code puts them together
+layout-by :
+    (xs : List ℕ) {m h r p : Bool} (b : Bool) → 8488 ≤ length xs → m ≡ isBadMark xs → h ≡ isBadHead xs
+    → r ≡ anyOf isBadRequestBytes 20 64 (drop 40 xs)
+    → p ≡ anyOf isBadPlanBytes 7 1024 (drop 1320 xs)
+    → (m || (h || (r || p))) ≡ b
+    → cond b 18 0 ≡ layoutNumber xs
+unfolding isBadLayout
+layout-by xs {m} {h} {r} {p} b long em eh er ep e =
+    let all : isBadLayout xs ≡ b = rw (← em, ← eh, ← er, ← ep) e in
+    sym (ap (λ (x : Bool). cond x 17 (cond (isBadLayout xs) 18 0)) (le-ltb (length xs) 8488 long) ∙ ap (λ (x : Bool). cond x 18 0) all)
+
+pub bad-layout :
+    (xs : List ℕ) {m h r p : Bool} → 8488 ≤ length xs → m ≡ isBadMark xs → h ≡ isBadHead xs
+    → r ≡ anyOf isBadRequestBytes 20 64 (drop 40 xs)
+    → p ≡ anyOf isBadPlanBytes 7 1024 (drop 1320 xs)
+    → (m || (h || (r || p))) ≡ true
+    → 18 ≡ layoutNumber xs
+bad-layout xs = layout-by xs true
+
+pub good-layout :
+    (xs : List ℕ) {m h r p : Bool} → 8488 ≤ length xs → m ≡ isBadMark xs → h ≡ isBadHead xs
+    → r ≡ anyOf isBadRequestBytes 20 64 (drop 40 xs)
+    → p ≡ anyOf isBadPlanBytes 7 1024 (drop 1320 xs)
+    → (m || (h || (r || p))) ≡ false
+    → 0 ≡ layoutNumber xs
+good-layout xs = layout-by xs false

@@ -1,0 +1,105 @@
+-- Tables of entries: one turn and the end of a walk that reads, tests or writes them.
+use mathlib.Core.Path.{_≡_, refl, _∙_, sym, ap}
+use mathlib.Core.Bool.{Bool, true, false, _||_}
+use mathlib.Core.List.{List, [], _∷_, _++_}
+use Prim.Native.Nat.{ℕ, zero, suc, _+_, _-_, _*_, _≤_, _<_}
+use native.Mathlib.Numerals.{add-one}
+use native.Mathlib.Omega.{arith}
+use lib.ListN.{length, getD, set, drop, length-append, drop-of-length-le}
+use lib.Seq.{sets, sets-eq, drop-drop, drop-cons}
+use Rattle.port.specs.Layout.{tableBytes, tableOf, anyOf}
+use Rattle.port.proofs.Laws.Runs.{sets-append}
+
+module _ {A : Type 0} where
+  -- a run as long as the list replaces it
+  pub sets-all : (l vs : List A) → length l ≡ length vs → sets l 0 vs ≡ vs
+  sets-all l vs h =
+      let far : length l ≤ 0 + length vs = omega arith in
+      let rest : drop (0 + length vs) l ≡ [] = drop-of-length-le l far in
+      sets-eq vs l 0 (omega arith) ∙ ap (λ (r : List A). vs ++ r) rest ∙ append-nil vs
+    where
+      append-nil : (xs : List A) → xs ++ [] ≡ xs
+      append-nil [] = refl
+      append-nil (x ∷ xs) = ap (λ (r : List A). x ∷ r) (append-nil xs)
+
+-- ---- reading
+
+module _ {A : Type 0} (f : List ℕ → A) (w : ℕ) where
+  pub length-table : (n : ℕ) (xs : List ℕ) → length (tableOf f w n xs) ≡ n
+  unfolding tableOf
+  length-table zero xs = refl
+  length-table (suc n) xs = ap suc (length-table n (drop w xs))
+
+  pub read-first : (n : ℕ) (xs : List ℕ) (l : List A) → length l ≡ n → sets l 0 (tableOf f w n xs) ≡ tableOf f w n xs
+  read-first n xs l h = sets-all l (tableOf f w n xs) (h ∙ sym (length-table n xs))
+
+  table-next : (n at : ℕ) (xs : List ℕ) → tableOf f w (suc n) (drop at xs) ≡ f (drop at xs) ∷ tableOf f w n (drop (at + w) xs)
+  unfolding tableOf
+  table-next n at xs = ap (λ (ys : List ℕ). f (drop at xs) ∷ tableOf f w n ys) (drop-drop w at xs)
+
+  pub read-more :
+      (n i at : ℕ) (xs : List ℕ) (l : List A) (a : A) → i < n → a ≡ f (drop at xs)
+      → sets (set l i a) (i + 1) (tableOf f w (n - (i + 1)) (drop (at + w) xs)) ≡ sets l i (tableOf f w (n - i) (drop at xs))
+  read-more n i at xs l a h e =
+      let left : suc (n - (i + 1)) ≡ n - i = omega arith in
+      ap (λ (x : A). sets (set l i x) (i + 1) (tableOf f w (n - (i + 1)) (drop (at + w) xs))) e
+      ∙ ap (λ (k : ℕ). sets (set l i (f (drop at xs))) k (tableOf f w (n - (i + 1)) (drop (at + w) xs))) (add-one i)
+      ∙ ap (sets l i) (sym (table-next (n - (i + 1)) at xs))
+      ∙ ap (λ (k : ℕ). sets l i (tableOf f w k (drop at xs))) left
+
+  pub read-end : (n i : ℕ) (xs : List ℕ) (l : List A) → n ≤ i → sets l i (tableOf f w (n - i) xs) ≡ l
+  unfolding tableOf
+  read-end n i xs l h = let none : n - i ≡ 0 = omega arith in ap (λ (k : ℕ). sets l i (tableOf f w k xs)) none
+
+-- ---- testing
+
+module _ (bad : List ℕ → Bool) (w : ℕ) where
+  any-next : (n at : ℕ) (xs : List ℕ) → anyOf bad w (suc n) (drop at xs) ≡ (bad (drop at xs) || anyOf bad w n (drop (at + w) xs))
+  unfolding anyOf
+  any-next n at xs = ap (λ (ys : List ℕ). bad (drop at xs) || anyOf bad w n ys) (drop-drop w at xs)
+
+  any-by :
+      (n i at : ℕ) (xs : List ℕ) (b : Bool) → i < n → b ≡ bad (drop at xs)
+      → (b || anyOf bad w (n - (i + 1)) (drop (at + w) xs)) ≡ anyOf bad w (n - i) (drop at xs)
+  any-by n i at xs b h e =
+      let left : suc (n - (i + 1)) ≡ n - i = omega arith in
+      ap (λ (x : Bool). x || anyOf bad w (n - (i + 1)) (drop (at + w) xs)) e
+      ∙ sym (any-next (n - (i + 1)) at xs)
+      ∙ ap (λ (k : ℕ). anyOf bad w k (drop at xs)) left
+
+  pub any-more :
+      (n i at : ℕ) (xs : List ℕ) {b : Bool} → i < n → b ≡ bad (drop at xs) → b ≡ false
+      → anyOf bad w (n - (i + 1)) (drop (at + w) xs) ≡ anyOf bad w (n - i) (drop at xs)
+  any-more n i at xs h e clear = any-by n i at xs false h (sym clear ∙ e)
+
+  pub any-found :
+      (n i at : ℕ) (xs : List ℕ) {b : Bool} → i < n → b ≡ bad (drop at xs) → b ≡ true → true ≡ anyOf bad w (n - i) (drop at xs)
+  any-found n i at xs h e found = any-by n i at xs true h (sym found ∙ e)
+
+  pub any-end : (n i : ℕ) (xs : List ℕ) → n ≤ i → false ≡ anyOf bad w (n - i) xs
+  unfolding anyOf
+  any-end n i xs h = let none : n - i ≡ 0 = omega arith in sym (ap (λ (k : ℕ). anyOf bad w k xs) none)
+
+-- ---- writing
+
+module _ {A : Type 0} (f : A → List ℕ) (w : ℕ) where
+  pub write-more :
+      (i at : ℕ) (l : List A) (d a : A) (now : List ℕ) {next : List ℕ} → i < length l → a ≡ getD l i d → length (f a) ≡ w → next ≡ sets now at (f a)
+      → sets next (at + w) (tableBytes f (drop (i + 1) l)) ≡ sets now at (tableBytes f (drop i l))
+  unfolding tableBytes
+  write-more i at l d a now {next} h e k s =
+      ap (λ (m : List ℕ). sets m (at + w) (tableBytes f (drop (i + 1) l))) s
+      ∙ ap (λ (n : ℕ). sets (sets now at (f a)) (at + n) (tableBytes f (drop (i + 1) l))) (sym k)
+      ∙ sets-append (f a) now at (tableBytes f (drop (i + 1) l))
+      ∙ ap (λ (n : ℕ). sets now at (f a ++ tableBytes f (drop n l))) (add-one i)
+      ∙ ap (λ (x : A). sets now at (tableBytes f (x ∷ drop (suc i) l))) e
+      ∙ ap (λ (r : List A). sets now at (tableBytes f r)) (sym (drop-cons l i d h))
+
+  pub write-end : (i at : ℕ) (l : List A) (now : List ℕ) → length l ≤ i → sets now at (tableBytes f (drop i l)) ≡ now
+  unfolding tableBytes
+  write-end i at l now h = ap (λ (r : List A). sets now at (tableBytes f r)) (drop-of-length-le l h)
+
+  pub length-bytes : (l : List A) → ((a : A) → length (f a) ≡ w) → length (tableBytes f l) ≡ w * length l
+  unfolding tableBytes
+  length-bytes [] k = omega arith
+  length-bytes (a ∷ l) k = length-append (f a) (tableBytes f l) ∙ omega (arith, k a, length-bytes l k)

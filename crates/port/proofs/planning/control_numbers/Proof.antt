@@ -1,0 +1,40 @@
+-- The fields as they came, and the numbers of the enums.
+use borrow.Author.Needs.{needs}
+use Rattle.port.proofs.planning.control_numbers.Statement.{statement}
+use Rattle.port.proofs.planning.control_numbers.Tie as tie
+
+answer-number-requires : tie.Need-answer-number-requires
+answer-number-requires c κs = search needs
+
+flag-number-requires : tie.Need-flag-number-requires
+flag-number-requires c κs = search needs
+
+stage-numbers-requires : tie.Need-stage-numbers-requires
+stage-numbers-requires c κs = search needs
+
+stage-numbers-requires-2 : tie.Need-stage-numbers-requires-2
+stage-numbers-requires-2 c κs = search needs
+
+stage-numbers-requires-3 : tie.Need-stage-numbers-requires-3
+stage-numbers-requires-3 c κs = search needs
+
+returns : tie.Need-returns
+returns c =
+    rw (
+      c .stage-numbers3 .ensures,
+      c .before .stage-numbers2 .ensures,
+      c .before .before .stage-numbers .ensures,
+      c .before .before .before .flag-number .ensures,
+      c .before .before .before .before .answer-number .ensures,
+    )
+
+pub control-numbers-spec : {M : Type 1} → statement M
+control-numbers-spec =
+    tie.close
+    (tie.spec
+    answer-number-requires
+    flag-number-requires
+    stage-numbers-requires
+    stage-numbers-requires-2
+    stage-numbers-requires-3
+    returns)

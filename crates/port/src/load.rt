@@ -1,0 +1,180 @@
+// A session out of its bytes: whether they are one of the layout, and which.
+ghost use mathlib.Core.Path.{_≡_};
+ghost use Prim.Native.Nat.{_≤_};
+ghost use lib.ListN.{length, drop};
+ghost use Rattle.port.specs.Layout.{configOf, headOf, requestOf, planOf, tableOf, anyOf, isBadRequestBytes, isBadPlanBytes, isBadMark, isBadHead, isBadLayout, layoutNumber, sessionOf};
+use crate::entries::is_bad_plan_at;
+use crate::entries::is_bad_request_at;
+use crate::entries::plan_at;
+use crate::entries::request_at;
+use crate::entries::tagged_at;
+use crate::numbers::byte_at;
+use crate::numbers::u16_at;
+use crate::numbers::u32_at;
+use crate::numbers::u64_at;
+use crate::tags::direction_of;
+use crate::tags::fatal_of;
+use crate::tags::is_bad_tagged;
+use crate::tags::mode_of;
+use crate::tags::speed_of;
+use session::IsoChannelState;
+use session::IsoConfig;
+use session::IsoHead;
+use session::IsoOutcome;
+use session::IsoPacketPlan;
+use session::IsoRequest;
+use session::TransferStatus;
+
+fn config_at(bytes: &[u8]) -> IsoConfig
+    requires { ⌜ 8488 ≤ length (now bytes) ⌝ }
+    ensures { λ r. ⌜ r ≡ configOf (now (bytes .entry)) ⌝ }
+{
+    IsoConfig {
+        speed: speed_of(byte_at(bytes, 5)),
+        direction: direction_of(byte_at(bytes, 6)),
+        interval: u16_at(bytes, 8),
+        endpoint: byte_at(bytes, 12),
+        device: byte_at(bytes, 13),
+        max_packet_size: u16_at(bytes, 10),
+        mult: byte_at(bytes, 14),
+        mode: mode_of(byte_at(bytes, 7)),
+    }
+}
+
+fn head_at(bytes: &[u8]) -> IsoHead
+    requires { ⌜ 8488 ≤ length (now bytes) ⌝ }
+    ensures { λ r. ⌜ r ≡ headOf (now (bytes .entry)) ⌝ }
+{
+    IsoHead {
+        next_request_id: u64_at(bytes, 16),
+        live: !(byte_at(bytes, 15) == 0),
+        td_last: u16_at(bytes, 28),
+        start_full_frame: u32_at(bytes, 24),
+        done: u16_at(bytes, 30),
+        count: u16_at(bytes, 32),
+    }
+}
+
+fn requests_at(bytes: &[u8]) -> [IsoRequest; 64]
+    requires { ⌜ 8488 ≤ length (now bytes) ⌝ }
+    ensures { λ r. ⌜ r ≡ tableOf requestOf 20 64 (drop 40 (now (bytes .entry))) ⌝ }
+{
+    let blank = IsoRequest {
+        id: 0,
+        packets: 0,
+        actual_length: 0,
+        outcome: IsoOutcome::Done,
+    };
+    let mut table = [blank; 64];
+    let mut at: usize = 40;
+    let mut i: usize = 0;
+    while i < 64 {
+        table[i] = request_at(bytes, at);
+        at += 20;
+        i += 1;
+    }
+    table
+}
+
+fn plans_at(bytes: &[u8]) -> [IsoPacketPlan; 1024]
+    requires { ⌜ 8488 ≤ length (now bytes) ⌝ }
+    ensures { λ r. ⌜ r ≡ tableOf planOf 7 1024 (drop 1320 (now (bytes .entry))) ⌝ }
+{
+    let blank = IsoPacketPlan {
+        planned: 0,
+        desc_index: 0,
+        actual: 0,
+        status: TransferStatus::Completed,
+    };
+    let mut table = [blank; 1024];
+    let mut at: usize = 1_320;
+    let mut i: usize = 0;
+    while i < 1_024 {
+        table[i] = plan_at(bytes, at);
+        at += 7;
+        i += 1;
+    }
+    table
+}
+
+fn any_bad_request(bytes: &[u8]) -> bool
+    requires { ⌜ 8488 ≤ length (now bytes) ⌝ }
+    ensures { λ r. ⌜ r ≡ anyOf isBadRequestBytes 20 64 (drop 40 (now (bytes .entry))) ⌝ }
+{
+    let mut at: usize = 40;
+    let mut i: usize = 0;
+    while i < 64 {
+        if is_bad_request_at(bytes, at) {
+            return true;
+        }
+        at += 20;
+        i += 1;
+    }
+    false
+}
+
+fn any_bad_plan(bytes: &[u8]) -> bool
+    requires { ⌜ 8488 ≤ length (now bytes) ⌝ }
+    ensures { λ r. ⌜ r ≡ anyOf isBadPlanBytes 7 1024 (drop 1320 (now (bytes .entry))) ⌝ }
+{
+    let mut at: usize = 1_320;
+    let mut i: usize = 0;
+    while i < 1_024 {
+        if is_bad_plan_at(bytes, at) {
+            return true;
+        }
+        at += 7;
+        i += 1;
+    }
+    false
+}
+
+fn is_bad_mark(bytes: &[u8]) -> bool
+    requires { ⌜ 8488 ≤ length (now bytes) ⌝ }
+    ensures { λ r. ⌜ r ≡ isBadMark (now (bytes .entry)) ⌝ }
+{
+    !(byte_at(bytes, 0) == 68)
+        | (!(byte_at(bytes, 1) == 87)
+            | (!(byte_at(bytes, 2) == 83) | !(u16_at(bytes, 3) == 1)))
+}
+
+fn is_bad_head(bytes: &[u8]) -> bool
+    requires { ⌜ 8488 ≤ length (now bytes) ⌝ }
+    ensures { λ r. ⌜ r ≡ isBadHead (now (bytes .entry)) ⌝ }
+{
+    (byte_at(bytes, 5) > 2)
+        | ((byte_at(bytes, 6) > 1)
+            | ((byte_at(bytes, 7) > 1)
+                | ((byte_at(bytes, 15) > 1) | is_bad_tagged(2, 2, tagged_at(bytes, 34)))))
+}
+
+// The number with which bytes are refused that are no session of the layout; 0 for those that are one.
+pub(crate) fn layout_refusal(bytes: &[u8]) -> u16
+    ensures { λ r. ⌜ r ≡ layoutNumber (now (bytes .entry)) ⌝ }
+{
+    if bytes.len() < 8_488 {
+        return 17;
+    }
+    if is_bad_mark(bytes) | (is_bad_head(bytes) | (any_bad_request(bytes) | any_bad_plan(bytes))) {
+        return 18;
+    }
+    0
+}
+
+pub(crate) fn load_session(bytes: &[u8]) -> IsoChannelState
+    requires { ⌜ 8488 ≤ length (now bytes) ⌝ }
+    ensures { λ r. ⌜ r ≡ sessionOf (now (bytes .entry)) ⌝ }
+{
+    let cfg = config_at(bytes);
+    let head = head_at(bytes);
+    let fatal = fatal_of(tagged_at(bytes, 34));
+    let requests = requests_at(bytes);
+    let plans = plans_at(bytes);
+    IsoChannelState {
+        cfg,
+        head,
+        fatal,
+        requests,
+        plans,
+    }
+}
