@@ -2,4 +2,5 @@
 mod entries;
 mod load;
 mod numbers;
+mod save;
 mod tags;

@@ -120,3 +120,15 @@ plan-put xs {c = c} at r tag p q s o u =
     then xs at (at + 6) (planned ++ slot ++ actual) (statusTag (r .status) ∷ [])
         (then xs at (at + 4) (planned ++ slot) actual (then xs at (at + 2) planned slot p refl q) refl s) refl
         (u ∙ ap (λ (n : ℕ). sets c (at + 6) (n ∷ [])) o)
+
+pub length-tagged : (t : Tagged) → length (taggedBytes t) ≡ 6
+unfolding taggedBytes u32Bytes u16Bytes
+length-tagged t = refl
+
+pub length-request : (r : IsoRequest) → length (requestBytes r) ≡ 20
+unfolding requestBytes taggedBytes u64Bytes u32Bytes u16Bytes
+length-request r = refl
+
+pub length-plan : (p : IsoPacketPlan) → length (planBytes p) ≡ 7
+unfolding planBytes u16Bytes
+length-plan p = refl
