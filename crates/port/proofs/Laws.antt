@@ -1,3 +1,4 @@
+pub mod Back
 pub mod Entries
 pub mod Head
 pub mod Loaded

@@ -39,7 +39,7 @@ front-put xs {c = c} s p q r e u =
         (then xs 0 15 (mark ++ config) head (then xs 0 5 mark config p refl q) refl r) refl
         (u ∙ ap (λ (x : Tagged). sets c 34 (taggedBytes x)) e)
 
-length-requests : (s : IsoChannelState) → length (s .requests) ≡ 64 → length (front s ++ tableBytes requestBytes (s .requests)) ≡ 1320
+pub length-requests : (s : IsoChannelState) → length (s .requests) ≡ 64 → length (front s ++ tableBytes requestBytes (s .requests)) ≡ 1320
 length-requests s h =
     length-append (front s) (tableBytes requestBytes (s .requests))
     ∙ omega (arith, length-front s, length-bytes requestBytes 20 (s .requests) length-request)
