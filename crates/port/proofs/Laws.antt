@@ -3,6 +3,7 @@ pub mod Back
 pub mod Calls
 pub mod Entries
 pub mod Head
+pub mod Kept
 pub mod Loaded
 pub mod Requests
 pub mod Runs

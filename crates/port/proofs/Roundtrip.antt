@@ -1,14 +1,13 @@
 -- A session that was saved is loaded as it was, whatever stands behind it: for every session with tables of 64 and 1,024 entries, as all that the
 -- code holds have.
-use mathlib.Core.Path.{_≡_, refl, _∙_, sym, ap, ap₂}
-use mathlib.Core.Bool.{Bool, true, false, not, _||_, cond}
+use mathlib.Core.Path.{_≡_, refl, _∙_, sym, ap}
+use mathlib.Core.Bool.{Bool, true, false}
 use mathlib.Core.List.{List, _++_, append-assoc}
-use Prim.Native.Nat.{ℕ, _+_, _*_, _≤_}
+use Prim.Native.Nat.{ℕ, _+_, _≤_}
 use native.Mathlib.Omega.{arith}
 use lib.Dec.{ltb}
 use lib.ListN.{length, drop, length-append}
 use lib.Seq.{drop-at}
-use borrow.Author.Tests.{le-ltb}
 use Rattle.ring.specs.declared.speed.Speed.{Speed}
 use Rattle.ring.specs.declared.speed.Speed.the-variants.{High, Full, Low}
 use Rattle.words.specs.declared.types.Direction.{Direction}
@@ -17,13 +16,11 @@ use Rattle.session.specs.declared.types.IsoMode.{IsoMode}
 use Rattle.session.specs.declared.types.IsoMode.the-variants.{Compatible, Guarded}
 use Rattle.session.specs.declared.types.IsoConfig.{IsoConfig}
 use Rattle.session.specs.declared.types.IsoHead.{IsoHead}
-use Rattle.session.specs.declared.types.IsoRequest.{IsoRequest}
-use Rattle.session.specs.declared.types.IsoPacketPlan.{IsoPacketPlan}
 use Rattle.session.specs.declared.types.IsoChannelState.{IsoChannelState}
 use Rattle.port.specs.Bytes.{byteOf, u16Of, u32Of, u64Of, u16Bytes, u32Bytes, u64Bytes}
-use Rattle.port.specs.Tags.{speedTag, directionTag, modeTag, flagTag, taggedBytes, taggedOf, fatalTagged, fatalOf, isBadTagged}
+use Rattle.port.specs.Tags.{speedTag, directionTag, modeTag, flagTag, taggedOf, fatalTagged, isBadTagged}
 use Rattle.port.specs.Layout.{markBytes, configBytes, configOf, headBytes, headOf, requestBytes, requestOf, planBytes, planOf, tableBytes, tableOf, anyOf}
-use Rattle.port.specs.Layout.{isBadMark, isBadHead, isBadRequestBytes, isBadPlanBytes, isBadLayout, layoutNumber, saved, sessionOf}
+use Rattle.port.specs.Layout.{isBadMark, isBadHead, isBadRequestBytes, isBadPlanBytes, layoutNumber, saved, sessionOf}
 use Rattle.port.proofs.Laws.Entries.{length-request, length-plan}
 use Rattle.port.proofs.Laws.Tables.{length-bytes, table-back, table-good}
 use Rattle.port.proofs.Laws.Head.{config-at, head-at, head}
@@ -39,7 +36,7 @@ unfolding front markBytes configBytes byteOf u16Of u16Bytes
 config-back s ys =
     let c : IsoConfig = s .cfg in
     config-at (front s ++ ys) refl (speed-back (c .speed)) refl (direction-back (c .direction)) (sym (join16 (c .interval))) refl refl
-        (sym (join16 (c .«max_packet_size»))) refl refl (mode-back (c .mode))
+    (sym (join16 (c .«max_packet_size»))) refl refl (mode-back (c .mode))
 
 head-back : (s : IsoChannelState) (ys : List ℕ) → s .head ≡ headOf (front s ++ ys)
 unfolding front markBytes configBytes headBytes byteOf u64Of u32Of u16Of u64Bytes u32Bytes u16Bytes
@@ -47,7 +44,7 @@ head-back s ys =
     let h : IsoHead = s .head in
     ap (λ (live : Bool). head (h .«next_request_id») live (h .«td_last») (h .«start_full_frame») (h .done) (h .count)) (flag-back (h .live))
     ∙ head-at (front s ++ ys) (sym (join64 (h .«next_request_id»))) refl (sym (join16 (h .«td_last»))) (sym (join32 (h .«start_full_frame»)))
-        (sym (join16 (h .done))) (sym (join16 (h .count)))
+    (sym (join16 (h .done))) (sym (join16 (h .count)))
 
 reason-back : (s : IsoChannelState) (ys : List ℕ) → fatalTagged (s .fatal) ≡ taggedOf (drop 34 (front s ++ ys))
 unfolding front markBytes configBytes headBytes u64Bytes u32Bytes u16Bytes
@@ -67,12 +64,15 @@ head-good s ys =
     speed High = refl
     speed Full = refl
     speed Low = refl
+
     direction : (x : Direction) → ltb 1 (directionTag x) ≡ false
     direction Out = refl
     direction In = refl
+
     mode : (x : IsoMode) → ltb 1 (modeTag x) ≡ false
     mode Compatible = refl
     mode Guarded = refl
+
     live : (x : Bool) → ltb 1 (flagTag x) ≡ false
     live true = refl
     live false = refl
@@ -138,9 +138,14 @@ module _ (s : IsoChannelState) (many-requests : length (s .requests) ≡ 64) (ma
   unfolding requests plans
   length-whole =
       length-append (front s) requests
-      ∙ omega
-        (arith, length-front s, length-append (tableBytes requestBytes (s .requests)) plans, length-append (tableBytes planBytes (s .plans)) ys,
-        length-bytes requestBytes 20 (s .requests) length-request, length-bytes planBytes 7 (s .plans) length-plan)
+      ∙ omega (
+        arith,
+        length-front s,
+        length-append (tableBytes requestBytes (s .requests)) plans,
+        length-append (tableBytes planBytes (s .plans)) ys,
+        length-bytes requestBytes 20 (s .requests) length-request,
+        length-bytes planBytes 7 (s .plans) length-plan,
+      )
 
   -- a saved session is one of the layout
   pub saved-good : layoutNumber (saved s ++ ys) ≡ 0

@@ -25,9 +25,10 @@ equal-results :
     → (x ≡ e) × (m ≡ l) × (o ≡ k) × (j ≡ i)
     → (y ≡ e) × (n ≡ l) × (q ≡ k) × (r ≡ i)
     → (x ≡ y) × (at m o j ≡ at n q r)
-equal-results {n = n} {o = o} {q = q} {j = j} at f g =
-    (f .0 ∙ sym (g .0),
-    ap (λ (bytes : List ℕ). at bytes o j) (f .1 ∙ sym (g .1)) ∙ ap (λ (words : List ℕ). at n words j) (f .2 ∙ sym (g .2)) ∙ ap (at n q) (f .3 ∙ sym (g .3)))
+equal-results {n = n} {o = o} {q = q} {j = j} at f g = (
+  f .0 ∙ sym (g .0),
+  ap (λ (bytes : List ℕ). at bytes o j) (f .1 ∙ sym (g .1)) ∙ ap (λ (words : List ℕ). at n words j) (f .2 ∙ sym (g .2)) ∙ ap (at n q) (f .3 ∙ sym (g .3)),
+)
 
 pub check-unique : Unique 1 calls.dwc2_iso_check.Kinds.ps calls.dwc2_iso_check.Kinds.r calls.dwc2_iso_check.Reads.Post
 check-unique κs a x y u v = equal refl

@@ -87,7 +87,13 @@ fn event_of(reported: u32, unplugged: u32, hcint: u32) -> IsoEvent
 }
 
 #[no_mangle]
-pub extern "C" fn dwc2_iso_poll(session: &mut [u8], ring: &mut [u32], reported: u32, unplugged: u32, hcint: u32) -> PortReply
+pub extern "C" fn dwc2_iso_poll(
+    session: &mut [u8],
+    ring: &mut [u32],
+    reported: u32,
+    unplugged: u32,
+    hcint: u32,
+) -> PortReply
     ensures { λ r. ⌜ (r ≡ replyBy (now (session .entry)) (λ (s : IsoChannelState). polled s (eventOf reported unplugged hcint) (now (ring .entry)))) × (now (session .exit) ≡ bytesBy (now (session .entry)) (λ (s : IsoChannelState). polled s (eventOf reported unplugged hcint) (now (ring .entry)) .session)) × (now (ring .exit) ≡ wordsBy (now (session .entry)) (now (ring .entry)) (λ (s : IsoChannelState). polledRing s (eventOf reported unplugged hcint) (now (ring .entry)))) ⌝ }
 {
     let refusal = layout_refusal(session);
@@ -103,7 +109,15 @@ pub extern "C" fn dwc2_iso_poll(session: &mut [u8], ring: &mut [u32], reported: 
 }
 
 #[no_mangle]
-pub extern "C" fn dwc2_iso_reclaim(session: &mut [u8], ring: &mut [u32], results: &mut [u64], id: u64, reported: u32, unplugged: u32, hcint: u32) -> PortReclaimed
+pub extern "C" fn dwc2_iso_reclaim(
+    session: &mut [u8],
+    ring: &mut [u32],
+    results: &mut [u64],
+    id: u64,
+    reported: u32,
+    unplugged: u32,
+    hcint: u32,
+) -> PortReclaimed
     ensures { λ r. ⌜ (r ≡ reclaimBy (now (session .entry)) (λ (s : IsoChannelState). reclaimed s id (eventOf reported unplugged hcint) (now (ring .entry)) (length (now (results .entry))))) × (now (session .exit) ≡ bytesBy (now (session .entry)) (λ (s : IsoChannelState). reclaimed s id (eventOf reported unplugged hcint) (now (ring .entry)) (length (now (results .entry))) .session)) × (now (ring .exit) ≡ wordsBy (now (session .entry)) (now (ring .entry)) (λ (s : IsoChannelState). reclaimedRing s id (eventOf reported unplugged hcint) (now (ring .entry)) (length (now (results .entry))))) × (now (results .exit) ≡ wordsBy (now (session .entry)) (now (results .entry)) (λ (s : IsoChannelState). reclaimedResults s id (eventOf reported unplugged hcint) (now (ring .entry)) (now (results .entry)))) ⌝ }
 {
     let refusal = layout_refusal(session);

@@ -17,7 +17,16 @@ use crate::tags::speed_of;
 use session::IsoChannelState;
 use session::IsoConfig;
 
-fn config_of(speed: u8, direction: u8, mode: u8, interval: u16, max_packet_size: u16, endpoint: u8, device: u8, mult: u8) -> IsoConfig
+fn config_of(
+    speed: u8,
+    direction: u8,
+    mode: u8,
+    interval: u16,
+    max_packet_size: u16,
+    endpoint: u8,
+    device: u8,
+    mult: u8,
+) -> IsoConfig
     ensures { λ r. ⌜ r ≡ configBy speed direction mode interval «max_packet_size» endpoint device mult ⌝ }
 {
     IsoConfig {
@@ -33,7 +42,18 @@ fn config_of(speed: u8, direction: u8, mode: u8, interval: u16, max_packet_size:
 }
 
 #[no_mangle]
-pub extern "C" fn dwc2_iso_open(session: &mut [u8], ring: &mut [u32], speed: u8, direction: u8, mode: u8, interval: u16, max_packet_size: u16, endpoint: u8, device: u8, mult: u8) -> u32
+pub extern "C" fn dwc2_iso_open(
+    session: &mut [u8],
+    ring: &mut [u32],
+    speed: u8,
+    direction: u8,
+    mode: u8,
+    interval: u16,
+    max_packet_size: u16,
+    endpoint: u8,
+    device: u8,
+    mult: u8,
+) -> u32
     ensures { λ r. ⌜ (r ≡ openBy (now (session .entry)) (isBadNames speed direction mode) (configBy speed direction mode interval «max_packet_size» endpoint device mult) (length (now (ring .entry)))) × (now (session .exit) ≡ openBytes (now (session .entry)) (isBadNames speed direction mode) (configBy speed direction mode interval «max_packet_size» endpoint device mult) (length (now (ring .entry)))) × (now (ring .exit) ≡ openRing (now (session .entry)) (isBadNames speed direction mode) (configBy speed direction mode interval «max_packet_size» endpoint device mult) (now (ring .entry))) ⌝ }
 {
     if session.len() < 8_488 {
@@ -42,7 +62,16 @@ pub extern "C" fn dwc2_iso_open(session: &mut [u8], ring: &mut [u32], speed: u8,
     if (speed > 2) | ((direction > 1) | (mode > 1)) {
         return 18;
     }
-    let cfg = config_of(speed, direction, mode, interval, max_packet_size, endpoint, device, mult);
+    let cfg = config_of(
+        speed,
+        direction,
+        mode,
+        interval,
+        max_packet_size,
+        endpoint,
+        device,
+        mult,
+    );
     let opened = IsoChannelState::open(cfg, ring);
     let after = opened.session;
     save_session(session, after);
@@ -51,7 +80,12 @@ pub extern "C" fn dwc2_iso_open(session: &mut [u8], ring: &mut [u32], speed: u8,
 }
 
 #[no_mangle]
-pub extern "C" fn dwc2_iso_submit(session: &mut [u8], ring: &mut [u32], lengths: &[u32], transfer: PortTransfer) -> PortSubmitted
+pub extern "C" fn dwc2_iso_submit(
+    session: &mut [u8],
+    ring: &mut [u32],
+    lengths: &[u32],
+    transfer: PortTransfer,
+) -> PortSubmitted
     ensures { λ r. ⌜ (r ≡ submitBy (now (session .entry)) transfer (now (lengths .entry)) (now (ring .entry))) × (now (session .exit) ≡ submitBytes (now (session .entry)) transfer (now (lengths .entry)) (now (ring .entry))) × (now (ring .exit) ≡ submitRing (now (session .entry)) transfer (now (lengths .entry)) (now (ring .entry))) ⌝ }
 {
     let refusal = layout_refusal(session);

@@ -38,7 +38,13 @@ fn put_config(bytes: &mut [u8], cfg: IsoConfig)
     let speed = cfg.speed;
     let direction = cfg.direction;
     let mode = cfg.mode;
-    put_three(bytes, 5, speed_tag(speed), direction_tag(direction), mode_tag(mode));
+    put_three(
+        bytes,
+        5,
+        speed_tag(speed),
+        direction_tag(direction),
+        mode_tag(mode),
+    );
     put_u16(bytes, 8, cfg.interval);
     put_u16(bytes, 10, cfg.max_packet_size);
     put_three(bytes, 12, cfg.endpoint, cfg.device, cfg.mult);

@@ -1,11 +1,10 @@
 -- What was written is read back: numbers, cases and entries.
 use mathlib.Core.Path.{_≡_, refl, _∙_, sym, ap, ap₂}
 use mathlib.Core.Bool.{Bool, true, false, not, _||_}
-use mathlib.Core.List.{List, [], _∷_, _++_}
+use mathlib.Core.List.{List, _++_}
 use Prim.Native.Nat.{ℕ, _+_, _*_, _/_, _%_}
 use native.Mathlib.Omega.{arith}
 use lib.Dec.{ltb}
-use lib.ListN.{drop}
 use Rattle.ring.specs.declared.speed.Speed.{Speed}
 use Rattle.ring.specs.declared.speed.Speed.the-variants.{High, Full, Low}
 use Rattle.words.specs.Numbers.{faultBit}
@@ -129,8 +128,8 @@ unfolding requestBytes u64Of u32Of u16Of u64Bytes u32Bytes u16Bytes
 request-back r ys =
     sym
     (request-at (requestBytes r ++ ys) 0 (r .id) (r .packets) (r .«actual_length») (outcomeTagged (r .outcome)) (r .outcome)
-        (sym (join64 (r .id))) (sym (join16 (r .packets))) (sym (join32 (r .«actual_length»))) (tagged-back (outcomeTagged (r .outcome)) ys)
-        (outcome-back (r .outcome)))
+    (sym (join64 (r .id))) (sym (join16 (r .packets))) (sym (join32 (r .«actual_length»))) (tagged-back (outcomeTagged (r .outcome)) ys)
+    (outcome-back (r .outcome)))
 
 pub request-good : (r : IsoRequest) (ys : List ℕ) → isBadRequestBytes (requestBytes r ++ ys) ≡ false
 unfolding isBadRequestBytes requestBytes u64Bytes u32Bytes u16Bytes
@@ -141,7 +140,7 @@ unfolding planBytes byteOf u16Of u16Bytes
 plan-back p ys =
     sym
     (plan-at (planBytes p ++ ys) 0 (p .planned) (p .«desc_index») (p .actual) (statusTag (p .status)) (p .status)
-        (sym (join16 (p .planned))) (sym (join16 (p .«desc_index»))) (sym (join16 (p .actual))) refl (status-back (p .status)))
+    (sym (join16 (p .planned))) (sym (join16 (p .«desc_index»))) (sym (join16 (p .actual))) refl (status-back (p .status)))
 
 pub plan-good : (p : IsoPacketPlan) (ys : List ℕ) → isBadPlanBytes (planBytes p ++ ys) ≡ false
 unfolding isBadPlanBytes planBytes byteOf u16Bytes

@@ -43,15 +43,17 @@ module _ (xs : List ℕ) (call : IsoChannelState → IsoReply) where
   pub reply-refused :
       {n : ℕ} {r : PortReply} → n ≡ layoutNumber xs → (n ≡ 0 → ⊥) → r ≡ replyRefused n
       → (r ≡ replyBy xs call) × (xs ≡ bytesBy xs (λ (s : IsoChannelState). call s .session))
-  reply-refused e z g =
-      (g ∙ refused xs replyRefused (λ (s : IsoChannelState). replyPort (call s)) e z,
-      refused xs (λ (n : ℕ). xs) (λ (s : IsoChannelState). sets xs 0 (saved (call s .session))) e z)
+  reply-refused e z g = (
+    g ∙ refused xs replyRefused (λ (s : IsoChannelState). replyPort (call s)) e z,
+    refused xs (λ (n : ℕ). xs) (λ (s : IsoChannelState). sets xs 0 (saved (call s .session))) e z,
+  )
 
   pub reply-done :
       {n : ℕ} {s : IsoChannelState} {r : IsoReply} {p : PortReply} {after : List ℕ} → n ≡ layoutNumber xs → n ≡ 0 → s ≡ sessionOf xs → r ≡ call s
       → p ≡ replyPort r
       → after ≡ sets xs 0 (saved (r .session))
       → (p ≡ replyBy xs call) × (after ≡ bytesBy xs (λ (t : IsoChannelState). call t .session))
-  reply-done e z l g p b =
-      (p ∙ done xs replyRefused call replyPort e z l g,
-      b ∙ done xs (λ (n : ℕ). xs) call (λ (r : IsoReply). sets xs 0 (saved (r .session))) e z l g)
+  reply-done e z l g p b = (
+    p ∙ done xs replyRefused call replyPort e z l g,
+    b ∙ done xs (λ (n : ℕ). xs) call (λ (r : IsoReply). sets xs 0 (saved (r .session))) e z l g,
+  )

@@ -1,10 +1,10 @@
 -- The head of a session's bytes, field by field.
-use mathlib.Core.Path.{_≡_, refl, _∙_, sym, ap}
+use mathlib.Core.Path.{_≡_, refl, _∙_, ap}
 use mathlib.Core.Bool.{Bool, not, _||_}
 use mathlib.Core.List.{List, [], _∷_, _++_}
 use Prim.Native.Nat.{ℕ, _+_}
 use lib.Dec.{eqb, ltb}
-use lib.ListN.{length, drop}
+use lib.ListN.{drop}
 use lib.Seq.{sets}
 use Rattle.ring.specs.declared.speed.Speed.{Speed}
 use Rattle.words.specs.declared.types.Direction.{Direction}
@@ -13,7 +13,7 @@ use Rattle.session.specs.declared.types.IsoConfig.{IsoConfig}
 use Rattle.session.specs.declared.types.IsoHead.{IsoHead}
 use Rattle.port.specs.declared.tags.Tagged.{Tagged}
 use Rattle.port.specs.Bytes.{byteOf, u16Of, u32Of, u64Of, u16Bytes, u32Bytes, u64Bytes}
-use Rattle.port.specs.Tags.{speedTag, speedOf, directionTag, directionOf, modeTag, modeOf, flagTag, flagOf, taggedOf, isBadTagged}
+use Rattle.port.specs.Tags.{speedTag, speedOf, directionTag, directionOf, modeTag, modeOf, flagTag, taggedOf, isBadTagged}
 use Rattle.port.specs.Layout.{markBytes, configBytes, configOf, headBytes, headOf, isBadMark, isBadHead}
 use Rattle.port.proofs.Laws.Runs.{then}
 
@@ -108,7 +108,7 @@ config-put xs cfg {speed} {direction} es ed em p q r s =
     let interval : List ℕ = u16Bytes (cfg .interval) in
     let size : List ℕ = u16Bytes (cfg .«max_packet_size») in
     then xs 5 12 (tags ++ interval ++ size) (cfg .endpoint ∷ cfg .device ∷ cfg .mult ∷ [])
-        (then xs 5 10 (tags ++ interval) size (then xs 5 8 tags interval (p ∙ ap (sets xs 5) same) refl q) refl r) refl s
+    (then xs 5 10 (tags ++ interval) size (then xs 5 8 tags interval (p ∙ ap (sets xs 5) same) refl q) refl r) refl s
 
 pub head-put :
     (xs : List ℕ) {a b c d e f : List ℕ} (h : IsoHead) {live : ℕ}

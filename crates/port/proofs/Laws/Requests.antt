@@ -1,5 +1,5 @@
 -- Submitting and opening by bytes, at each way out.
-use mathlib.Core.Path.{_≡_, refl, _∙_, sym, ap}
+use mathlib.Core.Path.{_≡_, _∙_, sym, ap}
 use mathlib.Core.Bool.{Bool, true, false}
 use mathlib.Core.List.{List}
 use Prim.Native.Nat.{ℕ, _≤_, _<_}
@@ -57,18 +57,20 @@ module _ (xs : List ℕ) (t : PortTransfer) (lengths ring : List ℕ) where
   pub submit-refused :
       {n : ℕ} {r : PortSubmitted} → n ≡ layoutNumber xs → (n ≡ 0 → ⊥) → r ≡ submitRefused n
       → (r ≡ submitBy xs t lengths ring) × (xs ≡ submitBytes xs t lengths ring) × (ring ≡ submitRing xs t lengths ring)
-  submit-refused e z g =
-      (g ∙ kind-refused xs (t .kind) submitRefused answerFor e z,
-      kind-refused xs (t .kind) (λ (n : ℕ). xs) bytesFor e z,
-      kind-refused xs (t .kind) (λ (n : ℕ). ring) ringFor e z)
+  submit-refused e z g = (
+    g ∙ kind-refused xs (t .kind) submitRefused answerFor e z,
+    kind-refused xs (t .kind) (λ (n : ℕ). xs) bytesFor e z,
+    kind-refused xs (t .kind) (λ (n : ℕ). ring) ringFor e z,
+  )
 
   pub submit-kind :
       {n : ℕ} {r : PortSubmitted} → n ≡ layoutNumber xs → n ≡ 0 → 3 < t .kind → r ≡ submitRefused 18
       → (r ≡ submitBy xs t lengths ring) × (xs ≡ submitBytes xs t lengths ring) × (ring ≡ submitRing xs t lengths ring)
-  submit-kind e z h g =
-      (g ∙ kind-bad xs (t .kind) submitRefused answerFor e z h,
-      kind-bad xs (t .kind) (λ (n : ℕ). xs) bytesFor e z h,
-      kind-bad xs (t .kind) (λ (n : ℕ). ring) ringFor e z h)
+  submit-kind e z h g = (
+    g ∙ kind-bad xs (t .kind) submitRefused answerFor e z h,
+    kind-bad xs (t .kind) (λ (n : ℕ). xs) bytesFor e z h,
+    kind-bad xs (t .kind) (λ (n : ℕ). ring) ringFor e z h,
+  )
 
   pub submit-done :
       {n : ℕ} {s : IsoChannelState} {u : IsoTransfer} {r : Submitted} {p : PortSubmitted} {after words : List ℕ} → n ≡ layoutNumber xs → n ≡ 0
@@ -82,10 +84,11 @@ module _ (xs : List ℕ) (t : PortTransfer) (lengths ring : List ℕ) where
       → (p ≡ submitBy xs t lengths ring) × (after ≡ submitBytes xs t lengths ring) × (words ≡ submitRing xs t lengths ring)
   submit-done {s = s} {r = r} e z h l w g k p b =
       let call : IsoChannelState → Submitted = λ (x : IsoChannelState). submitted x (transferOf t) lengths ring in
-      let given : r ≡ call s = g ∙ ap (λ (x : IsoTransfer). submitted s x lengths ring) w in
-      (p ∙ kind-done xs (t .kind) submitRefused call submittedPort e z h l given,
-      b ∙ kind-done xs (t .kind) (λ (n : ℕ). xs) call (λ (x : Submitted). sets xs 0 (saved (x .session))) e z h l given,
-      kind-done xs (t .kind) (λ (n : ℕ). ring) ringFor (λ (x : List ℕ). x) e z h l (k ∙ ap (λ (x : IsoTransfer). submittedRing s x lengths ring) w))
+      let given : r ≡ call s = g ∙ ap (λ (x : IsoTransfer). submitted s x lengths ring) w in (
+        p ∙ kind-done xs (t .kind) submitRefused call submittedPort e z h l given,
+        b ∙ kind-done xs (t .kind) (λ (n : ℕ). xs) call (λ (x : Submitted). sets xs 0 (saved (x .session))) e z h l given,
+        kind-done xs (t .kind) (λ (n : ℕ). ring) ringFor (λ (x : List ℕ). x) e z h l (k ∙ ap (λ (x : IsoTransfer). submittedRing s x lengths ring) w),
+      )
 
 -- ---- opening
 
@@ -115,10 +118,11 @@ module _ (xs : List ℕ) (bad : Bool) (cfg : IsoConfig) (ring : List ℕ) where
       (open-17 xs bad (λ (n : ℕ). n) number h, open-17 xs bad (λ (n : ℕ). xs) bytes h, open-17 xs bad (λ (n : ℕ). ring) (openedRing cfg ring) h)
 
   pub open-bad : 8488 ≤ length xs → bad ≡ true → Opens 18 xs ring
-  open-bad h e =
-      (open-by xs bad (λ (n : ℕ). n) number true h e,
-      open-by xs bad (λ (n : ℕ). xs) bytes true h e,
-      open-by xs bad (λ (n : ℕ). ring) (openedRing cfg ring) true h e)
+  open-bad h e = (
+    open-by xs bad (λ (n : ℕ). n) number true h e,
+    open-by xs bad (λ (n : ℕ). xs) bytes true h e,
+    open-by xs bad (λ (n : ℕ). ring) (openedRing cfg ring) true h e,
+  )
 
   pub open-done :
       {c : IsoConfig} {o : Opened} {r : ℕ} {after words : List ℕ} → 8488 ≤ length xs → bad ≡ false → c ≡ cfg → o ≡ opened c (length ring)
@@ -127,7 +131,8 @@ module _ (xs : List ℕ) (bad : Bool) (cfg : IsoConfig) (ring : List ℕ) where
       → after ≡ sets xs 0 (saved (o .session))
       → Opens r after words
   open-done {o = o} h e k g w p b =
-      let given : o ≡ opened cfg (length ring) = g ∙ ap (λ (x : IsoConfig). opened x (length ring)) k in
-      (p ∙ ap (λ (x : Opened). openNumber (x .answer)) given ∙ open-by xs bad (λ (n : ℕ). n) number false h e,
-      b ∙ ap (λ (x : Opened). sets xs 0 (saved (x .session))) given ∙ open-by xs bad (λ (n : ℕ). xs) bytes false h e,
-      w ∙ ap (λ (x : IsoConfig). openedRing x ring) k ∙ open-by xs bad (λ (n : ℕ). ring) (openedRing cfg ring) false h e)
+      let given : o ≡ opened cfg (length ring) = g ∙ ap (λ (x : IsoConfig). opened x (length ring)) k in (
+        p ∙ ap (λ (x : Opened). openNumber (x .answer)) given ∙ open-by xs bad (λ (n : ℕ). n) number false h e,
+        b ∙ ap (λ (x : Opened). sets xs 0 (saved (x .session))) given ∙ open-by xs bad (λ (n : ℕ). xs) bytes false h e,
+        w ∙ ap (λ (x : IsoConfig). openedRing x ring) k ∙ open-by xs bad (λ (n : ℕ). ring) (openedRing cfg ring) false h e,
+      )

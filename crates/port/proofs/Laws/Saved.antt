@@ -1,7 +1,7 @@
 -- A session written part by part is its bytes.
-use mathlib.Core.Path.{_≡_, refl, _∙_, sym, ap}
+use mathlib.Core.Path.{_≡_, refl, _∙_, ap}
 use mathlib.Core.List.{List, _++_}
-use Prim.Native.Nat.{ℕ, _+_, _*_}
+use Prim.Native.Nat.{ℕ, _+_}
 use native.Mathlib.Omega.{arith}
 use lib.ListN.{length, length-append}
 use lib.Seq.{sets}
@@ -11,7 +11,7 @@ use Rattle.port.specs.Bytes.{u16Bytes, u32Bytes, u64Bytes}
 use Rattle.port.specs.Tags.{taggedBytes, fatalTagged}
 use Rattle.port.specs.Layout.{markBytes, configBytes, headBytes, requestBytes, planBytes, tableBytes, saved}
 use Rattle.port.proofs.Laws.Runs.{then}
-use Rattle.port.proofs.Laws.Entries.{length-request, length-plan}
+use Rattle.port.proofs.Laws.Entries.{length-request}
 use Rattle.port.proofs.Laws.Tables.{length-bytes}
 
 -- what stands before the tables
@@ -36,8 +36,8 @@ front-put xs {c = c} s p q r e u =
     let config : List ℕ = configBytes (s .cfg) in
     let head : List ℕ = headBytes (s .head) in
     then xs 0 34 (mark ++ config ++ head) (taggedBytes (fatalTagged (s .fatal)))
-        (then xs 0 15 (mark ++ config) head (then xs 0 5 mark config p refl q) refl r) refl
-        (u ∙ ap (λ (x : Tagged). sets c 34 (taggedBytes x)) e)
+    (then xs 0 15 (mark ++ config) head (then xs 0 5 mark config p refl q) refl r) refl
+    (u ∙ ap (λ (x : Tagged). sets c 34 (taggedBytes x)) e)
 
 pub length-requests : (s : IsoChannelState) → length (s .requests) ≡ 64 → length (front s ++ tableBytes requestBytes (s .requests)) ≡ 1320
 length-requests s h =

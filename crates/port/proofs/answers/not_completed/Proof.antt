@@ -1,19 +1,13 @@
 use borrow.Author.Needs.{needs}
 use Rattle.port.proofs.answers.not_completed.Statement.{statement}
 use Rattle.port.proofs.answers.not_completed.Tie as tie
-use Rattle.port.proofs.answers.not_completed.Reads as reads
-use Rattle.port.proofs.answers.not_completed.Lts as lts
-use Rattle.port.proofs.answers.flag.Reads as flag-reads
 
--- src/answers.rt:108:16
 flag-requires : tie.Need-flag-requires
 flag-requires c κs = search needs
 
--- src/answers.rt:109:15
 flag-requires-2 : tie.Need-flag-requires-2
 flag-requires-2 c κs = search needs
 
--- src/answers.rt:97:1
 returns : tie.Need-returns
 returns c = rw (c .before .flag .ensures, c .flag2 .ensures)
 

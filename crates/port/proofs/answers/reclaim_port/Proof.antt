@@ -7,65 +7,46 @@ use Rattle.session.specs.declared.reply.ReclaimAnswer.{ReclaimAnswer}
 use mathlib.Core.Path.{_∙_, sym, ap}
 use Rattle.port.proofs.answers.reclaim_port.Statement.{statement}
 use Rattle.port.proofs.answers.reclaim_port.Tie as tie
-use Rattle.port.proofs.answers.reclaim_port.Reads as reads
-use Rattle.port.proofs.answers.reclaim_port.Lts as lts
-use Rattle.port.proofs.answers.flag.Reads as flag-reads
-use Rattle.port.proofs.answers.not_completed.Reads as not-completed-reads
-use Rattle.port.proofs.tags.outcome_tagged.Reads as outcome-tagged-reads
 
--- src/answers.rt:123:34
 enum-known-answer : tie.Need-enum-known-answer
 enum-known-answer c = search needs
 
--- src/answers.rt:124:17
 outcome-tagged-requires : tie.Need-outcome-tagged-requires
 outcome-tagged-requires c κs = search needs
 
--- src/answers.rt:128:26
 cast-t10 : tie.Need-cast-t10
 cast-t10 c = search needs
 
--- src/answers.rt:129:24
 cast-t11 : tie.Need-cast-t11
 cast-t11 c = search needs
 
--- src/answers.rt:132:26
 cast-t12 : tie.Need-cast-t12
 cast-t12 c = search needs
 
--- src/answers.rt:133:24
 flag-requires : tie.Need-flag-requires
 flag-requires c κs = search needs
 
--- src/answers.rt:134:23
 flag-requires-2 : tie.Need-flag-requires-2
 flag-requires-2 c κs = search needs
 
--- src/answers.rt:137:34
 enum-told : tie.Need-enum-told
 enum-told c = search needs
 
--- src/answers.rt:137:34
 not-completed-requires : tie.Need-not-completed-requires
 not-completed-requires c κs = search needs
 
--- src/answers.rt:138:32
 enum-known-answer-2 : tie.Need-enum-known-answer-2
 enum-known-answer-2 c = search needs
 
--- src/answers.rt:138:43
 not-completed-requires-2 : tie.Need-not-completed-requires-2
 not-completed-requires-2 c κs = search needs
 
--- src/answers.rt:119:1
 returns : tie.Need-returns
 returns c = completed-port (c .before .before .before .before .before .before .answer .given .0 .1 .0) (c .before .before .before .before .before .before .answer .given .0 .1 .1 .0) (c .before .before .before .before .before .before .answer .given .1) (c .before .before .before .before .outcome-tagged .ensures) (c .before .flag .ensures) (c .flag2 .ensures)
 
--- src/answers.rt:119:1
 returns-2 : tie.Need-returns-2
 returns-2 c = c .not-completed .ensures ∙ sym (ap (λ (a : ReclaimAnswer). reclaimPort a (flagTag (c .before .before .before .args .taken)) (flagTag (c .before .before .before .args .halt))) (c .before .enum-told .given .1))
 
--- src/answers.rt:119:1
 returns-3 : tie.Need-returns-3
 returns-3 c = c .not-completed2 .ensures ∙ sym (ap (λ (a : ReclaimAnswer). reclaimPort a (flagTag (c .before .before .before .before .args .taken)) (flagTag (c .before .before .before .before .args .halt))) (c .before .before .answer2 .given .1))
 

@@ -4,52 +4,34 @@ use Rattle.session.specs.Cancel.{cancelled}
 use Rattle.port.proofs.Laws.Calls.{long-enough, reply-refused, reply-done}
 use Rattle.port.proofs.calls.dwc2_iso_cancel.Statement.{statement}
 use Rattle.port.proofs.calls.dwc2_iso_cancel.Tie as tie
-use Rattle.port.proofs.calls.dwc2_iso_cancel.Reads as reads
-use Rattle.port.proofs.calls.dwc2_iso_cancel.Lts as lts
-use Rattle.port.proofs.answers.reply_port.Reads as reply-port-reads
-use Rattle.port.proofs.answers.reply_refused.Reads as reply-refused-reads
-use Rattle.port.proofs.load.layout_refusal.Reads as layout-refusal-reads
-use Rattle.port.proofs.load.load_session.Reads as load-session-reads
-use Rattle.port.proofs.save.save_session.Reads as save-session-reads
-use Rattle.session.proofs.types.IsoChannelState.cancel.Reads as cancel-reads
 
--- src/calls.rt:47:9
 layout-refusal-requires : tie.Need-layout-refusal-requires
 layout-refusal-requires c κs = search needs
 
--- src/calls.rt:49:9
 reply-refused-requires : tie.Need-reply-refused-requires
 reply-refused-requires c κs = search needs
 
--- src/calls.rt:49:9
 same-length : tie.Need-same-length
 same-length c = search needs
 
--- src/calls.rt:49:9
 returns : tie.Need-returns
 returns c = reply-refused (c .before .before .before .before .before .args .session .now) (λ (s : IsoChannelState). cancelled s (c .before .before .before .before .before .args .id)) (c .before .before .layout-refusal .ensures) (c .before .if1 .taken) (c .reply-refused .ensures)
 
--- src/calls.rt:51:17
 load-session-requires : tie.Need-load-session-requires
 load-session-requires c κs = long-enough (c .before .before .before .before .before .args .session .now) (c .before .before .layout-refusal .ensures) (c .before .if1 .left)
 
--- src/calls.rt:51:9
 cancel-requires : tie.Need-cancel-requires
 cancel-requires c κs = search needs
 
--- src/calls.rt:53:5
 save-session-requires : tie.Need-save-session-requires
 save-session-requires c κs = long-enough (c .before .before .before .before .before .before .before .before .before .args .session .now) (c .before .before .before .before .before .before .layout-refusal .ensures) (c .before .before .before .before .before .if1 .left)
 
--- src/calls.rt:55:5
 reply-port-requires : tie.Need-reply-port-requires
 reply-port-requires c κs = search needs
 
--- src/calls.rt:43:1
 same-length-2 : tie.Need-same-length-2
 same-length-2 c = search needs
 
--- src/calls.rt:43:1
 returns-2 : tie.Need-returns-2
 returns-2 c = reply-done (c .before .before .before .before .before .before .before .before .before .before .before .before .before .args .session .now) (λ (s : IsoChannelState). cancelled s (c .before .before .before .before .before .before .before .before .before .before .before .before .before .args .id)) (c .before .before .before .before .before .before .before .before .before .before .layout-refusal .ensures) (c .before .before .before .before .before .before .before .before .before .if1 .left) (c .before .before .before .before .before .before .before .load-session .ensures) (c .before .before .before .before .before .before .cancel .ensures) (c .reply-port .ensures) (c .before .before .before .save-session .ensures)
 

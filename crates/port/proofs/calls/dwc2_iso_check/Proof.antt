@@ -7,37 +7,25 @@ use mathlib.Core.Path.{_∙_, ap, sym}
 use Rattle.port.proofs.Laws.Calls.{long-enough, refused, done}
 use Rattle.port.proofs.calls.dwc2_iso_check.Statement.{statement}
 use Rattle.port.proofs.calls.dwc2_iso_check.Tie as tie
-use Rattle.port.proofs.calls.dwc2_iso_check.Reads as reads
-use Rattle.port.proofs.calls.dwc2_iso_check.Lts as lts
-use Rattle.port.proofs.load.layout_refusal.Reads as layout-refusal-reads
-use Rattle.port.proofs.load.load_session.Reads as load-session-reads
-use Rattle.session.proofs.types.IsoChannelState.is_bad_record.Reads as is-bad-record-reads
 
--- src/calls.rt:18:9
 layout-refusal-requires : tie.Need-layout-refusal-requires
 layout-refusal-requires c κs = search needs
 
--- src/calls.rt:20:16
 cast-result : tie.Need-cast-result
 cast-result c = search needs
 
--- src/calls.rt:20:9
 returns : tie.Need-returns
 returns c = refused (c .before .before .before .args .session .now) (λ (n : ℕ). n) (λ (s : IsoChannelState). cond (isBadRecord s) 18 0) (c .before .layout-refusal .ensures) (c .if1 .taken)
 
--- src/calls.rt:22:8
 load-session-requires : tie.Need-load-session-requires
 load-session-requires c κs = long-enough (c .before .before .before .args .session .now) (c .before .layout-refusal .ensures) (c .if1 .left)
 
--- src/calls.rt:22:8
 is-bad-record-requires : tie.Need-is-bad-record-requires
 is-bad-record-requires c κs = search needs
 
--- src/calls.rt:23:9
 returns-2 : tie.Need-returns-2
 returns-2 c = ap (λ (b : Bool). cond b 18 0) (sym (c .if2 .taken)) ∙ done (c .before .before .before .before .before .before .args .session .now) (λ (n : ℕ). n) isBadRecord (λ (b : Bool). cond b 18 0) (c .before .before .before .before .layout-refusal .ensures) (c .before .before .before .if1 .left) (c .before .before .load-session .ensures) (c .before .is-bad-record .ensures)
 
--- src/calls.rt:14:1
 returns-3 : tie.Need-returns-3
 returns-3 c = ap (λ (b : Bool). cond b 18 0) (sym (c .if2 .left)) ∙ done (c .before .before .before .before .before .before .args .session .now) (λ (n : ℕ). n) isBadRecord (λ (b : Bool). cond b 18 0) (c .before .before .before .before .layout-refusal .ensures) (c .before .before .before .if1 .left) (c .before .before .load-session .ensures) (c .before .is-bad-record .ensures)
 

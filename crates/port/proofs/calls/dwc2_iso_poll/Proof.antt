@@ -3,72 +3,50 @@ use Rattle.session.specs.Poll.{polled, polledRing}
 use Rattle.port.specs.Calls.{eventOf}
 use Rattle.session.specs.declared.reply.IsoEvent.{IsoEvent}
 use Rattle.session.specs.declared.types.IsoChannelState.{IsoChannelState}
-use lib.ListN.{length}
 use Prim.Native.Nat.{ℕ}
 use mathlib.Core.List.{List}
 use mathlib.Core.Path.{_∙_, ap}
 use Rattle.port.proofs.Laws.Calls.{long-enough, refused, done, reply-refused, reply-done}
 use Rattle.port.proofs.calls.dwc2_iso_poll.Statement.{statement}
 use Rattle.port.proofs.calls.dwc2_iso_poll.Tie as tie
-use Rattle.port.proofs.calls.dwc2_iso_poll.Reads as reads
-use Rattle.port.proofs.calls.dwc2_iso_poll.Lts as lts
-use Rattle.port.proofs.answers.reply_port.Reads as reply-port-reads
-use Rattle.port.proofs.answers.reply_refused.Reads as reply-refused-reads
-use Rattle.port.proofs.calls.event_of.Reads as event-of-reads
-use Rattle.port.proofs.load.layout_refusal.Reads as layout-refusal-reads
-use Rattle.port.proofs.load.load_session.Reads as load-session-reads
-use Rattle.port.proofs.save.save_session.Reads as save-session-reads
-use Rattle.session.proofs.types.IsoChannelState.poll_channel.Reads as poll-channel-reads
 
--- src/calls.rt:93:9
 layout-refusal-requires : tie.Need-layout-refusal-requires
 layout-refusal-requires c κs = search needs
 
--- src/calls.rt:95:9
 reply-refused-requires : tie.Need-reply-refused-requires
 reply-refused-requires c κs = search needs
 
--- src/calls.rt:95:9
 same-length : tie.Need-same-length
 same-length c = search needs
 
--- src/calls.rt:95:9
 returns : tie.Need-returns
-returns c = 
+returns c =
     let both = reply-refused (c .before .before .before .before .before .before .args .session .now) (λ (s : IsoChannelState). polled s (eventOf (c .before .before .before .before .before .before .args .reported) (c .before .before .before .before .before .before .args .unplugged) (c .before .before .before .before .before .before .args .hcint)) (c .before .before .before .before .before .before .args .ring .now)) (c .before .before .layout-refusal .ensures) (c .before .if1 .taken) (c .reply-refused .ensures) in
     (both .0, both .1, refused (c .before .before .before .before .before .before .args .session .now) (λ (n : ℕ). (c .before .before .before .before .before .before .args .ring .now)) (λ (s : IsoChannelState). polledRing s (eventOf (c .before .before .before .before .before .before .args .reported) (c .before .before .before .before .before .before .args .unplugged) (c .before .before .before .before .before .before .args .hcint)) (c .before .before .before .before .before .before .args .ring .now)) (c .before .before .layout-refusal .ensures) (c .before .if1 .taken))
 
--- src/calls.rt:97:9
 event-of-requires : tie.Need-event-of-requires
 event-of-requires c κs = search needs
 
--- src/calls.rt:98:17
 load-session-requires : tie.Need-load-session-requires
 load-session-requires c κs = long-enough (c .before .before .before .before .before .before .before .args .session .now) (c .before .before .before .layout-refusal .ensures) (c .before .before .if1 .left)
 
--- src/calls.rt:98:9
 poll-channel-requires : tie.Need-poll-channel-requires
 poll-channel-requires c κs = search needs
 
--- src/calls.rt:100:5
 save-session-requires : tie.Need-save-session-requires
 save-session-requires c κs = long-enough (c .before .before .before .before .before .before .before .before .before .before .before .before .before .before .args .session .now) (c .before .before .before .before .before .before .before .before .before .before .layout-refusal .ensures) (c .before .before .before .before .before .before .before .before .before .if1 .left)
 
--- src/calls.rt:102:5
 reply-port-requires : tie.Need-reply-port-requires
 reply-port-requires c κs = search needs
 
--- src/calls.rt:89:1
 same-length-2 : tie.Need-same-length-2
 same-length-2 c = search needs
 
--- src/calls.rt:89:1
 same-length-3 : tie.Need-same-length-3
 same-length-3 c = search needs
 
--- src/calls.rt:89:1
 returns-2 : tie.Need-returns-2
-returns-2 c = 
+returns-2 c =
     let both = reply-done (c .before .before .before .before .before .before .before .before .before .before .before .before .before .before .before .before .before .before .args .session .now) (λ (s : IsoChannelState). polled s (eventOf (c .before .before .before .before .before .before .before .before .before .before .before .before .before .before .before .before .before .before .args .reported) (c .before .before .before .before .before .before .before .before .before .before .before .before .before .before .before .before .before .before .args .unplugged) (c .before .before .before .before .before .before .before .before .before .before .before .before .before .before .before .before .before .before .args .hcint)) (c .before .before .before .before .before .before .before .before .before .before .before .before .before .before .before .before .before .before .args .ring .now)) (c .before .before .before .before .before .before .before .before .before .before .before .before .before .before .layout-refusal .ensures) (c .before .before .before .before .before .before .before .before .before .before .before .before .before .if1 .left) (c .before .before .before .before .before .before .before .before .before .before .load-session .ensures) (c .before .before .before .before .before .before .before .before .poll-channel .ensures .0 ∙ ap (λ (e : IsoEvent). polled (c .before .before .before .before .before .before .before .before .before .before .load-session .result) e (c .before .before .before .before .before .before .before .before .before .before .before .before .before .before .before .before .before .before .args .ring .now)) (c .before .before .before .before .before .before .before .before .before .before .before .before .event-of .ensures)) (c .reply-port .ensures) (c .before .before .before .save-session .ensures) in
     (both .0, both .1, done (c .before .before .before .before .before .before .before .before .before .before .before .before .before .before .before .before .before .before .args .session .now) (λ (n : ℕ). (c .before .before .before .before .before .before .before .before .before .before .before .before .before .before .before .before .before .before .args .ring .now)) (λ (s : IsoChannelState). polledRing s (eventOf (c .before .before .before .before .before .before .before .before .before .before .before .before .before .before .before .before .before .before .args .reported) (c .before .before .before .before .before .before .before .before .before .before .before .before .before .before .before .before .before .before .args .unplugged) (c .before .before .before .before .before .before .before .before .before .before .before .before .before .before .before .before .before .before .args .hcint)) (c .before .before .before .before .before .before .before .before .before .before .before .before .before .before .before .before .before .before .args .ring .now)) (λ (words : List ℕ). words) (c .before .before .before .before .before .before .before .before .before .before .before .before .before .before .layout-refusal .ensures) (c .before .before .before .before .before .before .before .before .before .before .before .before .before .if1 .left) (c .before .before .before .before .before .before .before .before .before .before .load-session .ensures) (c .before .before .before .before .before .before .before .before .poll-channel .ensures .1 ∙ ap (λ (e : IsoEvent). polledRing (c .before .before .before .before .before .before .before .before .before .before .load-session .result) e (c .before .before .before .before .before .before .before .before .before .before .before .before .before .before .before .before .before .before .args .ring .now)) (c .before .before .before .before .before .before .before .before .before .before .before .before .event-of .ensures)))
 

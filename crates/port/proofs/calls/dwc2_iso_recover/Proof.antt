@@ -1,69 +1,47 @@
 use borrow.Author.Needs.{needs}
 use Rattle.session.specs.Poll.{recovered, recoveredRing}
-use Rattle.port.specs.Calls.{eventOf}
-use Rattle.session.specs.declared.reply.IsoEvent.{IsoEvent}
 use Rattle.session.specs.declared.types.IsoChannelState.{IsoChannelState}
 use lib.ListN.{length}
 use Prim.Native.Nat.{ℕ}
 use mathlib.Core.List.{List}
-use mathlib.Core.Path.{_∙_, ap}
 use Rattle.port.proofs.Laws.Calls.{long-enough, refused, done, reply-refused, reply-done}
 use Rattle.port.proofs.calls.dwc2_iso_recover.Statement.{statement}
 use Rattle.port.proofs.calls.dwc2_iso_recover.Tie as tie
-use Rattle.port.proofs.calls.dwc2_iso_recover.Reads as reads
-use Rattle.port.proofs.calls.dwc2_iso_recover.Lts as lts
-use Rattle.port.proofs.answers.reply_port.Reads as reply-port-reads
-use Rattle.port.proofs.answers.reply_refused.Reads as reply-refused-reads
-use Rattle.port.proofs.load.layout_refusal.Reads as layout-refusal-reads
-use Rattle.port.proofs.load.load_session.Reads as load-session-reads
-use Rattle.port.proofs.save.save_session.Reads as save-session-reads
-use Rattle.session.proofs.types.IsoChannelState.recover.Reads as recover-reads
 
--- src/calls.rt:68:9
 layout-refusal-requires : tie.Need-layout-refusal-requires
 layout-refusal-requires c κs = search needs
 
--- src/calls.rt:70:9
 reply-refused-requires : tie.Need-reply-refused-requires
 reply-refused-requires c κs = search needs
 
--- src/calls.rt:70:9
 same-length : tie.Need-same-length
 same-length c = search needs
 
--- src/calls.rt:70:9
 returns : tie.Need-returns
-returns c = 
+returns c =
     let both = reply-refused (c .before .before .before .before .before .before .args .session .now) (λ (s : IsoChannelState). recovered s (length (c .before .before .before .before .before .before .args .ring .now))) (c .before .before .layout-refusal .ensures) (c .before .if1 .taken) (c .reply-refused .ensures) in
     (both .0, both .1, refused (c .before .before .before .before .before .before .args .session .now) (λ (n : ℕ). (c .before .before .before .before .before .before .args .ring .now)) (λ (s : IsoChannelState). recoveredRing s (c .before .before .before .before .before .before .args .ring .now)) (c .before .before .layout-refusal .ensures) (c .before .if1 .taken))
 
--- src/calls.rt:72:17
 load-session-requires : tie.Need-load-session-requires
 load-session-requires c κs = long-enough (c .before .before .before .before .before .before .args .session .now) (c .before .before .layout-refusal .ensures) (c .before .if1 .left)
 
--- src/calls.rt:72:9
 recover-requires : tie.Need-recover-requires
 recover-requires c κs = search needs
 
--- src/calls.rt:74:5
 save-session-requires : tie.Need-save-session-requires
 save-session-requires c κs = long-enough (c .before .before .before .before .before .before .before .before .before .before .before .before .before .args .session .now) (c .before .before .before .before .before .before .before .before .before .layout-refusal .ensures) (c .before .before .before .before .before .before .before .before .if1 .left)
 
--- src/calls.rt:76:5
 reply-port-requires : tie.Need-reply-port-requires
 reply-port-requires c κs = search needs
 
--- src/calls.rt:64:1
 same-length-2 : tie.Need-same-length-2
 same-length-2 c = search needs
 
--- src/calls.rt:64:1
 same-length-3 : tie.Need-same-length-3
 same-length-3 c = search needs
 
--- src/calls.rt:64:1
 returns-2 : tie.Need-returns-2
-returns-2 c = 
+returns-2 c =
     let both = reply-done (c .before .before .before .before .before .before .before .before .before .before .before .before .before .before .before .before .before .args .session .now) (λ (s : IsoChannelState). recovered s (length (c .before .before .before .before .before .before .before .before .before .before .before .before .before .before .before .before .before .args .ring .now))) (c .before .before .before .before .before .before .before .before .before .before .before .before .before .layout-refusal .ensures) (c .before .before .before .before .before .before .before .before .before .before .before .before .if1 .left) (c .before .before .before .before .before .before .before .before .before .before .load-session .ensures) (c .before .before .before .before .before .before .before .before .recover .ensures .0) (c .reply-port .ensures) (c .before .before .before .save-session .ensures) in
     (both .0, both .1, done (c .before .before .before .before .before .before .before .before .before .before .before .before .before .before .before .before .before .args .session .now) (λ (n : ℕ). (c .before .before .before .before .before .before .before .before .before .before .before .before .before .before .before .before .before .args .ring .now)) (λ (s : IsoChannelState). recoveredRing s (c .before .before .before .before .before .before .before .before .before .before .before .before .before .before .before .before .before .args .ring .now)) (λ (words : List ℕ). words) (c .before .before .before .before .before .before .before .before .before .before .before .before .before .layout-refusal .ensures) (c .before .before .before .before .before .before .before .before .before .before .before .before .if1 .left) (c .before .before .before .before .before .before .before .before .before .before .load-session .ensures) (c .before .before .before .before .before .before .before .before .recover .ensures .1))
 

@@ -2,24 +2,16 @@ use borrow.Author.Needs.{needs}
 use Rattle.port.proofs.Laws.Head.{mark-put}
 use Rattle.port.proofs.save.put_mark.Statement.{statement}
 use Rattle.port.proofs.save.put_mark.Tie as tie
-use Rattle.port.proofs.save.put_mark.Reads as reads
-use Rattle.port.proofs.save.put_mark.Lts as lts
-use Rattle.port.proofs.numbers.put_three.Reads as put-three-reads
-use Rattle.port.proofs.numbers.put_u16.Reads as put-u16-reads
 
--- src/save.rt:30:5
 put-three-requires : tie.Need-put-three-requires
 put-three-requires c κs = search needs
 
--- src/save.rt:31:5
 put-u16-requires : tie.Need-put-u16-requires
 put-u16-requires c κs = search needs
 
--- src/save.rt:26:1
 same-length : tie.Need-same-length
 same-length c = search needs
 
--- src/save.rt:26:1
 returns : tie.Need-returns
 returns c = mark-put (c .before .before .before .before .before .before .before .before .before .args .bytes .now) (c .before .before .before .before .before .before .put-three .ensures) (c .before .before .put-u16 .ensures)
 

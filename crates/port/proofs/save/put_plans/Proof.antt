@@ -7,13 +7,10 @@ use Rattle.port.specs.Layout.{tableBytes, planBytes}
 use lib.Seq.{sets}
 use lib.ListN.{length, drop}
 use native.Mathlib.Omega.{arith}
-use Prim.Native.Nat.{ℕ, _+_, _-_, _*_, _≤_}
-use mathlib.Core.Path.{_≡_, refl, _∙_, ap, sym}
+use Prim.Native.Nat.{_+_, _-_, _*_, _≤_}
+use mathlib.Core.Path.{_≡_, refl, _∙_, sym}
 use Rattle.port.proofs.save.put_plans.Statement.{statement}
 use Rattle.port.proofs.save.put_plans.Tie as tie
-use Rattle.port.proofs.save.put_plans.Reads as reads
-use Rattle.port.proofs.save.put_plans.Lts as lts
-use Rattle.port.proofs.entries.put_plan.Reads as put-plan-reads
 
 abbrev Inv-loop : tie.InvT-loop
 Inv-loop bytes₀ plans at₀ i₀ bytes at i =
@@ -26,37 +23,29 @@ abbrev μ-loop : tie.MeasureT-loop
 long : (c : tie.Start Inv-loop μ-loop) → length (c .args .t2) ≡ 1024
 long c = c .good .1 .0 .1 .0 .1
 
--- src/save.rt:79:5
 loop-holds : tie.Need-loop-holds Inv-loop μ-loop
 loop-holds c = (omega arith, refl, refl, refl)
 
--- src/save.rt:80:20
 mul-plan : tie.Need-mul-plan Inv-loop μ-loop
 mul-plan c = omega arith
 
--- src/save.rt:80:20
 array-copy-out-plan : tie.Need-array-copy-out-plan Inv-loop μ-loop
 array-copy-out-plan c = omega arith
 
--- src/save.rt:81:9
 put-plan-requires : tie.Need-put-plan-requires Inv-loop μ-loop
 put-plan-requires c κs = omega arith
 
--- src/save.rt:82:9
 add-at : tie.Need-add-at Inv-loop μ-loop
 add-at c = omega arith
 
--- src/save.rt:83:9
 add-i : tie.Need-add-i Inv-loop μ-loop
 add-i c = omega arith
 
--- src/save.rt:79:5
 loop-less : tie.Need-loop-less Inv-loop μ-loop
 loop-less c = omega arith
 
--- src/save.rt:79:5
 loop-again : tie.Need-loop-again Inv-loop μ-loop
-loop-again c = 
+loop-again c =
     let now = c .before .before .before .before .before .before .loop in
     let many : length (c .before .before .before .before .before .before .before .before .args .t2) ≡ 1024 = long ((c .before .before .before .before .before .before .before .before)) in (
       omega arith,
@@ -65,11 +54,9 @@ loop-again c =
       write-more planBytes 7 (now .i) (now .at) (c .before .before .before .before .before .before .before .before .args .t2) blankPlan (getD (c .before .before .before .before .before .before .before .before .args .t2) (now .i) blankPlan) (now .bytes) (omega arith) refl (length-plan _) (c .before .before .put-plan .ensures) ∙ now .inv .3,
     )
 
--- src/save.rt:73:1
 same-length : tie.Need-same-length Inv-loop μ-loop
 same-length c = c .before .loop .inv .2
 
--- src/save.rt:73:1
 returns : tie.Need-returns Inv-loop μ-loop
 returns c = let many : length (c .before .before .before .args .t2) ≡ 1024 = long ((c .before .before .before)) in sym (write-end planBytes 7 (c .before .loop .i) (c .before .loop .at) (c .before .before .before .args .t2) (c .before .loop .bytes) (omega arith)) ∙ c .before .loop .inv .3
 

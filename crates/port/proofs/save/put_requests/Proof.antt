@@ -7,13 +7,10 @@ use Rattle.port.specs.Layout.{tableBytes, requestBytes}
 use lib.Seq.{sets}
 use lib.ListN.{length, drop}
 use native.Mathlib.Omega.{arith}
-use Prim.Native.Nat.{ℕ, _+_, _-_, _*_, _≤_}
-use mathlib.Core.Path.{_≡_, refl, _∙_, ap, sym}
+use Prim.Native.Nat.{_+_, _-_, _*_, _≤_}
+use mathlib.Core.Path.{_≡_, refl, _∙_, sym}
 use Rattle.port.proofs.save.put_requests.Statement.{statement}
 use Rattle.port.proofs.save.put_requests.Tie as tie
-use Rattle.port.proofs.save.put_requests.Reads as reads
-use Rattle.port.proofs.save.put_requests.Lts as lts
-use Rattle.port.proofs.entries.put_request.Reads as put-request-reads
 
 abbrev Inv-loop : tie.InvT-loop
 Inv-loop bytes₀ requests at₀ i₀ bytes at i =
@@ -26,37 +23,29 @@ abbrev μ-loop : tie.MeasureT-loop
 long : (c : tie.Start Inv-loop μ-loop) → length (c .args .t2) ≡ 64
 long c = c .good .1 .0 .1 .0 .1
 
--- src/save.rt:65:5
 loop-holds : tie.Need-loop-holds Inv-loop μ-loop
 loop-holds c = (omega arith, refl, refl, refl)
 
--- src/save.rt:66:23
 mul-request : tie.Need-mul-request Inv-loop μ-loop
 mul-request c = omega arith
 
--- src/save.rt:66:23
 array-copy-out-request : tie.Need-array-copy-out-request Inv-loop μ-loop
 array-copy-out-request c = omega arith
 
--- src/save.rt:67:9
 put-request-requires : tie.Need-put-request-requires Inv-loop μ-loop
 put-request-requires c κs = omega arith
 
--- src/save.rt:68:9
 add-at : tie.Need-add-at Inv-loop μ-loop
 add-at c = omega arith
 
--- src/save.rt:69:9
 add-i : tie.Need-add-i Inv-loop μ-loop
 add-i c = omega arith
 
--- src/save.rt:65:5
 loop-less : tie.Need-loop-less Inv-loop μ-loop
 loop-less c = omega arith
 
--- src/save.rt:65:5
 loop-again : tie.Need-loop-again Inv-loop μ-loop
-loop-again c = 
+loop-again c =
     let now = c .before .before .before .before .before .before .loop in
     let many : length (c .before .before .before .before .before .before .before .before .args .t2) ≡ 64 = long ((c .before .before .before .before .before .before .before .before)) in (
       omega arith,
@@ -65,11 +54,9 @@ loop-again c =
       write-more requestBytes 20 (now .i) (now .at) (c .before .before .before .before .before .before .before .before .args .t2) blankRequest (getD (c .before .before .before .before .before .before .before .before .args .t2) (now .i) blankRequest) (now .bytes) (omega arith) refl (length-request _) (c .before .before .put-request .ensures) ∙ now .inv .3,
     )
 
--- src/save.rt:59:1
 same-length : tie.Need-same-length Inv-loop μ-loop
 same-length c = c .before .loop .inv .2
 
--- src/save.rt:59:1
 returns : tie.Need-returns Inv-loop μ-loop
 returns c = let many : length (c .before .before .before .args .t2) ≡ 64 = long ((c .before .before .before)) in sym (write-end requestBytes 20 (c .before .loop .i) (c .before .loop .at) (c .before .before .before .args .t2) (c .before .loop .bytes) (omega arith)) ∙ c .before .loop .inv .3
 

@@ -4,52 +4,34 @@ use lib.ListN.{length, length-map}
 use mathlib.Core.Path.{_≡_, _∙_, sym}
 use Rattle.port.proofs.save.save_session.Statement.{statement}
 use Rattle.port.proofs.save.save_session.Tie as tie
-use Rattle.port.proofs.save.save_session.Reads as reads
-use Rattle.port.proofs.save.save_session.Lts as lts
-use Rattle.port.proofs.entries.put_tagged.Reads as put-tagged-reads
-use Rattle.port.proofs.save.put_config.Reads as put-config-reads
-use Rattle.port.proofs.save.put_head.Reads as put-head-reads
-use Rattle.port.proofs.save.put_mark.Reads as put-mark-reads
-use Rattle.port.proofs.save.put_plans.Reads as put-plans-reads
-use Rattle.port.proofs.save.put_requests.Reads as put-requests-reads
-use Rattle.port.proofs.tags.fatal_tagged.Reads as fatal-tagged-reads
 
 long : (c : tie.Start) → length (c .args .session .requests) ≡ 64
 long c = sym (length-map (c .args .session .requests) _) ∙ c .good .1 .0 .1 .1 .1 .1 .1 .0 .1 .0 .1
 
--- src/save.rt:97:5
 put-mark-requires : tie.Need-put-mark-requires
 put-mark-requires c κs = search needs
 
--- src/save.rt:98:5
 put-config-requires : tie.Need-put-config-requires
 put-config-requires c κs = search needs
 
--- src/save.rt:99:5
 put-head-requires : tie.Need-put-head-requires
 put-head-requires c κs = search needs
 
--- src/save.rt:100:27
 fatal-tagged-requires : tie.Need-fatal-tagged-requires
 fatal-tagged-requires c κs = search needs
 
--- src/save.rt:100:5
 put-tagged-requires : tie.Need-put-tagged-requires
 put-tagged-requires c κs = search needs
 
--- src/save.rt:101:5
 put-requests-requires : tie.Need-put-requests-requires
 put-requests-requires c κs = search needs
 
--- src/save.rt:102:5
 put-plans-requires : tie.Need-put-plans-requires
 put-plans-requires c κs = search needs
 
--- src/save.rt:88:1
 same-length : tie.Need-same-length
 same-length c = search needs
 
--- src/save.rt:88:1
 returns : tie.Need-returns
 returns c = session-put (c .before .before .before .before .before .before .before .before .before .before .before .before .before .before .before .before .before .before .before .before .before .before .before .before .before .before .before .before .before .before .args .bytes .now) (c .before .before .before .before .before .before .before .before .before .before .before .before .before .before .before .before .before .before .before .before .before .before .before .before .before .before .before .before .before .before .args .session) (long ((c .before .before .before .before .before .before .before .before .before .before .before .before .before .before .before .before .before .before .before .before .before .before .before .before .before .before .before .before .before .before))) (c .before .before .before .before .before .before .before .before .before .before .before .before .before .before .before .before .before .before .before .before .before .before .before .put-mark .ensures) (c .before .before .before .before .before .before .before .before .before .before .before .before .before .before .before .before .before .before .before .put-config .ensures) (c .before .before .before .before .before .before .before .before .before .before .before .before .before .before .before .put-head .ensures) (c .before .before .before .before .before .before .before .before .before .before .before .fatal-tagged .ensures) (c .before .before .before .before .before .before .before .before .before .before .put-tagged .ensures) (c .before .before .before .before .before .before .put-requests .ensures) (c .before .before .put-plans .ensures)
 
