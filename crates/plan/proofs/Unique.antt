@@ -4,7 +4,7 @@ use mathlib.Core.Bool.{Bool}
 use mathlib.Core.List.{List}
 use mathlib.Core.Path.{_≡_, refl, ap, sym, _∙_}
 use Prim.Native.Nat.{ℕ}
-use Rattle.words.proofs.Unique.{Unique, equal}
+use Rattle.words.proofs.Unique.{Unique, equal, equal-both}
 use Rattle.plan.specs.declared.toggle.DataToggle.{DataToggle}
 use Rattle.plan.proofs.control
 use Rattle.plan.proofs.«data» as data-calls
@@ -15,10 +15,6 @@ use Rattle.plan.proofs.toggle.DataToggle as functions
 -- a toggle is its one bit
 one-bit : {x y : DataToggle} {b : Bool} → x .0 ≡ b → y .0 ≡ b → x ≡ y
 one-bit p q = ap (λ (b : Bool). record { 0 = b }) (p ∙ sym q)
-
--- a promise that is an equation of the result and one of the words that were lent as the second argument
-pub equal-both : {A : Type 0} {x y e : A} {l : List ℕ} {u v : Unit {0} × (List ℕ × Unit {0})} → (x ≡ e) × (u .1 .0 ≡ l) → (y ≡ e) × (v .1 .0 ≡ l) → (x ≡ y) × (u ≡ v)
-equal-both p q = (p .0 ∙ sym (q .0), ap (λ (words : List ℕ). (tt, (words, tt))) (p .1 ∙ sym (q .1)))
 
 pub packet-count-unique : Unique 0 split.packet_count.Kinds.ps split.packet_count.Kinds.r split.packet_count.Reads.Post
 packet-count-unique κs a x y u v = equal refl
@@ -39,10 +35,10 @@ pub advance-unique : Unique 0 functions.advance.Kinds.ps functions.advance.Kinds
 advance-unique κs a x y u v p q = (one-bit p q, refl)
 
 pub data-stages-unique : Unique 1 data-calls.data_stages.Kinds.ps data-calls.data_stages.Kinds.r data-calls.data_stages.Reads.Post
-data-stages-unique κs a x y u v = equal-both
+data-stages-unique κs a x y u v = equal-both (λ (words : List ℕ). (tt, (words, tt)))
 
 pub build-control-plan-unique : Unique 1 control.build_control_plan.Kinds.ps control.build_control_plan.Kinds.r control.build_control_plan.Reads.Post
-build-control-plan-unique κs a x y u v = equal-both
+build-control-plan-unique κs a x y u v = equal-both (λ (words : List ℕ). (tt, (words, tt)))
 
 pub setup-packet-bytes-unique : Unique 0 control.setup_packet_bytes.Kinds.ps control.setup_packet_bytes.Kinds.r control.setup_packet_bytes.Reads.Post
 setup-packet-bytes-unique κs a x y u v = equal refl

@@ -1,7 +1,13 @@
+pub mod Answers
+pub mod Back
+pub mod Calls
 pub mod Entries
 pub mod Head
+pub mod Kept
 pub mod Loaded
+pub mod Requests
 pub mod Runs
+pub mod Saved
 pub mod Numbers
 pub mod Planning
 pub mod Tables

@@ -134,8 +134,7 @@ fn is_bad_mark(bytes: &[u8]) -> bool
     ensures { λ r. ⌜ r ≡ isBadMark (now (bytes .entry)) ⌝ }
 {
     !(byte_at(bytes, 0) == 68)
-        | (!(byte_at(bytes, 1) == 87)
-            | (!(byte_at(bytes, 2) == 83) | !(u16_at(bytes, 3) == 1)))
+        | (!(byte_at(bytes, 1) == 87) | (!(byte_at(bytes, 2) == 83) | !(u16_at(bytes, 3) == 1)))
 }
 
 fn is_bad_head(bytes: &[u8]) -> bool

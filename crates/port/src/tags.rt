@@ -141,7 +141,6 @@ fn is_fault(kind: u8) -> bool
     (kind == 2) | ((kind == 3) | ((kind >= 7) & (kind <= 10)))
 }
 
-
 pub(crate) fn outcome_tagged(outcome: IsoOutcome) -> Tagged
     ensures { λ r. ⌜ r ≡ outcomeTagged outcome ⌝ }
 {

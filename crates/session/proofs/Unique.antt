@@ -1,22 +1,10 @@
 -- Each public function's promise leaves one answer: two that keep it, at the same arguments, are equal. Each line is over the function's own
 -- contract, so it fails where the promise is weakened.
 use mathlib.Core.List.{List}
-use mathlib.Core.Path.{_≡_, refl, ap, sym, _∙_}
+use mathlib.Core.Path.{refl}
 use Prim.Native.Nat.{ℕ}
-use Rattle.words.proofs.Unique.{Unique, equal}
+use Rattle.words.proofs.Unique.{Unique, equal, equal-both, equal-all}
 use Rattle.session.proofs.types.IsoChannelState as functions
-
--- a promise that is an equation of the result and one of the words that were lent; `at` puts them in the place of their argument
-equal-both :
-    {A L : Type 0} {x y e : A} {l m n : List ℕ} (at : List ℕ → L) → (x ≡ e) × (m ≡ l) → (y ≡ e) × (n ≡ l) → (x ≡ y) × (at m ≡ at n)
-equal-both at p q = (p .0 ∙ sym (q .0), ap at (p .1 ∙ sym (q .1)))
-
--- the same with two slices that were lent
-equal-all :
-    {A L : Type 0} {x y e : A} {l m n k o q : List ℕ} (at : List ℕ → List ℕ → L) → (x ≡ e) × (m ≡ l) × (o ≡ k) → (y ≡ e) × (n ≡ l) × (q ≡ k)
-    → (x ≡ y) × (at m o ≡ at n q)
-equal-all {n = n} {o = o} at f g =
-    (f .0 ∙ sym (g .0), ap (λ (words : List ℕ). at words o) (f .1 ∙ sym (g .1)) ∙ ap (at n) (f .2 ∙ sym (g .2)))
 
 pub open-unique : Unique 1 functions.open.Kinds.ps functions.open.Kinds.r functions.open.Reads.Post
 open-unique κs a x y u v = equal-both (λ (words : List ℕ). (tt, (words, tt)))

@@ -1,3 +1,4 @@
 pub mod Fields
 pub mod Limits
+pub mod Tests
 pub mod Words

@@ -2,7 +2,7 @@
 -- function's own contract, so it fails where the promise is weakened. Assumes nothing.
 use Prim.Native.Nat.{ℕ}
 use mathlib.Core.List.{List}
-use mathlib.Core.Path.{_≡_, refl, sym, _∙_}
+use mathlib.Core.Path.{_≡_, refl, sym, _∙_, ap}
 use contract.Lifetimes.{Lfts}
 use denote.Triple.Clauses.{Lasts, atExit}
 use borrow.Fn.Kinds.{PK, RK, Out, Dens, resT, endedOf}
@@ -23,6 +23,27 @@ Unique n ps r Post =
 -- a promise that is an equation of the result
 pub equal : {A L : Type 0} {x y e : A} {u v : L} → u ≡ v → x ≡ e → y ≡ e → (x ≡ y) × (u ≡ v)
 equal l p q = (p ∙ sym q, l)
+
+-- one of the result and of what one, two or three lent slices hold at the exit; `at` puts them in the places of their arguments
+pub equal-both :
+    {A L : Type 0} {x y e : A} {l m n : List ℕ} (at : List ℕ → L) → (x ≡ e) × (m ≡ l) → (y ≡ e) × (n ≡ l) → (x ≡ y) × (at m ≡ at n)
+equal-both at p q = (p .0 ∙ sym (q .0), ap at (p .1 ∙ sym (q .1)))
+
+pub equal-all :
+    {A L : Type 0} {x y e : A} {l m n k o q : List ℕ} (at : List ℕ → List ℕ → L) → (x ≡ e) × (m ≡ l) × (o ≡ k) → (y ≡ e) × (n ≡ l) × (q ≡ k)
+    → (x ≡ y) × (at m o ≡ at n q)
+equal-all {n = n} {o = o} at f g =
+    (f .0 ∙ sym (g .0), ap (λ (words : List ℕ). at words o) (f .1 ∙ sym (g .1)) ∙ ap (at n) (f .2 ∙ sym (g .2)))
+
+pub equal-three :
+    {A L : Type 0} {x y e : A} {l m n k o q i j r : List ℕ} (at : List ℕ → List ℕ → List ℕ → L)
+    → (x ≡ e) × (m ≡ l) × (o ≡ k) × (j ≡ i)
+    → (y ≡ e) × (n ≡ l) × (q ≡ k) × (r ≡ i)
+    → (x ≡ y) × (at m o j ≡ at n q r)
+equal-three {n = n} {o = o} {q = q} {j = j} at f g = (
+  f .0 ∙ sym (g .0),
+  ap (λ (words : List ℕ). at words o j) (f .1 ∙ sym (g .1)) ∙ ap (λ (words : List ℕ). at n words j) (f .2 ∙ sym (g .2)) ∙ ap (at n q) (f .3 ∙ sym (g .3)),
+)
 
 pub is-beyond-unique : Unique 0 address.is_beyond.Kinds.ps address.is_beyond.Kinds.r address.is_beyond.Reads.Post
 is-beyond-unique κs a x y u v = equal refl

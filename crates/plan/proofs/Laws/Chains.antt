@@ -20,7 +20,8 @@ use Rattle.plan.specs.declared.types.PlanAnswer.the-variants.{Planned, S
 use Rattle.plan.specs.Refusals.{_⇒_, isShort}
 use Rattle.plan.specs.Planning.{chunkOf, chainWords, roleWords, stageWords}
 use Rattle.plan.specs.StageLength.{ChainFits, linkOf, linkMoved, chainMoved, isForged, stageAnswer}
-use Rattle.plan.proofs.Laws.Refusals.{none-holds, neither}
+use Rattle.words.proofs.Laws.Tests.{neither}
+use Rattle.plan.proofs.Laws.Refusals.{none-holds}
 use Rattle.plan.proofs.Laws.Split.{packets-some, parts-within}
 
 -- ---- lists

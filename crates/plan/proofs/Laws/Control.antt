@@ -24,7 +24,8 @@ use Rattle.plan.specs.Refusals.{_⇒_, isShort, isBad}
 use Rattle.plan.specs.StageLength.{StageFits}
 use Rattle.plan.specs.DataStages.{isIn, blankStage}
 use Rattle.plan.specs.ControlPlan.{controlSize, statusDirection, statusAddr, statusWay, hasData, setupStage, dataStageOf, statusStage, pickStages, pickStage, controlStages, isTooLong, controlBeyond, controlAnswer, plannedControl, setupBytes}
-use Rattle.plan.proofs.Laws.Refusals.{none-holds, neither}
+use Rattle.words.proofs.Laws.Tests.{neither}
+use Rattle.plan.proofs.Laws.Refusals.{none-holds}
 use Rattle.plan.proofs.Laws.Split.{empty-is-one-packet, parts-pos, rounded-fits, rounded-more}
 
 -- at the packet sizes of a control endpoint the chunk is no less than the most control data

@@ -24,7 +24,8 @@ use Rattle.plan.specs.Planning.{chunkOf, splitOf, advanced, laidStage, l
 use Rattle.plan.specs.DataStages.{isIn, epTypeOf, isLow, oddOf, sizeOf, dataHcchar, dataStage, pickStages, stagesFrom, toggleAfter, blankStage, stageTable, blankPlan, withStage, dataAnswer}
 use Rattle.plan.specs.StageLength.{StageFits}
 use Rattle.plan.specs.Refusals.{_⇒_, isShort, isBad}
-use Rattle.plan.proofs.Laws.Refusals.{none-holds, neither}
+use Rattle.words.proofs.Laws.Tests.{neither}
+use Rattle.plan.proofs.Laws.Refusals.{none-holds}
 use Rattle.plan.proofs.Laws.Split.{last-within}
 
 -- a chunk is at most the byte count's limit

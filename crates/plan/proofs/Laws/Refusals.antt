@@ -1,6 +1,6 @@
 -- Where a call plans, no test of its list held: the order of the tests is in the definition, and this is all that a plan needs of it.
 use mathlib.Core.Path.{_≡_, refl, ap}
-use mathlib.Core.Bool.{Bool, true, false, not, _||_, _&&_, cond}
+use mathlib.Core.Bool.{Bool, true, false, not, _&&_, cond}
 use mathlib.Core.List.{List, [], _∷_}
 use Prim.Native.Nat.{ℕ}
 use native.Mathlib.Omega.{arith}
@@ -53,12 +53,3 @@ if-planned answer a b e = ap (λ (t : Bool). cond t a b) e
 
 pub if-refused {ℓ} : {A : Type ℓ} (answer : PlanAnswer) (a b : A) → isPlanned answer ≡ false → ifPlanned answer a b ≡ b
 if-refused answer a b e = ap (λ (t : Bool). cond t a b) e
-
--- of an or that is false, neither side is true; of an and, not both
-pub neither : (a b : Bool) → (a || b) ≡ false → (a ≡ false) × (b ≡ false)
-neither false b e = (refl, e)
-neither true b e = let z : _≡_ {A = ℕ} 0 1 = cc in absurd (omega arith)
-
-pub not-both : (a b : Bool) → (a && b) ≡ false → a ≡ true → b ≡ false
-not-both true b e h = e
-not-both false b e h = let z : _≡_ {A = ℕ} 0 1 = cc in absurd (omega arith)

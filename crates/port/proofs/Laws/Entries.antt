@@ -101,8 +101,8 @@ request-put xs {c = c} at r t p q s o u =
     let total : List ℕ = u32Bytes (r .«actual_length») in
     let packets : List ℕ = u16Bytes (r .packets) in
     then xs at (at + 14) (id ++ total ++ packets) (taggedBytes (outcomeTagged (r .outcome)))
-        (then xs at (at + 12) (id ++ total) packets (then xs at (at + 8) id total p refl q) refl s) refl
-        (u ∙ ap (λ (x : Tagged). sets c (at + 14) (taggedBytes x)) o)
+    (then xs at (at + 12) (id ++ total) packets (then xs at (at + 8) id total p refl q) refl s) refl
+    (u ∙ ap (λ (x : Tagged). sets c (at + 14) (taggedBytes x)) o)
 
 pub plan-put :
     (xs : List ℕ) {a b c d : List ℕ} (at : ℕ) (r : IsoPacketPlan) (tag : ℕ)
@@ -118,5 +118,17 @@ plan-put xs {c = c} at r tag p q s o u =
     let slot : List ℕ = u16Bytes (r .«desc_index») in
     let actual : List ℕ = u16Bytes (r .actual) in
     then xs at (at + 6) (planned ++ slot ++ actual) (statusTag (r .status) ∷ [])
-        (then xs at (at + 4) (planned ++ slot) actual (then xs at (at + 2) planned slot p refl q) refl s) refl
-        (u ∙ ap (λ (n : ℕ). sets c (at + 6) (n ∷ [])) o)
+    (then xs at (at + 4) (planned ++ slot) actual (then xs at (at + 2) planned slot p refl q) refl s) refl
+    (u ∙ ap (λ (n : ℕ). sets c (at + 6) (n ∷ [])) o)
+
+pub length-tagged : (t : Tagged) → length (taggedBytes t) ≡ 6
+unfolding taggedBytes u32Bytes u16Bytes
+length-tagged t = refl
+
+pub length-request : (r : IsoRequest) → length (requestBytes r) ≡ 20
+unfolding requestBytes taggedBytes u64Bytes u32Bytes u16Bytes
+length-request r = refl
+
+pub length-plan : (p : IsoPacketPlan) → length (planBytes p) ≡ 7
+unfolding planBytes u16Bytes
+length-plan p = refl

@@ -1,10 +1,10 @@
 -- The head of a session's bytes, field by field.
-use mathlib.Core.Path.{_≡_, refl, _∙_, sym, ap}
+use mathlib.Core.Path.{_≡_, refl, _∙_, ap}
 use mathlib.Core.Bool.{Bool, not, _||_}
 use mathlib.Core.List.{List, [], _∷_, _++_}
 use Prim.Native.Nat.{ℕ, _+_}
 use lib.Dec.{eqb, ltb}
-use lib.ListN.{length, drop}
+use lib.ListN.{drop}
 use lib.Seq.{sets}
 use Rattle.ring.specs.declared.speed.Speed.{Speed}
 use Rattle.words.specs.declared.types.Direction.{Direction}
@@ -13,7 +13,7 @@ use Rattle.session.specs.declared.types.IsoConfig.{IsoConfig}
 use Rattle.session.specs.declared.types.IsoHead.{IsoHead}
 use Rattle.port.specs.declared.tags.Tagged.{Tagged}
 use Rattle.port.specs.Bytes.{byteOf, u16Of, u32Of, u64Of, u16Bytes, u32Bytes, u64Bytes}
-use Rattle.port.specs.Tags.{speedTag, speedOf, directionTag, directionOf, modeTag, modeOf, flagTag, flagOf, taggedOf, isBadTagged}
+use Rattle.port.specs.Tags.{speedTag, speedOf, directionTag, directionOf, modeTag, modeOf, flagTag, taggedOf, isBadTagged}
 use Rattle.port.specs.Layout.{markBytes, configBytes, configOf, headBytes, headOf, isBadMark, isBadHead}
 use Rattle.port.proofs.Laws.Runs.{then}
 
@@ -81,3 +81,54 @@ pub bad-head-at :
 unfolding isBadHead
 bad-head-at xs {a} {b} {c} {d} ea eb ec ed et ee =
     ap (λ (x : Bool). ltb 2 a || (ltb 1 b || (ltb 1 c || (ltb 1 d || x)))) (ee ∙ ap (isBadTagged 2 2) et) ∙ rw (ea, eb, ec, ed)
+
+-- ---- writing
+
+pub mark-put : (xs : List ℕ) {a b : List ℕ} → a ≡ sets xs 0 (68 ∷ 87 ∷ 83 ∷ []) → b ≡ sets a 3 (u16Bytes 1) → b ≡ sets xs 0 markBytes
+unfolding markBytes
+mark-put xs p q = then xs 0 3 (68 ∷ 87 ∷ 83 ∷ []) (u16Bytes 1) p refl q
+
+pub config-put :
+    (xs : List ℕ) {a b c d : List ℕ} (cfg : IsoConfig) {speed direction mode : ℕ}
+    → speed ≡ speedTag (cfg .speed)
+    → direction ≡ directionTag (cfg .direction)
+    → mode ≡ modeTag (cfg .mode)
+    → a ≡ sets xs 5 (speed ∷ direction ∷ mode ∷ [])
+    → b ≡ sets a 8 (u16Bytes (cfg .interval))
+    → c ≡ sets b 10 (u16Bytes (cfg .«max_packet_size»))
+    → d ≡ sets c 12 (cfg .endpoint ∷ cfg .device ∷ cfg .mult ∷ [])
+    → d ≡ sets xs 5 (configBytes cfg)
+unfolding configBytes u16Bytes
+config-put xs cfg {speed} {direction} es ed em p q r s =
+    let tags : List ℕ = speedTag (cfg .speed) ∷ directionTag (cfg .direction) ∷ modeTag (cfg .mode) ∷ [] in
+    let same : speed ∷ direction ∷ _ ∷ [] ≡ tags =
+    ap (λ (n : ℕ). speed ∷ direction ∷ n ∷ []) em
+    ∙ ap (λ (n : ℕ). speed ∷ n ∷ modeTag (cfg .mode) ∷ []) ed
+    ∙ ap (λ (n : ℕ). n ∷ directionTag (cfg .direction) ∷ modeTag (cfg .mode) ∷ []) es in
+    let interval : List ℕ = u16Bytes (cfg .interval) in
+    let size : List ℕ = u16Bytes (cfg .«max_packet_size») in
+    then xs 5 12 (tags ++ interval ++ size) (cfg .endpoint ∷ cfg .device ∷ cfg .mult ∷ [])
+    (then xs 5 10 (tags ++ interval) size (then xs 5 8 tags interval (p ∙ ap (sets xs 5) same) refl q) refl r) refl s
+
+pub head-put :
+    (xs : List ℕ) {a b c d e f : List ℕ} (h : IsoHead) {live : ℕ}
+    → live ≡ flagTag (h .live)
+    → a ≡ sets xs 15 (live ∷ [])
+    → b ≡ sets a 16 (u64Bytes (h .«next_request_id»))
+    → c ≡ sets b 24 (u32Bytes (h .«start_full_frame»))
+    → d ≡ sets c 28 (u16Bytes (h .«td_last»))
+    → e ≡ sets d 30 (u16Bytes (h .done))
+    → f ≡ sets e 32 (u16Bytes (h .count))
+    → f ≡ sets xs 15 (headBytes h)
+unfolding headBytes u64Bytes u32Bytes u16Bytes
+head-put xs h el p q r s t u =
+    let live : List ℕ = flagTag (h .live) ∷ [] in
+    let next : List ℕ = u64Bytes (h .«next_request_id») in
+    let start : List ℕ = u32Bytes (h .«start_full_frame») in
+    let cursor : List ℕ = u16Bytes (h .«td_last») in
+    let done : List ℕ = u16Bytes (h .done) in
+    let one : _ ≡ sets xs 15 live = p ∙ ap (λ (n : ℕ). sets xs 15 (n ∷ [])) el in
+    let two : _ ≡ sets xs 15 (live ++ next ++ start) = then xs 15 24 (live ++ next) start (then xs 15 16 live next one refl q) refl r in
+    let three : _ ≡ sets xs 15 (live ++ next ++ start ++ cursor ++ done) =
+    then xs 15 30 (live ++ next ++ start ++ cursor) done (then xs 15 28 (live ++ next ++ start) cursor two refl s) refl t in
+    then xs 15 32 (live ++ next ++ start ++ cursor ++ done) (u16Bytes (h .count)) three refl u

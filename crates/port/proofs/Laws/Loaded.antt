@@ -1,9 +1,8 @@
 -- The whole of a session's bytes: whether they are refused, and the session.
-use mathlib.Core.Path.{_≡_, refl, _∙_, sym, ap}
+use mathlib.Core.Path.{_≡_, _∙_, sym, ap}
 use mathlib.Core.Bool.{Bool, true, false, _||_, cond}
 use mathlib.Core.List.{List}
 use Prim.Native.Nat.{ℕ, _≤_, _<_}
-use lib.Dec.{ltb}
 use lib.ListN.{length, drop}
 use borrow.Author.Tests.{lt-ltb, le-ltb}
 use Rattle.session.specs.declared.types.IsoConfig.{IsoConfig}
@@ -34,6 +33,9 @@ session-at xs ec eh et ef er ep = rw (ec, eh, ef, et, er, ep)
 pub short-layout : (xs : List ℕ) → length xs < 8488 → 17 ≡ layoutNumber xs
 short-layout xs h = sym (ap (λ (b : Bool). cond b 17 (cond (isBadLayout xs) 18 0)) (lt-ltb (length xs) 8488 h))
 
+number-by : {short bad b : Bool} → short ≡ false → bad ≡ b → _≡_ {A = ℕ} (cond b 18 0) (cond short 17 (cond bad 18 0))
+number-by {bad = bad} p q = sym (ap (λ (x : Bool). cond x 17 (cond bad 18 0)) p ∙ ap (λ (x : Bool). cond x 18 0) q)
+
 -- the tests of the four parts, as the code puts them together
 layout-by :
     (xs : List ℕ) {m h r p : Bool} (b : Bool) → 8488 ≤ length xs → m ≡ isBadMark xs → h ≡ isBadHead xs
@@ -42,9 +44,9 @@ layout-by :
     → (m || (h || (r || p))) ≡ b
     → cond b 18 0 ≡ layoutNumber xs
 unfolding isBadLayout
-layout-by xs {m} {h} {r} {p} b long em eh er ep e =
+layout-by xs b long em eh er ep e =
     let all : isBadLayout xs ≡ b = rw (← em, ← eh, ← er, ← ep) e in
-    sym (ap (λ (x : Bool). cond x 17 (cond (isBadLayout xs) 18 0)) (le-ltb (length xs) 8488 long) ∙ ap (λ (x : Bool). cond x 18 0) all)
+    number-by (le-ltb (length xs) 8488 long) all
 
 pub bad-layout :
     (xs : List ℕ) {m h r p : Bool} → 8488 ≤ length xs → m ≡ isBadMark xs → h ≡ isBadHead xs

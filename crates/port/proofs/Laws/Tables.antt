@@ -1,12 +1,12 @@
 -- Tables of entries: one turn and the end of a walk that reads, tests or writes them.
-use mathlib.Core.Path.{_≡_, refl, _∙_, sym, ap}
+use mathlib.Core.Path.{_≡_, refl, _∙_, sym, ap, ap₂}
 use mathlib.Core.Bool.{Bool, true, false, _||_}
-use mathlib.Core.List.{List, [], _∷_, _++_}
+use mathlib.Core.List.{List, [], _∷_, _++_, append-assoc}
 use Prim.Native.Nat.{ℕ, zero, suc, _+_, _-_, _*_, _≤_, _<_}
 use native.Mathlib.Numerals.{add-one}
 use native.Mathlib.Omega.{arith}
 use lib.ListN.{length, getD, set, drop, length-append, drop-of-length-le}
-use lib.Seq.{sets, sets-eq, drop-drop, drop-cons}
+use lib.Seq.{sets, sets-eq, drop-drop, drop-cons, drop-at}
 use Rattle.port.specs.Layout.{tableBytes, tableOf, anyOf}
 use Rattle.port.proofs.Laws.Runs.{sets-append}
 
@@ -103,3 +103,23 @@ module _ {A : Type 0} (f : A → List ℕ) (w : ℕ) where
   unfolding tableBytes
   length-bytes [] k = omega arith
   length-bytes (a ∷ l) k = length-append (f a) (tableBytes f l) ∙ omega (arith, k a, length-bytes l k)
+
+-- ---- a table that was written is read back
+
+module _ {A : Type 0} (f : List ℕ → A) (g : A → List ℕ) (w : ℕ) (long : (a : A) → length (g a) ≡ w) (back : (a : A) (ys : List ℕ) → f (g a ++ ys) ≡ a) where
+  pub table-back : (l : List A) (ys : List ℕ) → tableOf f w (length l) (tableBytes g l ++ ys) ≡ l
+  unfolding tableOf tableBytes
+  table-back [] ys = refl
+  table-back (a ∷ l) ys =
+      let rest : List ℕ = tableBytes g l ++ ys in
+      ap (tableOf f w (suc (length l))) (append-assoc (g a) (tableBytes g l) ys)
+      ∙ ap₂ (λ (x : A) (r : List A). x ∷ r) (back a rest) (ap (tableOf f w (length l)) (drop-at (g a) rest w (long a)) ∙ table-back l ys)
+
+module _ {A : Type 0} (bad : List ℕ → Bool) (g : A → List ℕ) (w : ℕ) (long : (a : A) → length (g a) ≡ w) (good : (a : A) (ys : List ℕ) → bad (g a ++ ys) ≡ false) where
+  pub table-good : (l : List A) (ys : List ℕ) → anyOf bad w (length l) (tableBytes g l ++ ys) ≡ false
+  unfolding anyOf tableBytes
+  table-good [] ys = refl
+  table-good (a ∷ l) ys =
+      let rest : List ℕ = tableBytes g l ++ ys in
+      ap (anyOf bad w (suc (length l))) (append-assoc (g a) (tableBytes g l) ys)
+      ∙ ap₂ (λ (x y : Bool). x || y) (good a rest) (ap (anyOf bad w (length l)) (drop-at (g a) rest w (long a)) ∙ table-good l ys)

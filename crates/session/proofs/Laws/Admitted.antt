@@ -21,7 +21,8 @@ use Rattle.session.specs.Scan.{isGate}
 use Rattle.session.specs.Submit.{isLow, sum, isClash, isOver, entryChecks, entryRefusal, spendChecks, tooLong, spendRefusal, pickWay, submitWay}
 use Rattle.session.proofs.Laws.Record.{room-few, no-reason}
 use Rattle.session.proofs.Laws.Stores.{none-long}
-use Rattle.session.proofs.Laws.Tests.{neither, not-both, none}
+use Rattle.words.proofs.Laws.Tests.{neither, not-both}
+use Rattle.session.proofs.Laws.Tests.{none}
 use Rattle.session.proofs.Laws.Checks.{_and_, none-holds, none-first, short-all}
 
 -- what holds of each way where the tests choose it holds of the way chosen

@@ -24,7 +24,8 @@ use Rattle.session.specs.declared.record.RecordScan.{RecordScan}
 use Rattle.session.specs.Scan.{Scanned}
 use Rattle.session.specs.Record.{isBadConfig, isBadRequest, anyBadRequest, isBadPlan, anyBadPlan, isBadCounts, isBadSums, isBadState, isBadRecord}
 use Rattle.session.proofs.Laws.Lists.{slice-next, slice-past, slice-split, front-each, front-kept}
-use Rattle.session.proofs.Laws.Tests.{neither, not-both, none, unless}
+use Rattle.words.proofs.Laws.Tests.{neither, not-both}
+use Rattle.session.proofs.Laws.Tests.{none, unless}
 
 -- a ring has at most 256 slots, and room is for fewer packets than it has slots
 pub ring-few : (speed : Speed) → ringSize speed ≤ 256

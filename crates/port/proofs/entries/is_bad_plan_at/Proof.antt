@@ -2,19 +2,13 @@ use borrow.Author.Needs.{needs}
 use Rattle.port.proofs.Laws.Entries.{bad-plan-at}
 use Rattle.port.proofs.entries.is_bad_plan_at.Statement.{statement}
 use Rattle.port.proofs.entries.is_bad_plan_at.Tie as tie
-use Rattle.port.proofs.entries.is_bad_plan_at.Reads as reads
-use Rattle.port.proofs.entries.is_bad_plan_at.Lts as lts
-use Rattle.port.proofs.numbers.byte_at.Reads as byte-at-reads
 
--- src/entries.rt:102:20
 add-byte-at : tie.Need-add-byte-at
 add-byte-at c = search needs
 
--- src/entries.rt:102:5
 byte-at-requires : tie.Need-byte-at-requires
 byte-at-requires c κs = search needs
 
--- src/entries.rt:98:1
 returns : tie.Need-returns
 returns c = bad-plan-at (c .before .before .args .bytes .now) (c .before .before .args .at) (c .byte-at .result) (c .byte-at .ensures)
 

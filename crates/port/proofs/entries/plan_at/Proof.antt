@@ -2,45 +2,31 @@ use borrow.Author.Needs.{needs}
 use Rattle.port.proofs.Laws.Entries.{plan-at}
 use Rattle.port.proofs.entries.plan_at.Statement.{statement}
 use Rattle.port.proofs.entries.plan_at.Tie as tie
-use Rattle.port.proofs.entries.plan_at.Reads as reads
-use Rattle.port.proofs.entries.plan_at.Lts as lts
-use Rattle.port.proofs.numbers.byte_at.Reads as byte-at-reads
-use Rattle.port.proofs.numbers.u16_at.Reads as u16-at-reads
-use Rattle.port.proofs.tags.status_of.Reads as status-of-reads
 
--- src/entries.rt:80:18
 u16-at-requires : tie.Need-u16-at-requires
 u16-at-requires c κs = search needs
 
--- src/entries.rt:81:35
 add-u16-at : tie.Need-add-u16-at
 add-u16-at c = search needs
 
--- src/entries.rt:81:21
 u16-at-requires-2 : tie.Need-u16-at-requires-2
 u16-at-requires-2 c κs = search needs
 
--- src/entries.rt:82:31
 add-u16-at-2 : tie.Need-add-u16-at-2
 add-u16-at-2 c = search needs
 
--- src/entries.rt:82:17
 u16-at-requires-3 : tie.Need-u16-at-requires-3
 u16-at-requires-3 c κs = search needs
 
--- src/entries.rt:83:42
 add-byte-at : tie.Need-add-byte-at
 add-byte-at c = search needs
 
--- src/entries.rt:83:27
 byte-at-requires : tie.Need-byte-at-requires
 byte-at-requires c κs = search needs
 
--- src/entries.rt:83:17
 status-of-requires : tie.Need-status-of-requires
 status-of-requires c κs = search needs
 
--- src/entries.rt:75:1
 returns : tie.Need-returns
 returns c = plan-at (c .before .before .before .before .before .before .args .bytes .now) (c .before .before .before .before .before .before .args .at) (c .before .before .before .before .u16-at .result) (c .before .before .before .u16-at2 .result) (c .before .before .u16-at3 .result) (c .before .byte-at .result) (c .status-of .result) (c .before .before .before .before .u16-at .ensures) (c .before .before .before .u16-at2 .ensures) (c .before .before .u16-at3 .ensures) (c .before .byte-at .ensures) (c .status-of .ensures)
 

@@ -2,49 +2,34 @@ use borrow.Author.Needs.{needs}
 use Rattle.port.proofs.Laws.Entries.{plan-put}
 use Rattle.port.proofs.entries.put_plan.Statement.{statement}
 use Rattle.port.proofs.entries.put_plan.Tie as tie
-use Rattle.port.proofs.entries.put_plan.Reads as reads
-use Rattle.port.proofs.entries.put_plan.Lts as lts
-use Rattle.port.proofs.numbers.put_byte.Reads as put-byte-reads
-use Rattle.port.proofs.numbers.put_u16.Reads as put-u16-reads
-use Rattle.port.proofs.tags.status_tag.Reads as status-tag-reads
 
--- src/entries.rt:92:5
 put-u16-requires : tie.Need-put-u16-requires
 put-u16-requires c κs = search needs
 
--- src/entries.rt:93:20
 add-put-u16 : tie.Need-add-put-u16
 add-put-u16 c = search needs
 
--- src/entries.rt:93:5
 put-u16-requires-2 : tie.Need-put-u16-requires-2
 put-u16-requires-2 c κs = search needs
 
--- src/entries.rt:94:20
 add-put-u16-2 : tie.Need-add-put-u16-2
 add-put-u16-2 c = search needs
 
--- src/entries.rt:94:5
 put-u16-requires-3 : tie.Need-put-u16-requires-3
 put-u16-requires-3 c κs = search needs
 
--- src/entries.rt:95:21
 add-put-byte : tie.Need-add-put-byte
 add-put-byte c = search needs
 
--- src/entries.rt:95:29
 status-tag-requires : tie.Need-status-tag-requires
 status-tag-requires c κs = search needs
 
--- src/entries.rt:95:5
 put-byte-requires : tie.Need-put-byte-requires
 put-byte-requires c κs = search needs
 
--- src/entries.rt:87:1
 same-length : tie.Need-same-length
 same-length c = search needs
 
--- src/entries.rt:87:1
 returns : tie.Need-returns
 returns c = plan-put (c .before .before .before .before .before .before .before .before .before .before .before .before .before .before .before .before .before .before .args .bytes .now) (c .before .before .before .before .before .before .before .before .before .before .before .before .before .before .before .before .before .before .args .at) (c .before .before .before .before .before .before .before .before .before .before .before .before .before .before .before .before .before .before .args .plan) (c .before .before .before .status-tag .result) (c .before .before .before .before .before .before .before .before .before .before .before .before .before .before .before .put-u16 .ensures) (c .before .before .before .before .before .before .before .before .before .before .before .put-u162 .ensures) (c .before .before .before .before .before .before .before .put-u163 .ensures) (c .before .before .before .status-tag .ensures) (c .before .before .put-byte .ensures)
 

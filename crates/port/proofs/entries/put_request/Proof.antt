@@ -2,51 +2,34 @@ use borrow.Author.Needs.{needs}
 use Rattle.port.proofs.Laws.Entries.{request-put}
 use Rattle.port.proofs.entries.put_request.Statement.{statement}
 use Rattle.port.proofs.entries.put_request.Tie as tie
-use Rattle.port.proofs.entries.put_request.Reads as reads
-use Rattle.port.proofs.entries.put_request.Lts as lts
-use Rattle.port.proofs.entries.put_tagged.Reads as put-tagged-reads
-use Rattle.port.proofs.numbers.put_u16.Reads as put-u16-reads
-use Rattle.port.proofs.numbers.put_u32.Reads as put-u32-reads
-use Rattle.port.proofs.numbers.put_u64.Reads as put-u64-reads
-use Rattle.port.proofs.tags.outcome_tagged.Reads as outcome-tagged-reads
 
--- src/entries.rt:62:5
 put-u64-requires : tie.Need-put-u64-requires
 put-u64-requires c κs = search needs
 
--- src/entries.rt:63:20
 add-put-u32 : tie.Need-add-put-u32
 add-put-u32 c = search needs
 
--- src/entries.rt:63:5
 put-u32-requires : tie.Need-put-u32-requires
 put-u32-requires c κs = search needs
 
--- src/entries.rt:64:20
 add-put-u16 : tie.Need-add-put-u16
 add-put-u16 c = search needs
 
--- src/entries.rt:64:5
 put-u16-requires : tie.Need-put-u16-requires
 put-u16-requires c κs = search needs
 
--- src/entries.rt:65:23
 add-put-tagged : tie.Need-add-put-tagged
 add-put-tagged c = search needs
 
--- src/entries.rt:65:32
 outcome-tagged-requires : tie.Need-outcome-tagged-requires
 outcome-tagged-requires c κs = search needs
 
--- src/entries.rt:65:5
 put-tagged-requires : tie.Need-put-tagged-requires
 put-tagged-requires c κs = search needs
 
--- src/entries.rt:57:1
 same-length : tie.Need-same-length
 same-length c = search needs
 
--- src/entries.rt:57:1
 returns : tie.Need-returns
 returns c = request-put (c .before .before .before .before .before .before .before .before .before .before .before .before .before .before .before .before .before .before .args .bytes .now) (c .before .before .before .before .before .before .before .before .before .before .before .before .before .before .before .before .before .before .args .at) (c .before .before .before .before .before .before .before .before .before .before .before .before .before .before .before .before .before .before .args .request) (c .before .before .before .outcome-tagged .result) (c .before .before .before .before .before .before .before .before .before .before .before .before .before .before .before .put-u64 .ensures) (c .before .before .before .before .before .before .before .before .before .before .before .put-u32 .ensures) (c .before .before .before .before .before .before .before .put-u16 .ensures) (c .before .before .before .outcome-tagged .ensures) (c .before .before .put-tagged .ensures)
 

@@ -2,36 +2,25 @@ use borrow.Author.Needs.{needs}
 use Rattle.port.proofs.Laws.Entries.{tagged-put}
 use Rattle.port.proofs.entries.put_tagged.Statement.{statement}
 use Rattle.port.proofs.entries.put_tagged.Tie as tie
-use Rattle.port.proofs.entries.put_tagged.Reads as reads
-use Rattle.port.proofs.entries.put_tagged.Lts as lts
-use Rattle.port.proofs.numbers.put_byte.Reads as put-byte-reads
-use Rattle.port.proofs.numbers.put_u32.Reads as put-u32-reads
 
--- src/entries.rt:40:5
 put-byte-requires : tie.Need-put-byte-requires
 put-byte-requires c κs = search needs
 
--- src/entries.rt:41:21
 add-put-byte : tie.Need-add-put-byte
 add-put-byte c = search needs
 
--- src/entries.rt:41:5
 put-byte-requires-2 : tie.Need-put-byte-requires-2
 put-byte-requires-2 c κs = search needs
 
--- src/entries.rt:42:20
 add-put-u32 : tie.Need-add-put-u32
 add-put-u32 c = search needs
 
--- src/entries.rt:42:5
 put-u32-requires : tie.Need-put-u32-requires
 put-u32-requires c κs = search needs
 
--- src/entries.rt:36:1
 same-length : tie.Need-same-length
 same-length c = search needs
 
--- src/entries.rt:36:1
 returns : tie.Need-returns
 returns c = tagged-put (c .before .before .before .before .before .before .before .before .before .before .before .before .before .args .bytes .now) (c .before .before .before .before .before .before .before .before .before .before .before .before .before .args .at) (c .before .before .before .before .before .before .before .before .before .before .before .before .before .args .t) (c .before .before .before .before .before .before .before .before .before .before .put-byte .ensures) (c .before .before .before .before .before .before .put-byte2 .ensures) (c .before .before .put-u32 .ensures)
 

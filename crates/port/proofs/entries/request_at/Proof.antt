@@ -2,47 +2,31 @@ use borrow.Author.Needs.{needs}
 use Rattle.port.proofs.Laws.Entries.{request-at}
 use Rattle.port.proofs.entries.request_at.Statement.{statement}
 use Rattle.port.proofs.entries.request_at.Tie as tie
-use Rattle.port.proofs.entries.request_at.Reads as reads
-use Rattle.port.proofs.entries.request_at.Lts as lts
-use Rattle.port.proofs.entries.tagged_at.Reads as tagged-at-reads
-use Rattle.port.proofs.numbers.u16_at.Reads as u16-at-reads
-use Rattle.port.proofs.numbers.u32_at.Reads as u32-at-reads
-use Rattle.port.proofs.numbers.u64_at.Reads as u64-at-reads
-use Rattle.port.proofs.tags.outcome_of.Reads as outcome-of-reads
 
--- src/entries.rt:50:13
 u64-at-requires : tie.Need-u64-at-requires
 u64-at-requires c κs = search needs
 
--- src/entries.rt:51:32
 add-u16-at : tie.Need-add-u16-at
 add-u16-at c = search needs
 
--- src/entries.rt:51:18
 u16-at-requires : tie.Need-u16-at-requires
 u16-at-requires c κs = search needs
 
--- src/entries.rt:52:38
 add-u32-at : tie.Need-add-u32-at
 add-u32-at c = search needs
 
--- src/entries.rt:52:24
 u32-at-requires : tie.Need-u32-at-requires
 u32-at-requires c κs = search needs
 
--- src/entries.rt:53:46
 add-tagged-at : tie.Need-add-tagged-at
 add-tagged-at c = search needs
 
--- src/entries.rt:53:29
 tagged-at-requires : tie.Need-tagged-at-requires
 tagged-at-requires c κs = search needs
 
--- src/entries.rt:53:18
 outcome-of-requires : tie.Need-outcome-of-requires
 outcome-of-requires c κs = search needs
 
--- src/entries.rt:45:1
 returns : tie.Need-returns
 returns c = request-at (c .before .before .before .before .before .before .args .bytes .now) (c .before .before .before .before .before .before .args .at) (c .before .before .before .before .u64-at .result) (c .before .before .before .u16-at .result) (c .before .before .u32-at .result) (c .before .tagged-at .result) (c .outcome-of .result) (c .before .before .before .before .u64-at .ensures) (c .before .before .before .u16-at .ensures) (c .before .before .u32-at .ensures) (c .before .tagged-at .ensures) (c .outcome-of .ensures)
 

@@ -2,32 +2,22 @@ use borrow.Author.Needs.{needs}
 use Rattle.port.proofs.Laws.Entries.{tagged-at}
 use Rattle.port.proofs.entries.tagged_at.Statement.{statement}
 use Rattle.port.proofs.entries.tagged_at.Tie as tie
-use Rattle.port.proofs.entries.tagged_at.Reads as reads
-use Rattle.port.proofs.entries.tagged_at.Lts as lts
-use Rattle.port.proofs.numbers.byte_at.Reads as byte-at-reads
-use Rattle.port.proofs.numbers.u32_at.Reads as u32-at-reads
 
--- src/entries.rt:30:14
 byte-at-requires : tie.Need-byte-at-requires
 byte-at-requires c κs = search needs
 
--- src/entries.rt:31:30
 add-byte-at : tie.Need-add-byte-at
 add-byte-at c = search needs
 
--- src/entries.rt:31:15
 byte-at-requires-2 : tie.Need-byte-at-requires-2
 byte-at-requires-2 c κs = search needs
 
--- src/entries.rt:32:29
 add-u32-at : tie.Need-add-u32-at
 add-u32-at c = search needs
 
--- src/entries.rt:32:15
 u32-at-requires : tie.Need-u32-at-requires
 u32-at-requires c κs = search needs
 
--- src/entries.rt:25:1
 returns : tie.Need-returns
 returns c = tagged-at (c .before .before .before .before .args .bytes .now) (c .before .before .before .before .args .at) (c .before .before .byte-at .result) (c .before .byte-at2 .result) (c .u32-at .result) (c .before .before .byte-at .ensures) (c .before .byte-at2 .ensures) (c .u32-at .ensures)
 

@@ -1,16 +1,12 @@
 -- The invariant: a bad entry is among those still to be looked at exactly if one is in the table. The measure is how many are left.
 use Rattle.port.proofs.Laws.Tables.{any-found, any-more, any-end}
 use Rattle.port.specs.Layout.{anyOf, isBadRequestBytes}
-use lib.Seq.{sets}
-use lib.ListN.{length, drop, length-replicate, length-set}
+use lib.ListN.{drop}
 use native.Mathlib.Omega.{arith}
-use Prim.Native.Nat.{ℕ, _+_, _-_, _*_, _≤_}
-use mathlib.Core.Path.{_≡_, refl, _∙_, ap, sym}
+use Prim.Native.Nat.{_+_, _-_, _*_, _≤_}
+use mathlib.Core.Path.{_≡_, refl, _∙_}
 use Rattle.port.proofs.load.any_bad_request.Statement.{statement}
 use Rattle.port.proofs.load.any_bad_request.Tie as tie
-use Rattle.port.proofs.load.any_bad_request.Reads as reads
-use Rattle.port.proofs.load.any_bad_request.Lts as lts
-use Rattle.port.proofs.entries.is_bad_request_at.Reads as is-bad-request-at-reads
 
 abbrev Inv-loop : tie.InvT-loop
 Inv-loop bytes at₀ i₀ at i =
@@ -19,35 +15,27 @@ Inv-loop bytes at₀ i₀ at i =
 abbrev μ-loop : tie.MeasureT-loop
 μ-loop bytes at₀ i₀ at i = 64 - i
 
--- src/load.rt:106:5
 loop-holds : tie.Need-loop-holds Inv-loop μ-loop
 loop-holds c = (omega arith, refl, refl)
 
--- src/load.rt:107:12
 is-bad-request-at-requires : tie.Need-is-bad-request-at-requires Inv-loop μ-loop
 is-bad-request-at-requires c κs = omega arith
 
--- src/load.rt:108:13
 returns : tie.Need-returns Inv-loop μ-loop
 returns c = any-found isBadRequestBytes 20 64 (c .before .before .before .loop .i) (c .before .before .before .loop .at) (c .before .before .before .before .before .args .bytes .now) (omega arith) (c .before .is-bad-request-at .ensures) (c .if1 .taken) ∙ c .before .before .before .loop .inv .2
 
--- src/load.rt:110:9
 add-at : tie.Need-add-at Inv-loop μ-loop
 add-at c = omega arith
 
--- src/load.rt:111:9
 add-i : tie.Need-add-i Inv-loop μ-loop
 add-i c = omega arith
 
--- src/load.rt:106:5
 loop-less : tie.Need-loop-less Inv-loop μ-loop
 loop-less c = omega arith
 
--- src/load.rt:106:5
 loop-again : tie.Need-loop-again Inv-loop μ-loop
 loop-again c = (omega arith, omega arith, any-more isBadRequestBytes 20 64 (c .before .before .before .loop .i) (c .before .before .before .loop .at) (c .before .before .before .before .before .args .bytes .now) (omega arith) (c .before .is-bad-request-at .ensures) (c .if1 .left) ∙ c .before .before .before .loop .inv .2)
 
--- src/load.rt:100:1
 returns-2 : tie.Need-returns-2 Inv-loop μ-loop
 returns-2 c = any-end isBadRequestBytes 20 64 (c .before .loop .i) (drop (c .before .loop .at) (c .before .before .before .args .bytes .now)) (omega arith) ∙ c .before .loop .inv .2
 

@@ -2,59 +2,40 @@ use borrow.Author.Needs.{needs}
 use Rattle.port.proofs.Laws.Head.{config-at}
 use Rattle.port.proofs.load.config_at.Statement.{statement}
 use Rattle.port.proofs.load.config_at.Tie as tie
-use Rattle.port.proofs.load.config_at.Reads as reads
-use Rattle.port.proofs.load.config_at.Lts as lts
-use Rattle.port.proofs.numbers.byte_at.Reads as byte-at-reads
-use Rattle.port.proofs.numbers.u16_at.Reads as u16-at-reads
-use Rattle.port.proofs.tags.direction_of.Reads as direction-of-reads
-use Rattle.port.proofs.tags.mode_of.Reads as mode-of-reads
-use Rattle.port.proofs.tags.speed_of.Reads as speed-of-reads
 
--- src/load.rt:33:25
 byte-at-requires : tie.Need-byte-at-requires
 byte-at-requires c κs = search needs
 
--- src/load.rt:33:16
 speed-of-requires : tie.Need-speed-of-requires
 speed-of-requires c κs = search needs
 
--- src/load.rt:34:33
 byte-at-requires-2 : tie.Need-byte-at-requires-2
 byte-at-requires-2 c κs = search needs
 
--- src/load.rt:34:20
 direction-of-requires : tie.Need-direction-of-requires
 direction-of-requires c κs = search needs
 
--- src/load.rt:35:19
 u16-at-requires : tie.Need-u16-at-requires
 u16-at-requires c κs = search needs
 
--- src/load.rt:36:19
 byte-at-requires-3 : tie.Need-byte-at-requires-3
 byte-at-requires-3 c κs = search needs
 
--- src/load.rt:37:17
 byte-at-requires-4 : tie.Need-byte-at-requires-4
 byte-at-requires-4 c κs = search needs
 
--- src/load.rt:38:26
 u16-at-requires-2 : tie.Need-u16-at-requires-2
 u16-at-requires-2 c κs = search needs
 
--- src/load.rt:39:15
 byte-at-requires-5 : tie.Need-byte-at-requires-5
 byte-at-requires-5 c κs = search needs
 
--- src/load.rt:40:23
 byte-at-requires-6 : tie.Need-byte-at-requires-6
 byte-at-requires-6 c κs = search needs
 
--- src/load.rt:40:15
 mode-of-requires : tie.Need-mode-of-requires
 mode-of-requires c κs = search needs
 
--- src/load.rt:28:1
 returns : tie.Need-returns
 returns c = config-at (c .before .before .before .before .before .before .before .before .before .before .before .before .args .bytes .now) (c .before .before .before .before .before .before .before .before .before .before .byte-at .ensures) (c .before .before .before .before .before .before .before .before .before .speed-of .ensures) (c .before .before .before .before .before .before .before .before .byte-at2 .ensures) (c .before .before .before .before .before .before .before .direction-of .ensures) (c .before .before .before .before .before .before .u16-at .ensures) (c .before .before .before .before .before .byte-at3 .ensures) (c .before .before .before .before .byte-at4 .ensures) (c .before .before .before .u16-at2 .ensures) (c .before .before .byte-at5 .ensures) (c .before .byte-at6 .ensures) (c .mode-of .ensures)
 

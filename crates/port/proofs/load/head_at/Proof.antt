@@ -2,38 +2,25 @@ use borrow.Author.Needs.{needs}
 use Rattle.port.proofs.Laws.Head.{head-at}
 use Rattle.port.proofs.load.head_at.Statement.{statement}
 use Rattle.port.proofs.load.head_at.Tie as tie
-use Rattle.port.proofs.load.head_at.Reads as reads
-use Rattle.port.proofs.load.head_at.Lts as lts
-use Rattle.port.proofs.numbers.byte_at.Reads as byte-at-reads
-use Rattle.port.proofs.numbers.u16_at.Reads as u16-at-reads
-use Rattle.port.proofs.numbers.u32_at.Reads as u32-at-reads
-use Rattle.port.proofs.numbers.u64_at.Reads as u64-at-reads
 
--- src/load.rt:49:26
 u64-at-requires : tie.Need-u64-at-requires
 u64-at-requires c κs = search needs
 
--- src/load.rt:50:17
 byte-at-requires : tie.Need-byte-at-requires
 byte-at-requires c κs = search needs
 
--- src/load.rt:51:18
 u16-at-requires : tie.Need-u16-at-requires
 u16-at-requires c κs = search needs
 
--- src/load.rt:52:27
 u32-at-requires : tie.Need-u32-at-requires
 u32-at-requires c κs = search needs
 
--- src/load.rt:53:15
 u16-at-requires-2 : tie.Need-u16-at-requires-2
 u16-at-requires-2 c κs = search needs
 
--- src/load.rt:54:16
 u16-at-requires-3 : tie.Need-u16-at-requires-3
 u16-at-requires-3 c κs = search needs
 
--- src/load.rt:44:1
 returns : tie.Need-returns
 returns c = head-at (c .before .before .before .before .before .before .before .args .bytes .now) (c .before .before .before .before .before .u64-at .ensures) (c .before .before .before .before .byte-at .ensures) (c .before .before .before .u16-at .ensures) (c .before .before .u32-at .ensures) (c .before .u16-at2 .ensures) (c .u16-at3 .ensures)
 

@@ -2,37 +2,25 @@ use borrow.Author.Needs.{needs}
 use Rattle.port.proofs.Laws.Head.{bad-head-at}
 use Rattle.port.proofs.load.is_bad_head.Statement.{statement}
 use Rattle.port.proofs.load.is_bad_head.Tie as tie
-use Rattle.port.proofs.load.is_bad_head.Reads as reads
-use Rattle.port.proofs.load.is_bad_head.Lts as lts
-use Rattle.port.proofs.entries.tagged_at.Reads as tagged-at-reads
-use Rattle.port.proofs.numbers.byte_at.Reads as byte-at-reads
-use Rattle.port.proofs.tags.is_bad_tagged.Reads as is-bad-tagged-reads
 
--- src/load.rt:145:6
 byte-at-requires : tie.Need-byte-at-requires
 byte-at-requires c κs = search needs
 
--- src/load.rt:146:13
 byte-at-requires-2 : tie.Need-byte-at-requires-2
 byte-at-requires-2 c κs = search needs
 
--- src/load.rt:147:17
 byte-at-requires-3 : tie.Need-byte-at-requires-3
 byte-at-requires-3 c κs = search needs
 
--- src/load.rt:148:21
 byte-at-requires-4 : tie.Need-byte-at-requires-4
 byte-at-requires-4 c κs = search needs
 
--- src/load.rt:148:67
 tagged-at-requires : tie.Need-tagged-at-requires
 tagged-at-requires c κs = search needs
 
--- src/load.rt:148:47
 is-bad-tagged-requires : tie.Need-is-bad-tagged-requires
 is-bad-tagged-requires c κs = search needs
 
--- src/load.rt:141:1
 returns : tie.Need-returns
 returns c = bad-head-at (c .before .before .before .before .before .before .before .args .bytes .now) (c .before .before .before .before .before .byte-at .ensures) (c .before .before .before .before .byte-at2 .ensures) (c .before .before .before .byte-at3 .ensures) (c .before .before .byte-at4 .ensures) (c .before .tagged-at .ensures) (c .is-bad-tagged .ensures)
 

@@ -2,28 +2,19 @@ use borrow.Author.Needs.{needs}
 use Rattle.port.proofs.Laws.Head.{bad-mark-at}
 use Rattle.port.proofs.load.is_bad_mark.Statement.{statement}
 use Rattle.port.proofs.load.is_bad_mark.Tie as tie
-use Rattle.port.proofs.load.is_bad_mark.Reads as reads
-use Rattle.port.proofs.load.is_bad_mark.Lts as lts
-use Rattle.port.proofs.numbers.byte_at.Reads as byte-at-reads
-use Rattle.port.proofs.numbers.u16_at.Reads as u16-at-reads
 
--- src/load.rt:136:7
 byte-at-requires : tie.Need-byte-at-requires
 byte-at-requires c κs = search needs
 
--- src/load.rt:137:14
 byte-at-requires-2 : tie.Need-byte-at-requires-2
 byte-at-requires-2 c κs = search needs
 
--- src/load.rt:138:18
 byte-at-requires-3 : tie.Need-byte-at-requires-3
 byte-at-requires-3 c κs = search needs
 
--- src/load.rt:138:47
 u16-at-requires : tie.Need-u16-at-requires
 u16-at-requires c κs = search needs
 
--- src/load.rt:132:1
 returns : tie.Need-returns
 returns c = bad-mark-at (c .before .before .before .before .before .args .bytes .now) (c .before .before .before .byte-at .ensures) (c .before .before .byte-at2 .ensures) (c .before .byte-at3 .ensures) (c .u16-at .ensures)
 

@@ -2,38 +2,25 @@ use borrow.Author.Needs.{needs}
 use Rattle.port.proofs.Laws.Loaded.{short-layout, bad-layout, good-layout}
 use Rattle.port.proofs.load.layout_refusal.Statement.{statement}
 use Rattle.port.proofs.load.layout_refusal.Tie as tie
-use Rattle.port.proofs.load.layout_refusal.Reads as reads
-use Rattle.port.proofs.load.layout_refusal.Lts as lts
-use Rattle.port.proofs.load.any_bad_plan.Reads as any-bad-plan-reads
-use Rattle.port.proofs.load.any_bad_request.Reads as any-bad-request-reads
-use Rattle.port.proofs.load.is_bad_head.Reads as is-bad-head-reads
-use Rattle.port.proofs.load.is_bad_mark.Reads as is-bad-mark-reads
 
--- src/load.rt:156:9
 returns : tie.Need-returns
 returns c = short-layout (c .before .before .args .bytes .now) (c .if1 .taken)
 
--- src/load.rt:158:8
 is-bad-mark-requires : tie.Need-is-bad-mark-requires
 is-bad-mark-requires c κs = search needs
 
--- src/load.rt:158:30
 is-bad-head-requires : tie.Need-is-bad-head-requires
 is-bad-head-requires c κs = search needs
 
--- src/load.rt:158:52
 any-bad-request-requires : tie.Need-any-bad-request-requires
 any-bad-request-requires c κs = search needs
 
--- src/load.rt:158:77
 any-bad-plan-requires : tie.Need-any-bad-plan-requires
 any-bad-plan-requires c κs = search needs
 
--- src/load.rt:159:9
 returns-2 : tie.Need-returns-2
 returns-2 c = bad-layout (c .before .before .before .before .before .before .before .args .bytes .now) (c .before .before .before .before .before .if1 .left) (c .before .before .before .before .is-bad-mark .ensures) (c .before .before .before .is-bad-head .ensures) (c .before .before .any-bad-request .ensures) (c .before .any-bad-plan .ensures) (c .if2 .taken)
 
--- src/load.rt:152:1
 returns-3 : tie.Need-returns-3
 returns-3 c = good-layout (c .before .before .before .before .before .before .before .args .bytes .now) (c .before .before .before .before .before .if1 .left) (c .before .before .before .before .is-bad-mark .ensures) (c .before .before .before .is-bad-head .ensures) (c .before .before .any-bad-request .ensures) (c .before .any-bad-plan .ensures) (c .if2 .left)
 

@@ -5,13 +5,10 @@ use lib.Seq.{sets}
 use lib.ListN.{length, drop, length-set, replicate, length-replicate}
 use Rattle.session.specs.Session.{blankRequest}
 use native.Mathlib.Omega.{arith}
-use Prim.Native.Nat.{ℕ, _+_, _-_, _*_, _≤_}
-use mathlib.Core.Path.{_≡_, refl, _∙_, ap, sym}
+use Prim.Native.Nat.{_+_, _-_, _*_, _≤_}
+use mathlib.Core.Path.{_≡_, refl, _∙_, sym}
 use Rattle.port.proofs.load.requests_at.Statement.{statement}
 use Rattle.port.proofs.load.requests_at.Tie as tie
-use Rattle.port.proofs.load.requests_at.Reads as reads
-use Rattle.port.proofs.load.requests_at.Lts as lts
-use Rattle.port.proofs.entries.request_at.Reads as request-at-reads
 
 abbrev Inv-loop : tie.InvT-loop
 Inv-loop bytes table₀ at₀ i₀ table at i =
@@ -21,39 +18,30 @@ Inv-loop bytes table₀ at₀ i₀ table at i =
 abbrev μ-loop : tie.MeasureT-loop
 μ-loop bytes table₀ at₀ i₀ table at i = 64 - i
 
--- src/load.rt:71:5
 loop-holds : tie.Need-loop-holds Inv-loop μ-loop
 loop-holds c = (omega arith, refl, length-replicate 64 blankRequest, read-first requestOf 20 64 (drop 40 (c .before .args .bytes .now)) (replicate 64 blankRequest) (length-replicate 64 blankRequest))
 
--- src/load.rt:72:20
 request-at-requires : tie.Need-request-at-requires Inv-loop μ-loop
 request-at-requires c κs = omega arith
 
--- src/load.rt:72:9
 mul-table : tie.Need-mul-table Inv-loop μ-loop
 mul-table c = omega arith
 
--- src/load.rt:72:9
 array-set-from-table : tie.Need-array-set-from-table Inv-loop μ-loop
 array-set-from-table c = omega arith
 
--- src/load.rt:73:9
 add-at : tie.Need-add-at Inv-loop μ-loop
 add-at c = omega arith
 
--- src/load.rt:74:9
 add-i : tie.Need-add-i Inv-loop μ-loop
 add-i c = omega arith
 
--- src/load.rt:71:5
 loop-less : tie.Need-loop-less Inv-loop μ-loop
 loop-less c = omega arith
 
--- src/load.rt:71:5
 loop-again : tie.Need-loop-again Inv-loop μ-loop
 loop-again c = (omega arith, omega arith, simp length-set (c .before .before .loop .inv .2), read-more requestOf 20 64 (c .before .before .loop .i) (c .before .before .loop .at) (c .before .before .before .before .args .bytes .now) (c .before .before .loop .table) (c .request-at .result) (omega arith) (c .request-at .ensures) ∙ c .before .before .loop .inv .3)
 
--- src/load.rt:58:1
 returns : tie.Need-returns Inv-loop μ-loop
 returns c = sym (read-end requestOf 20 64 (c .before .loop .i) (drop (c .before .loop .at) (c .before .before .before .args .bytes .now)) (c .before .loop .table) (omega arith)) ∙ c .before .loop .inv .3
 

@@ -4,34 +4,25 @@ use lib.ListN.{length-set}
 use native.Mathlib.Omega.{arith}
 use Rattle.port.proofs.numbers.put_three.Statement.{statement}
 use Rattle.port.proofs.numbers.put_three.Tie as tie
-use Rattle.port.proofs.numbers.put_three.Reads as reads
-use Rattle.port.proofs.numbers.put_three.Lts as lts
 
--- src/numbers.rt:78:5
 slice-write-bytes : tie.Need-slice-write-bytes
 slice-write-bytes c = search needs
 
--- src/numbers.rt:79:11
 add-bytes : tie.Need-add-bytes
 add-bytes c = search needs
 
--- src/numbers.rt:79:5
 slice-write-bytes-2 : tie.Need-slice-write-bytes-2
 slice-write-bytes-2 c = simp length-set (omega arith)
 
--- src/numbers.rt:80:11
 add-bytes-2 : tie.Need-add-bytes-2
 add-bytes-2 c = search needs
 
--- src/numbers.rt:80:5
 slice-write-bytes-3 : tie.Need-slice-write-bytes-3
 slice-write-bytes-3 c = simp length-set (omega arith)
 
--- src/numbers.rt:74:1
 same-length : tie.Need-same-length
 same-length c = search needs
 
--- src/numbers.rt:74:1
 returns : tie.Need-returns
 returns c = three-put (c .args .bytes .now) (c .args .at) (c .args .x) (c .args .y) (c .args .z)
 

@@ -4,34 +4,25 @@ use lib.ListN.{length-set}
 use native.Mathlib.Omega.{arith}
 use Rattle.port.proofs.numbers.put_u16.Statement.{statement}
 use Rattle.port.proofs.numbers.put_u16.Tie as tie
-use Rattle.port.proofs.numbers.put_u16.Reads as reads
-use Rattle.port.proofs.numbers.put_u16.Lts as lts
 
--- src/numbers.rt:46:17
 cast-bytes : tie.Need-cast-bytes
 cast-bytes c = search needs
 
--- src/numbers.rt:46:5
 slice-write-bytes : tie.Need-slice-write-bytes
 slice-write-bytes c = search needs
 
--- src/numbers.rt:47:21
 cast-bytes-2 : tie.Need-cast-bytes-2
 cast-bytes-2 c = search needs
 
--- src/numbers.rt:47:11
 add-bytes : tie.Need-add-bytes
 add-bytes c = search needs
 
--- src/numbers.rt:47:5
 slice-write-bytes-2 : tie.Need-slice-write-bytes-2
 slice-write-bytes-2 c = simp length-set (omega arith)
 
--- src/numbers.rt:42:1
 same-length : tie.Need-same-length
 same-length c = search needs
 
--- src/numbers.rt:42:1
 returns : tie.Need-returns
 returns c = u16-put (c .args .bytes .now) (c .args .at) (c .args .x)
 

@@ -2,35 +2,25 @@ use borrow.Author.Needs.{needs}
 use Rattle.port.proofs.Laws.Numbers.{u32-put}
 use Rattle.port.proofs.numbers.put_u32.Statement.{statement}
 use Rattle.port.proofs.numbers.put_u32.Tie as tie
-use Rattle.port.proofs.numbers.put_u32.Reads as reads
-use Rattle.port.proofs.numbers.put_u32.Lts as lts
-use Rattle.port.proofs.numbers.put_u16.Reads as put-u16-reads
 
--- src/numbers.rt:54:24
 cast-put-u16 : tie.Need-cast-put-u16
 cast-put-u16 c = search needs
 
--- src/numbers.rt:54:5
 put-u16-requires : tie.Need-put-u16-requires
 put-u16-requires c κs = search needs
 
--- src/numbers.rt:55:20
 add-put-u16 : tie.Need-add-put-u16
 add-put-u16 c = search needs
 
--- src/numbers.rt:55:28
 cast-put-u16-2 : tie.Need-cast-put-u16-2
 cast-put-u16-2 c = search needs
 
--- src/numbers.rt:55:5
 put-u16-requires-2 : tie.Need-put-u16-requires-2
 put-u16-requires-2 c κs = search needs
 
--- src/numbers.rt:50:1
 same-length : tie.Need-same-length
 same-length c = search needs
 
--- src/numbers.rt:50:1
 returns : tie.Need-returns
 returns c = u32-put (c .before .before .before .before .before .before .before .before .before .args .bytes .now) (c .before .before .before .before .before .before .put-u16 .last .0) (c .before .before .put-u162 .last .0) (c .before .before .before .before .before .before .before .before .before .args .at) (c .before .before .before .before .before .before .before .before .before .args .x) (c .before .before .before .before .before .before .put-u16 .ensures) (c .before .before .put-u162 .ensures)
 

@@ -2,35 +2,25 @@ use borrow.Author.Needs.{needs}
 use Rattle.port.proofs.Laws.Numbers.{u64-put}
 use Rattle.port.proofs.numbers.put_u64.Statement.{statement}
 use Rattle.port.proofs.numbers.put_u64.Tie as tie
-use Rattle.port.proofs.numbers.put_u64.Reads as reads
-use Rattle.port.proofs.numbers.put_u64.Lts as lts
-use Rattle.port.proofs.numbers.put_u32.Reads as put-u32-reads
 
--- src/numbers.rt:62:24
 cast-put-u32 : tie.Need-cast-put-u32
 cast-put-u32 c = search needs
 
--- src/numbers.rt:62:5
 put-u32-requires : tie.Need-put-u32-requires
 put-u32-requires c κs = search needs
 
--- src/numbers.rt:63:20
 add-put-u32 : tie.Need-add-put-u32
 add-put-u32 c = search needs
 
--- src/numbers.rt:63:28
 cast-put-u32-2 : tie.Need-cast-put-u32-2
 cast-put-u32-2 c = search needs
 
--- src/numbers.rt:63:5
 put-u32-requires-2 : tie.Need-put-u32-requires-2
 put-u32-requires-2 c κs = search needs
 
--- src/numbers.rt:58:1
 same-length : tie.Need-same-length
 same-length c = search needs
 
--- src/numbers.rt:58:1
 returns : tie.Need-returns
 returns c = u64-put (c .before .before .before .before .before .before .before .before .before .args .bytes .now) (c .before .before .before .before .before .before .put-u32 .last .0) (c .before .before .put-u322 .last .0) (c .before .before .before .before .before .before .before .before .before .args .at) (c .before .before .before .before .before .before .before .before .before .args .x) (c .before .before .before .before .before .before .put-u32 .ensures) (c .before .before .put-u322 .ensures)
 

@@ -2,39 +2,28 @@ use borrow.Author.Needs.{needs}
 use Rattle.port.proofs.Laws.Numbers.{u16-at}
 use Rattle.port.proofs.numbers.u16_at.Statement.{statement}
 use Rattle.port.proofs.numbers.u16_at.Tie as tie
-use Rattle.port.proofs.numbers.u16_at.Reads as reads
-use Rattle.port.proofs.numbers.u16_at.Lts as lts
-use Rattle.port.proofs.numbers.wide.Reads as wide-reads
 
--- src/numbers.rt:25:10
 shared-slice-read-wide : tie.Need-shared-slice-read-wide
 shared-slice-read-wide c = search needs
 
--- src/numbers.rt:25:5
 wide-requires : tie.Need-wide-requires
 wide-requires c κs = search needs
 
--- src/numbers.rt:25:40
 add-wide : tie.Need-add-wide
 add-wide c = search needs
 
--- src/numbers.rt:25:34
 shared-slice-read-wide-2 : tie.Need-shared-slice-read-wide-2
 shared-slice-read-wide-2 c = search needs
 
--- src/numbers.rt:25:29
 wide-requires-2 : tie.Need-wide-requires-2
 wide-requires-2 c κs = search needs
 
--- src/numbers.rt:25:23
 mul-result : tie.Need-mul-result
 mul-result c = search needs
 
--- src/numbers.rt:25:5
 add-result : tie.Need-add-result
 add-result c = search needs
 
--- src/numbers.rt:21:1
 returns : tie.Need-returns
 returns c = u16-at (c .before .before .before .before .before .args .bytes .now) (c .before .before .before .before .before .args .at) (c .before .before .wide .result) (c .wide2 .result) (c .before .before .wide .ensures .0) (c .wide2 .ensures .0)
 

@@ -2,39 +2,28 @@ use borrow.Author.Needs.{needs}
 use Rattle.port.proofs.Laws.Numbers.{u32-at}
 use Rattle.port.proofs.numbers.u32_at.Statement.{statement}
 use Rattle.port.proofs.numbers.u32_at.Tie as tie
-use Rattle.port.proofs.numbers.u32_at.Reads as reads
-use Rattle.port.proofs.numbers.u32_at.Lts as lts
-use Rattle.port.proofs.numbers.u16_at.Reads as u16-at-reads
 
--- src/numbers.rt:32:5
 u16-at-requires : tie.Need-u16-at-requires
 u16-at-requires c κs = search needs
 
--- src/numbers.rt:32:5
 cast-result : tie.Need-cast-result
 cast-result c = search needs
 
--- src/numbers.rt:32:55
 add-u16-at : tie.Need-add-u16-at
 add-u16-at c = search needs
 
--- src/numbers.rt:32:41
 u16-at-requires-2 : tie.Need-u16-at-requires-2
 u16-at-requires-2 c κs = search needs
 
--- src/numbers.rt:32:41
 cast-result-2 : tie.Need-cast-result-2
 cast-result-2 c = search needs
 
--- src/numbers.rt:32:32
 mul-result : tie.Need-mul-result
 mul-result c = search needs
 
--- src/numbers.rt:32:5
 add-result : tie.Need-add-result
 add-result c = search needs
 
--- src/numbers.rt:28:1
 returns : tie.Need-returns
 returns c = u32-at (c .before .before .before .args .bytes .now) (c .before .before .before .args .at) (c .before .u16-at .result) (c .u16-at2 .result) (c .before .u16-at .ensures) (c .u16-at2 .ensures)
 

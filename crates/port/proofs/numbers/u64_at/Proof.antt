@@ -2,39 +2,28 @@ use borrow.Author.Needs.{needs}
 use Rattle.port.proofs.Laws.Numbers.{u64-at}
 use Rattle.port.proofs.numbers.u64_at.Statement.{statement}
 use Rattle.port.proofs.numbers.u64_at.Tie as tie
-use Rattle.port.proofs.numbers.u64_at.Reads as reads
-use Rattle.port.proofs.numbers.u64_at.Lts as lts
-use Rattle.port.proofs.numbers.u32_at.Reads as u32-at-reads
 
--- src/numbers.rt:39:5
 u32-at-requires : tie.Need-u32-at-requires
 u32-at-requires c κs = search needs
 
--- src/numbers.rt:39:5
 cast-result : tie.Need-cast-result
 cast-result c = search needs
 
--- src/numbers.rt:39:62
 add-u32-at : tie.Need-add-u32-at
 add-u32-at c = search needs
 
--- src/numbers.rt:39:48
 u32-at-requires-2 : tie.Need-u32-at-requires-2
 u32-at-requires-2 c κs = search needs
 
--- src/numbers.rt:39:48
 cast-result-2 : tie.Need-cast-result-2
 cast-result-2 c = search needs
 
--- src/numbers.rt:39:32
 mul-result : tie.Need-mul-result
 mul-result c = search needs
 
--- src/numbers.rt:39:5
 add-result : tie.Need-add-result
 add-result c = search needs
 
--- src/numbers.rt:35:1
 returns : tie.Need-returns
 returns c = u64-at (c .before .before .before .args .bytes .now) (c .before .before .before .args .at) (c .before .u32-at .result) (c .u32-at2 .result) (c .before .u32-at .ensures) (c .u32-at2 .ensures)
 

@@ -1,30 +1,22 @@
 -- The tag of each case.
 use borrow.Author.Needs.{needs}
 use Rattle.port.specs.Tags.{fatalTagged}
-use mathlib.Core.Path.{sym, ap, _∙_}
+use mathlib.Core.Path.{sym, ap}
 use Rattle.port.proofs.tags.fatal_tagged.Statement.{statement}
 use Rattle.port.proofs.tags.fatal_tagged.Tie as tie
-use Rattle.port.proofs.tags.fatal_tagged.Reads as reads
-use Rattle.port.proofs.tags.fatal_tagged.Lts as lts
-use Rattle.port.proofs.tags.reason_tagged.Reads as reason-tagged-reads
 
--- src/tags.rt:216:30
 enum-told : tie.Need-enum-told
 enum-told c = search needs
 
--- src/tags.rt:221:26
 enum-known-fatal : tie.Need-enum-known-fatal
 enum-known-fatal c = search needs
 
--- src/tags.rt:221:37
 reason-tagged-requires : tie.Need-reason-tagged-requires
 reason-tagged-requires c κs = search needs
 
--- src/tags.rt:212:1
 returns : tie.Need-returns
 returns c = sym (ap fatalTagged (c .enum-told .given .1))
 
--- src/tags.rt:212:1
 returns-2 : tie.Need-returns-2
 returns-2 c = search needs
 

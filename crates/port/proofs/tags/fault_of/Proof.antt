@@ -1,33 +1,25 @@
 -- Each number that is tested for, and the last case where none of them is there.
 use borrow.Author.Tests.{ne-eqb}
 use Rattle.port.specs.Tags.{faultOf}
-use mathlib.Core.Path.{sym, ap, _∙_}
+use mathlib.Core.Path.{sym, ap}
 use Rattle.port.proofs.tags.fault_of.Statement.{statement}
 use Rattle.port.proofs.tags.fault_of.Tie as tie
-use Rattle.port.proofs.tags.fault_of.Reads as reads
-use Rattle.port.proofs.tags.fault_of.Lts as lts
 
--- src/tags.rt:121:9
 returns : tie.Need-returns
 returns c = sym (ap faultOf (c .if1 .taken))
 
--- src/tags.rt:124:9
 returns-2 : tie.Need-returns-2
 returns-2 c = sym (ap faultOf (c .if2 .taken))
 
--- src/tags.rt:127:9
 returns-3 : tie.Need-returns-3
 returns-3 c = sym (ap faultOf (c .if3 .taken))
 
--- src/tags.rt:130:9
 returns-4 : tie.Need-returns-4
 returns-4 c = sym (ap faultOf (c .if4 .taken))
 
--- src/tags.rt:133:9
 returns-5 : tie.Need-returns-5
 returns-5 c = sym (ap faultOf (c .if5 .taken))
 
--- src/tags.rt:117:1
 returns-6 : tie.Need-returns-6
 returns-6 c = simp (ne-eqb _ _ (c .before .before .before .before .if1 .left), ne-eqb _ _ (c .before .before .before .if2 .left), ne-eqb _ _ (c .before .before .if3 .left), ne-eqb _ _ (c .before .if4 .left), ne-eqb _ _ (c .if5 .left))
 

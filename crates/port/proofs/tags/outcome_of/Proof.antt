@@ -8,31 +8,22 @@ use Prim.Native.Nat.{ℕ}
 use mathlib.Core.Path.{sym, ap, _∙_}
 use Rattle.port.proofs.tags.outcome_of.Statement.{statement}
 use Rattle.port.proofs.tags.outcome_of.Tie as tie
-use Rattle.port.proofs.tags.outcome_of.Reads as reads
-use Rattle.port.proofs.tags.outcome_of.Lts as lts
-use Rattle.port.proofs.tags.fault_of.Reads as fault-of-reads
 
--- src/tags.rt:181:9
 returns : tie.Need-returns
 returns c = sym (ap (λ (n : ℕ). outcomeOf (tagged n (c .before .before .args .t .kind) (c .before .before .args .t .word))) (c .if1 .taken))
 
--- src/tags.rt:184:9
 returns-2 : tie.Need-returns-2
 returns-2 c = sym (ap (λ (n : ℕ). outcomeOf (tagged n (c .before .before .before .before .args .t .kind) (c .before .before .before .before .args .t .word))) (c .if2 .taken))
 
--- src/tags.rt:187:9
 returns-3 : tie.Need-returns-3
 returns-3 c = sym (ap (λ (n : ℕ). outcomeOf (tagged n (c .before .before .before .before .before .before .args .t .kind) (c .before .before .before .before .before .before .args .t .word))) (c .if3 .taken))
 
--- src/tags.rt:190:34
 fault-of-requires : tie.Need-fault-of-requires
 fault-of-requires c κs = search needs
 
--- src/tags.rt:190:9
 returns-4 : tie.Need-returns-4
 returns-4 c = ap (λ (k : Dwc2TransferFault). Fault k (c .before .before .before .before .before .before .before .before .before .args .t .word)) (c .fault-of .ensures) ∙ sym (ap (λ (n : ℕ). outcomeOf (tagged n (c .before .before .before .before .before .before .before .before .before .args .t .kind) (c .before .before .before .before .before .before .before .before .before .args .t .word))) (c .before .if4 .taken))
 
--- src/tags.rt:177:1
 returns-5 : tie.Need-returns-5
 returns-5 c = simp (ne-eqb _ _ (c .before .before .before .before .before .before .if1 .left), ne-eqb _ _ (c .before .before .before .before .if2 .left), ne-eqb _ _ (c .before .before .if3 .left), ne-eqb _ _ (c .if4 .left))
 

@@ -5,51 +5,37 @@ use Prim.Native.Nat.{ℕ}
 use mathlib.Core.Path.{sym, ap, _∙_}
 use Rattle.port.proofs.tags.outcome_tagged.Statement.{statement}
 use Rattle.port.proofs.tags.outcome_tagged.Tie as tie
-use Rattle.port.proofs.tags.outcome_tagged.Reads as reads
-use Rattle.port.proofs.tags.outcome_tagged.Lts as lts
-use Rattle.port.proofs.tags.fault_tag.Reads as fault-tag-reads
 
--- src/tags.rt:149:29
 enum-told : tie.Need-enum-told
 enum-told c = search needs
 
--- src/tags.rt:154:37
 enum-told-2 : tie.Need-enum-told-2
 enum-told-2 c = search needs
 
--- src/tags.rt:159:34
 enum-told-3 : tie.Need-enum-told-3
 enum-told-3 c = search needs
 
--- src/tags.rt:164:27
 enum-known-outcome : tie.Need-enum-known-outcome
 enum-known-outcome c = search needs
 
--- src/tags.rt:166:19
 fault-tag-requires : tie.Need-fault-tag-requires
 fault-tag-requires c κs = search needs
 
--- src/tags.rt:169:36
 enum-known-outcome-2 : tie.Need-enum-known-outcome-2
 enum-known-outcome-2 c = search needs
 
--- src/tags.rt:145:1
 returns : tie.Need-returns
 returns c = sym (ap outcomeTagged (c .enum-told .given .1))
 
--- src/tags.rt:145:1
 returns-2 : tie.Need-returns-2
 returns-2 c = sym (ap outcomeTagged (c .enum-told2 .given .1))
 
--- src/tags.rt:145:1
 returns-3 : tie.Need-returns-3
 returns-3 c = sym (ap outcomeTagged (c .enum-told3 .given .1))
 
--- src/tags.rt:145:1
 returns-4 : tie.Need-returns-4
 returns-4 c = ap (λ (k : ℕ). tagged 3 k (c .before .before .outcome .given .0 .1 .0)) (c .fault-tag .ensures) ∙ sym (ap outcomeTagged (c .before .before .outcome .given .1))
 
--- src/tags.rt:145:1
 returns-5 : tie.Need-returns-5
 returns-5 c = sym (ap outcomeTagged (c .before .outcome2 .given .1))
 

@@ -5,27 +5,19 @@ use Prim.Native.Nat.{ℕ}
 use mathlib.Core.Path.{sym, ap, _∙_}
 use Rattle.port.proofs.tags.reason_tagged.Statement.{statement}
 use Rattle.port.proofs.tags.reason_tagged.Tie as tie
-use Rattle.port.proofs.tags.reason_tagged.Reads as reads
-use Rattle.port.proofs.tags.reason_tagged.Lts as lts
-use Rattle.port.proofs.tags.fault_tag.Reads as fault-tag-reads
 
--- src/tags.rt:199:37
 enum-told : tie.Need-enum-told
 enum-told c = search needs
 
--- src/tags.rt:204:30
 enum-known-reason : tie.Need-enum-known-reason
 enum-known-reason c = search needs
 
--- src/tags.rt:206:19
 fault-tag-requires : tie.Need-fault-tag-requires
 fault-tag-requires c κs = search needs
 
--- src/tags.rt:195:1
 returns : tie.Need-returns
 returns c = sym (ap reasonTagged (c .enum-told .given .1))
 
--- src/tags.rt:195:1
 returns-2 : tie.Need-returns-2
 returns-2 c = ap (λ (k : ℕ). tagged 2 k (c .before .before .reason .given .0 .1 .0)) (c .fault-tag .ensures) ∙ sym (ap reasonTagged (c .before .before .reason .given .1))
 

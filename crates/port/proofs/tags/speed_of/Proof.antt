@@ -1,21 +1,16 @@
 -- Each number that is tested for, and the last case where none of them is there.
 use borrow.Author.Tests.{ne-eqb}
 use Rattle.port.specs.Tags.{speedOf}
-use mathlib.Core.Path.{sym, ap, _∙_}
+use mathlib.Core.Path.{sym, ap}
 use Rattle.port.proofs.tags.speed_of.Statement.{statement}
 use Rattle.port.proofs.tags.speed_of.Tie as tie
-use Rattle.port.proofs.tags.speed_of.Reads as reads
-use Rattle.port.proofs.tags.speed_of.Lts as lts
 
--- src/tags.rt:36:9
 returns : tie.Need-returns
 returns c = sym (ap speedOf (c .if1 .taken))
 
--- src/tags.rt:39:9
 returns-2 : tie.Need-returns-2
 returns-2 c = sym (ap speedOf (c .if2 .taken))
 
--- src/tags.rt:32:1
 returns-3 : tie.Need-returns-3
 returns-3 c = simp (ne-eqb _ _ (c .before .if1 .left), ne-eqb _ _ (c .if2 .left))
 

@@ -11,7 +11,7 @@ use Rattle.session.specs.Record.{isBadRecord}
 use Rattle.session.specs.Reclaim.{isShort}
 use Rattle.session.proofs.Laws.Record.{Sound, sound, not-bad}
 use Rattle.session.proofs.Laws.Reclaims.{reclaim-short, reclaim-bad, reclaim-done, looked-sound}
-use Rattle.session.proofs.Laws.Tests.{neither}
+use Rattle.words.proofs.Laws.Tests.{neither}
 use borrow.Author.Needs.{needs}
 use Rattle.session.proofs.types.IsoChannelState.reclaim.Statement.{statement}
 use Rattle.session.proofs.types.IsoChannelState.reclaim.Tie as tie

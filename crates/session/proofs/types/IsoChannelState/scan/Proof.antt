@@ -21,7 +21,7 @@ use Rattle.session.specs.Record.{isBadConfig, isBadCounts, anyBadRequest
 use Rattle.session.specs.Submit.{isHeld}
 use Rattle.session.proofs.Laws.Record.{ring-few, packets-next, packets-past, packets-split, pending-next, request-here, request-next, request-past, plan-here, plan-next, plan-past, good-request, good-plan, bad-found}
 use Rattle.session.proofs.Laws.Stores.{marks-first, marks-all, mark-set, mark-pending, mark-done}
-use Rattle.session.proofs.Laws.Tests.{neither}
+use Rattle.words.proofs.Laws.Tests.{neither}
 use Rattle.session.proofs.types.IsoChannelState.scan.Statement.{statement}
 use Rattle.session.proofs.types.IsoChannelState.scan.Tie as tie
 

@@ -1,0 +1,138 @@
+-- Submitting and opening by bytes, at each way out.
+use mathlib.Core.Path.{_≡_, _∙_, sym, ap}
+use mathlib.Core.Bool.{Bool, true, false}
+use mathlib.Core.List.{List}
+use Prim.Native.Nat.{ℕ, _≤_, _<_}
+use lib.Dec.{eqb, ltb}
+use lib.ListN.{length}
+use lib.Seq.{sets}
+use borrow.Author.Tests.{eq-eqb, lt-ltb, le-ltb}
+use Rattle.session.specs.Numbers.{openNumber}
+use Rattle.session.specs.Open.{opened, openedRing}
+use Rattle.session.specs.Submit.{submitted, submittedRing}
+use Rattle.session.specs.declared.open.Opened.{Opened}
+use Rattle.session.specs.declared.transfer.IsoTransfer.{IsoTransfer}
+use Rattle.session.specs.declared.transfer.Submitted.{Submitted}
+use Rattle.session.specs.declared.types.IsoConfig.{IsoConfig}
+use Rattle.session.specs.declared.types.IsoChannelState.{IsoChannelState}
+use Rattle.port.specs.declared.answers.PortSubmitted.{PortSubmitted}
+use Rattle.port.specs.declared.answers.PortTransfer.{PortTransfer}
+use Rattle.port.specs.Tags.{pick}
+use Rattle.port.specs.Layout.{layoutNumber, sessionOf, saved}
+use Rattle.port.specs.Calls.{byBytes, byKind, submitRefused, submittedPort, transferOf, submitBy, submitBytes, submitRing, byOpen, openBy, openBytes, openRing}
+use Rattle.port.proofs.Laws.Calls.{refused, done}
+
+-- ---- a call whose kind may name nothing
+
+module _ {A : Type 0} (xs : List ℕ) (kind : ℕ) (refuse : ℕ → A) where
+  kind-refused : (call : IsoChannelState → A) {n : ℕ} → n ≡ layoutNumber xs → (n ≡ 0 → ⊥) → refuse n ≡ byKind kind xs refuse call
+  kind-refused call e z = refused xs refuse (λ (s : IsoChannelState). pick (ltb 3 kind) (refuse 18) (call s)) e z
+
+  kind-bad : (call : IsoChannelState → A) {n : ℕ} → n ≡ layoutNumber xs → n ≡ 0 → 3 < kind → refuse 18 ≡ byKind kind xs refuse call
+  kind-bad call {n} e z h =
+      let test : eqb (layoutNumber xs) 0 ≡ true = ap (λ (k : ℕ). eqb k 0) (sym e) ∙ eq-eqb n 0 z in
+      sym
+      (ap (λ (b : Bool). pick b (pick (ltb 3 kind) (refuse 18) (call (sessionOf xs))) (refuse (layoutNumber xs))) test
+      ∙ ap (λ (b : Bool). pick b (refuse 18) (call (sessionOf xs))) (lt-ltb 3 kind h))
+
+  kind-done :
+      {R : Type 0} (call : IsoChannelState → R) (out : R → A) {n : ℕ} {s : IsoChannelState} {r : R} → n ≡ layoutNumber xs → n ≡ 0 → kind ≤ 3
+      → s ≡ sessionOf xs
+      → r ≡ call s
+      → out r ≡ byKind kind xs refuse (λ (t : IsoChannelState). out (call t))
+  kind-done call out e z h l g =
+      done xs refuse call out e z l g
+      ∙ ap (λ (b : Bool). byBytes xs refuse (λ (t : IsoChannelState). pick b (refuse 18) (out (call t)))) (sym (le-ltb 3 kind h))
+
+module _ (xs : List ℕ) (t : PortTransfer) (lengths ring : List ℕ) where
+  abbrev answerFor : IsoChannelState → PortSubmitted
+  answerFor s = submittedPort (submitted s (transferOf t) lengths ring)
+
+  abbrev bytesFor : IsoChannelState → List ℕ
+  bytesFor s = sets xs 0 (saved (submitted s (transferOf t) lengths ring .session))
+
+  abbrev ringFor : IsoChannelState → List ℕ
+  ringFor s = submittedRing s (transferOf t) lengths ring
+
+  pub submit-refused :
+      {n : ℕ} {r : PortSubmitted} → n ≡ layoutNumber xs → (n ≡ 0 → ⊥) → r ≡ submitRefused n
+      → (r ≡ submitBy xs t lengths ring) × (xs ≡ submitBytes xs t lengths ring) × (ring ≡ submitRing xs t lengths ring)
+  submit-refused e z g = (
+    g ∙ kind-refused xs (t .kind) submitRefused answerFor e z,
+    kind-refused xs (t .kind) (λ (n : ℕ). xs) bytesFor e z,
+    kind-refused xs (t .kind) (λ (n : ℕ). ring) ringFor e z,
+  )
+
+  pub submit-kind :
+      {n : ℕ} {r : PortSubmitted} → n ≡ layoutNumber xs → n ≡ 0 → 3 < t .kind → r ≡ submitRefused 18
+      → (r ≡ submitBy xs t lengths ring) × (xs ≡ submitBytes xs t lengths ring) × (ring ≡ submitRing xs t lengths ring)
+  submit-kind e z h g = (
+    g ∙ kind-bad xs (t .kind) submitRefused answerFor e z h,
+    kind-bad xs (t .kind) (λ (n : ℕ). xs) bytesFor e z h,
+    kind-bad xs (t .kind) (λ (n : ℕ). ring) ringFor e z h,
+  )
+
+  pub submit-done :
+      {n : ℕ} {s : IsoChannelState} {u : IsoTransfer} {r : Submitted} {p : PortSubmitted} {after words : List ℕ} → n ≡ layoutNumber xs → n ≡ 0
+      → t .kind ≤ 3
+      → s ≡ sessionOf xs
+      → u ≡ transferOf t
+      → r ≡ submitted s u lengths ring
+      → words ≡ submittedRing s u lengths ring
+      → p ≡ submittedPort r
+      → after ≡ sets xs 0 (saved (r .session))
+      → (p ≡ submitBy xs t lengths ring) × (after ≡ submitBytes xs t lengths ring) × (words ≡ submitRing xs t lengths ring)
+  submit-done {s = s} {r = r} e z h l w g k p b =
+      let call : IsoChannelState → Submitted = λ (x : IsoChannelState). submitted x (transferOf t) lengths ring in
+      let given : r ≡ call s = g ∙ ap (λ (x : IsoTransfer). submitted s x lengths ring) w in (
+        p ∙ kind-done xs (t .kind) submitRefused call submittedPort e z h l given,
+        b ∙ kind-done xs (t .kind) (λ (n : ℕ). xs) call (λ (x : Submitted). sets xs 0 (saved (x .session))) e z h l given,
+        kind-done xs (t .kind) (λ (n : ℕ). ring) ringFor (λ (x : List ℕ). x) e z h l (k ∙ ap (λ (x : IsoTransfer). submittedRing s x lengths ring) w),
+      )
+
+-- ---- opening
+
+module _ {A : Type 0} (xs : List ℕ) (bad : Bool) (refuse : ℕ → A) (d : A) where
+  open-17 : length xs < 8488 → refuse 17 ≡ byOpen xs bad refuse d
+  open-17 h = sym (ap (λ (b : Bool). pick b (refuse 17) (pick bad (refuse 18) d)) (lt-ltb (length xs) 8488 h))
+
+  open-by : (c : Bool) → 8488 ≤ length xs → bad ≡ c → pick c (refuse 18) d ≡ byOpen xs bad refuse d
+  open-by c h e =
+      sym
+      (ap (λ (b : Bool). pick b (refuse 17) (pick bad (refuse 18) d)) (le-ltb (length xs) 8488 h)
+      ∙ ap (λ (b : Bool). pick b (refuse 18) d) e)
+
+module _ (xs : List ℕ) (bad : Bool) (cfg : IsoConfig) (ring : List ℕ) where
+  abbrev Opens : ℕ → List ℕ → List ℕ → Type 0
+  Opens r after words =
+      (r ≡ openBy xs bad cfg (length ring)) × (after ≡ openBytes xs bad cfg (length ring)) × (words ≡ openRing xs bad cfg ring)
+
+  abbrev number : ℕ
+  number = openNumber (opened cfg (length ring) .answer)
+
+  abbrev bytes : List ℕ
+  bytes = sets xs 0 (saved (opened cfg (length ring) .session))
+
+  pub open-short : length xs < 8488 → Opens 17 xs ring
+  open-short h =
+      (open-17 xs bad (λ (n : ℕ). n) number h, open-17 xs bad (λ (n : ℕ). xs) bytes h, open-17 xs bad (λ (n : ℕ). ring) (openedRing cfg ring) h)
+
+  pub open-bad : 8488 ≤ length xs → bad ≡ true → Opens 18 xs ring
+  open-bad h e = (
+    open-by xs bad (λ (n : ℕ). n) number true h e,
+    open-by xs bad (λ (n : ℕ). xs) bytes true h e,
+    open-by xs bad (λ (n : ℕ). ring) (openedRing cfg ring) true h e,
+  )
+
+  pub open-done :
+      {c : IsoConfig} {o : Opened} {r : ℕ} {after words : List ℕ} → 8488 ≤ length xs → bad ≡ false → c ≡ cfg → o ≡ opened c (length ring)
+      → words ≡ openedRing c ring
+      → r ≡ openNumber (o .answer)
+      → after ≡ sets xs 0 (saved (o .session))
+      → Opens r after words
+  open-done {o = o} h e k g w p b =
+      let given : o ≡ opened cfg (length ring) = g ∙ ap (λ (x : IsoConfig). opened x (length ring)) k in (
+        p ∙ ap (λ (x : Opened). openNumber (x .answer)) given ∙ open-by xs bad (λ (n : ℕ). n) number false h e,
+        b ∙ ap (λ (x : Opened). sets xs 0 (saved (x .session))) given ∙ open-by xs bad (λ (n : ℕ). xs) bytes false h e,
+        w ∙ ap (λ (x : IsoConfig). openedRing x ring) k ∙ open-by xs bad (λ (n : ℕ). ring) (openedRing cfg ring) false h e,
+      )

@@ -1,0 +1,50 @@
+use borrow.Author.Needs.{needs}
+use Rattle.session.specs.Poll.{resetReply}
+use Rattle.port.proofs.Laws.Calls.{long-enough, reply-refused, reply-done}
+use Rattle.port.proofs.calls.dwc2_iso_reset.Statement.{statement}
+use Rattle.port.proofs.calls.dwc2_iso_reset.Tie as tie
+
+layout-refusal-requires : tie.Need-layout-refusal-requires
+layout-refusal-requires c κs = search needs
+
+reply-refused-requires : tie.Need-reply-refused-requires
+reply-refused-requires c κs = search needs
+
+same-length : tie.Need-same-length
+same-length c = search needs
+
+returns : tie.Need-returns
+returns c = reply-refused (c .before .before .before .before .before .args .session .now) resetReply (c .before .before .layout-refusal .ensures) (c .before .if1 .taken) (c .reply-refused .ensures)
+
+load-session-requires : tie.Need-load-session-requires
+load-session-requires c κs = long-enough (c .before .before .before .before .before .args .session .now) (c .before .before .layout-refusal .ensures) (c .before .if1 .left)
+
+reset-requires : tie.Need-reset-requires
+reset-requires c κs = search needs
+
+save-session-requires : tie.Need-save-session-requires
+save-session-requires c κs = long-enough (c .before .before .before .before .before .before .before .before .before .args .session .now) (c .before .before .before .before .before .before .layout-refusal .ensures) (c .before .before .before .before .before .if1 .left)
+
+reply-port-requires : tie.Need-reply-port-requires
+reply-port-requires c κs = search needs
+
+same-length-2 : tie.Need-same-length-2
+same-length-2 c = search needs
+
+returns-2 : tie.Need-returns-2
+returns-2 c = reply-done (c .before .before .before .before .before .before .before .before .before .before .before .before .before .args .session .now) resetReply (c .before .before .before .before .before .before .before .before .before .before .layout-refusal .ensures) (c .before .before .before .before .before .before .before .before .before .if1 .left) (c .before .before .before .before .before .before .before .load-session .ensures) (c .before .before .before .before .before .before .reset .ensures) (c .reply-port .ensures) (c .before .before .before .save-session .ensures)
+
+pub dwc2-iso-reset-spec : {M : Type 1} → statement M
+dwc2-iso-reset-spec =
+    tie.close
+    (tie.spec
+    layout-refusal-requires
+    reply-refused-requires
+    same-length
+    returns
+    load-session-requires
+    reset-requires
+    save-session-requires
+    reply-port-requires
+    same-length-2
+    returns-2)

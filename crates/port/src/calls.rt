@@ -1,0 +1,133 @@
+// The session's calls by bytes: load, call, save. Bytes that are no session are refused, and nothing is altered.
+ghost use mathlib.Core.Path.{_≡_};
+ghost use lib.ListN.{length};
+ghost use Rattle.session.specs.Poll.{polled, polledRing, recovered, recoveredRing, resetReply};
+ghost use Rattle.session.specs.Cancel.{cancelled};
+ghost use Rattle.session.specs.Reclaim.{reclaimed, reclaimedRing, reclaimedResults};
+ghost use Rattle.session.specs.declared.types.IsoChannelState.{IsoChannelState};
+ghost use Rattle.port.specs.Calls.{replyBy, bytesBy, wordsBy, checkBy, eventOf, reclaimBy};
+use crate::answers::PortReclaimed;
+use crate::answers::PortReply;
+use crate::answers::reclaim_port;
+use crate::answers::reclaim_refused;
+use crate::answers::reply_port;
+use crate::answers::reply_refused;
+use crate::load::layout_refusal;
+use crate::load::load_session;
+use crate::save::save_session;
+use session::IsoEvent;
+
+#[no_mangle]
+pub extern "C" fn dwc2_iso_check(session: &[u8]) -> u32
+    ensures { λ r. ⌜ r ≡ checkBy (now (session .entry)) ⌝ }
+{
+    let refusal = layout_refusal(session);
+    if refusal != 0 {
+        return refusal as u32;
+    }
+    if load_session(session).is_bad_record() {
+        return 18;
+    }
+    0
+}
+
+#[no_mangle]
+pub extern "C" fn dwc2_iso_reset(session: &mut [u8]) -> PortReply
+    ensures { λ r. ⌜ (r ≡ replyBy (now (session .entry)) resetReply) × (now (session .exit) ≡ bytesBy (now (session .entry)) (λ (s : IsoChannelState). resetReply s .session)) ⌝ }
+{
+    let refusal = layout_refusal(session);
+    if refusal != 0 {
+        return reply_refused(refusal);
+    }
+    let reply = load_session(session).reset();
+    let after = reply.session;
+    save_session(session, after);
+    let answer = reply.answer;
+    reply_port(answer, reply.taken, reply.halt)
+}
+
+#[no_mangle]
+pub extern "C" fn dwc2_iso_cancel(session: &mut [u8], id: u64) -> PortReply
+    ensures { λ r. ⌜ (r ≡ replyBy (now (session .entry)) (λ (s : IsoChannelState). cancelled s id)) × (now (session .exit) ≡ bytesBy (now (session .entry)) (λ (s : IsoChannelState). cancelled s id .session)) ⌝ }
+{
+    let refusal = layout_refusal(session);
+    if refusal != 0 {
+        return reply_refused(refusal);
+    }
+    let reply = load_session(session).cancel(id);
+    let after = reply.session;
+    save_session(session, after);
+    let answer = reply.answer;
+    reply_port(answer, reply.taken, reply.halt)
+}
+
+#[no_mangle]
+pub extern "C" fn dwc2_iso_recover(session: &mut [u8], ring: &mut [u32]) -> PortReply
+    ensures { λ r. ⌜ (r ≡ replyBy (now (session .entry)) (λ (s : IsoChannelState). recovered s (length (now (ring .entry))))) × (now (session .exit) ≡ bytesBy (now (session .entry)) (λ (s : IsoChannelState). recovered s (length (now (ring .entry))) .session)) × (now (ring .exit) ≡ wordsBy (now (session .entry)) (now (ring .entry)) (λ (s : IsoChannelState). recoveredRing s (now (ring .entry)))) ⌝ }
+{
+    let refusal = layout_refusal(session);
+    if refusal != 0 {
+        return reply_refused(refusal);
+    }
+    let reply = load_session(session).recover(ring);
+    let after = reply.session;
+    save_session(session, after);
+    let answer = reply.answer;
+    reply_port(answer, reply.taken, reply.halt)
+}
+
+fn event_of(reported: u32, unplugged: u32, hcint: u32) -> IsoEvent
+    ensures { λ r. ⌜ r ≡ eventOf reported unplugged hcint ⌝ }
+{
+    IsoEvent {
+        reported: !(reported == 0),
+        unplugged: !(unplugged == 0),
+        hcint,
+    }
+}
+
+#[no_mangle]
+pub extern "C" fn dwc2_iso_poll(
+    session: &mut [u8],
+    ring: &mut [u32],
+    reported: u32,
+    unplugged: u32,
+    hcint: u32,
+) -> PortReply
+    ensures { λ r. ⌜ (r ≡ replyBy (now (session .entry)) (λ (s : IsoChannelState). polled s (eventOf reported unplugged hcint) (now (ring .entry)))) × (now (session .exit) ≡ bytesBy (now (session .entry)) (λ (s : IsoChannelState). polled s (eventOf reported unplugged hcint) (now (ring .entry)) .session)) × (now (ring .exit) ≡ wordsBy (now (session .entry)) (now (ring .entry)) (λ (s : IsoChannelState). polledRing s (eventOf reported unplugged hcint) (now (ring .entry)))) ⌝ }
+{
+    let refusal = layout_refusal(session);
+    if refusal != 0 {
+        return reply_refused(refusal);
+    }
+    let event = event_of(reported, unplugged, hcint);
+    let reply = load_session(session).poll_channel(event, ring);
+    let after = reply.session;
+    save_session(session, after);
+    let answer = reply.answer;
+    reply_port(answer, reply.taken, reply.halt)
+}
+
+#[no_mangle]
+pub extern "C" fn dwc2_iso_reclaim(
+    session: &mut [u8],
+    ring: &mut [u32],
+    results: &mut [u64],
+    id: u64,
+    reported: u32,
+    unplugged: u32,
+    hcint: u32,
+) -> PortReclaimed
+    ensures { λ r. ⌜ (r ≡ reclaimBy (now (session .entry)) (λ (s : IsoChannelState). reclaimed s id (eventOf reported unplugged hcint) (now (ring .entry)) (length (now (results .entry))))) × (now (session .exit) ≡ bytesBy (now (session .entry)) (λ (s : IsoChannelState). reclaimed s id (eventOf reported unplugged hcint) (now (ring .entry)) (length (now (results .entry))) .session)) × (now (ring .exit) ≡ wordsBy (now (session .entry)) (now (ring .entry)) (λ (s : IsoChannelState). reclaimedRing s id (eventOf reported unplugged hcint) (now (ring .entry)) (length (now (results .entry))))) × (now (results .exit) ≡ wordsBy (now (session .entry)) (now (results .entry)) (λ (s : IsoChannelState). reclaimedResults s id (eventOf reported unplugged hcint) (now (ring .entry)) (now (results .entry)))) ⌝ }
+{
+    let refusal = layout_refusal(session);
+    if refusal != 0 {
+        return reclaim_refused(refusal);
+    }
+    let event = event_of(reported, unplugged, hcint);
+    let reply = load_session(session).reclaim(id, event, ring, results);
+    let after = reply.session;
+    save_session(session, after);
+    let answer = reply.answer;
+    reclaim_port(answer, reply.taken, reply.halt)
+}
