@@ -95,6 +95,18 @@ fn bad_scan() -> RecordScan
     }
 }
 
+fn found(bad: bool, all: u32, pending: u32, tail: u16, held: [bool; 256]) -> RecordScan
+    ensures { λ r. ⌜ (r .bad ≡ bad) × (r .all ≡ all) × (r .pending ≡ pending) × (r .tail ≡ tail) × (r .held ≡ held) ⌝ }
+{
+    RecordScan {
+        bad,
+        all,
+        pending,
+        tail,
+        held,
+    }
+}
+
 impl IsoChannelState {
     // A record that no call leaves behind: its numbers lie beyond their limits.
     pub fn is_bad_record(self) -> bool
@@ -146,13 +158,6 @@ impl IsoChannelState {
         }
         let fatal = self.fatal;
         let tail = self.plans[rest(all, 1)].desc_index;
-        let bad = is_bad_state(head, slots, fatal);
-        RecordScan {
-            bad,
-            all,
-            pending,
-            tail,
-            held,
-        }
+        found(is_bad_state(head, slots, fatal), all, pending, tail, held)
     }
 }

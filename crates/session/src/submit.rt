@@ -282,12 +282,10 @@ impl IsoChannelState {
         }
         let next = head_after(way, cfg, head, transfer, slot);
         self.head = next;
-        let answer = answer_of(way, cfg, head);
-        let start = start_if((n > 0) & !head.live, cfg, head, transfer);
         Submitted {
             session: self,
-            answer,
-            start,
+            answer: answer_of(way, cfg, head),
+            start: start_if((n > 0) & !head.live, cfg, head, transfer),
         }
     }
 }

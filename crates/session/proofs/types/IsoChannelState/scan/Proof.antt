@@ -290,32 +290,36 @@ element-copy-out-tail c = omega (arith, few-plans ((c .before .before .before .b
 is-bad-state-requires : tie.Need-is-bad-state-requires Inv-loop μ-loop Inv-loop2 μ-loop2
 is-bad-state-requires c κs = search needs
 
+found-requires : tie.Need-found-requires Inv-loop μ-loop Inv-loop2 μ-loop2
+found-requires c κs = search needs
+
 returns-5 : tie.Need-returns-5 Inv-loop μ-loop Inv-loop2 μ-loop2
 returns-5 c =
-    let s = c .before .before .before .before .before .before .before .before .before .before .before .before .before .before .before .before .before .before .args .t1 in
-    let now = c .before .before .before .loop2 in
-    let limit = c .before .before .before .before .iso-max-xfer-size .result in
-    let size = c .before .before .before .before .before .iso-ring-size .result in
-    let all = c .before .before .before .before .before .before .before .before .before .before .before .loop .all in
-    let from = all - c .before .before .before .before .before .before .before .before .before .before .before .loop .pending in
-    let e1 : (isBadConfig (s .cfg) || isBadCounts s) ≡ false = past1 ((c .before .before .before .before .before .before .before .before .before .before .before .before)) in
-    let e2 : anyBadRequest (slice 0 (s .head .count) (s .requests)) ≡ false = past2 ((c .before .before .before .before .before .before .before .before .before)) in
-    let e3 : isBadSums s ≡ false = past3 ((c .before .before .before .before .before .before)) in
+    let s = c .before .before .before .before .before .before .before .before .before .before .before .before .before .before .before .before .before .before .before .args .t1 in
+    let now = c .before .before .before .before .loop2 in
+    let limit = c .before .before .before .before .before .iso-max-xfer-size .result in
+    let size = c .before .before .before .before .before .before .iso-ring-size .result in
+    let all = c .before .before .before .before .before .before .before .before .before .before .before .before .loop .all in
+    let from = all - c .before .before .before .before .before .before .before .before .before .before .before .before .loop .pending in
+    let e1 : (isBadConfig (s .cfg) || isBadCounts s) ≡ false = past1 ((c .before .before .before .before .before .before .before .before .before .before .before .before .before)) in
+    let e2 : anyBadRequest (slice 0 (s .head .count) (s .requests)) ≡ false = past2 ((c .before .before .before .before .before .before .before .before .before .before)) in
+    let e3 : isBadSums s ≡ false = past3 ((c .before .before .before .before .before .before .before)) in
     let none = now .inv .1 ∙ plan-past limit size (now .j) all (s .plans) (omega arith) in
-    let e4 : isBadPlans s ≡ false = sym (plans-equal (s .plans) (sym none) (c .before .before .before .before .iso-max-xfer-size .ensures) (c .before .before .before .before .before .iso-ring-size .ensures) (all-is ((c .before .before .before .before .before .before .before .before .before)))) in
-    let bad : c .is-bad-state .result ≡ isBadRecord s = simp (e1, e2, e3, e4) (c .is-bad-state .ensures ∙ ap (λ (n : ℕ). leb n (s .head .«td_last») || not (s .head .live) && (ltb (s .head .done) (s .head .count) || hasReason (s .fatal))) (c .before .before .before .before .before .iso-ring-size .ensures)) in
-    let at : c .before .rest .result ≡ allPackets s - 1 = c .before .rest .ensures ∙ ap (λ (a : ℕ). a - 1) (all-is ((c .before .before .before .before .before .before .before .before .before))) in
+    let e4 : isBadPlans s ≡ false = sym (plans-equal (s .plans) (sym none) (c .before .before .before .before .before .iso-max-xfer-size .ensures) (c .before .before .before .before .before .before .iso-ring-size .ensures) (all-is ((c .before .before .before .before .before .before .before .before .before .before)))) in
+    let bad : c .before .is-bad-state .result ≡ isBadRecord s = simp (e1, e2, e3, e4) (c .before .is-bad-state .ensures ∙ ap (λ (n : ℕ). leb n (s .head .«td_last») || not (s .head .live) && (ltb (s .head .done) (s .head .count) || hasReason (s .fatal))) (c .before .before .before .before .before .before .iso-ring-size .ensures)) in
+    let at : c .before .before .rest .result ≡ allPackets s - 1 = c .before .before .rest .ensures ∙ ap (λ (a : ℕ). a - 1) (all-is ((c .before .before .before .before .before .before .before .before .before .before))) in
     record {
-      bad = bad;
+      bad = c .found .ensures .0 ∙ bad;
       found = λ e.
           record {
-            all = all-is ((c .before .before .before .before .before .before .before .before .before));
-            pending = pending-is ((c .before .before .before .before .before .before .before .before .before));
-            tail = ap (λ (k : ℕ). getD (s .plans) k blankPlan .«desc_index») at;
+            all = c .found .ensures .1 ∙ all-is ((c .before .before .before .before .before .before .before .before .before .before));
+            pending = c .found .ensures .2 ∙ pending-is ((c .before .before .before .before .before .before .before .before .before .before));
+            tail = c .found .ensures .3 ∙ ap (λ (k : ℕ). getD (s .plans) k blankPlan .«desc_index») at;
             held = λ k h.
-                marks-all (now .held) (s .plans) (from + (now .j - from)) all k (omega arith)
+                ap (λ (x : List Bool). getD x k false) (c .found .ensures .4)
+                ∙ marks-all (now .held) (s .plans) (from + (now .j - from)) all k (omega arith)
                 ∙ now .inv .3 k h
-                ∙ ap₂ (λ (a p : ℕ). isHeld (slice (a - p) a (s .plans)) k) (all-is ((c .before .before .before .before .before .before .before .before .before))) (pending-is ((c .before .before .before .before .before .before .before .before .before)));
+                ∙ ap₂ (λ (a p : ℕ). isHeld (slice (a - p) a (s .plans)) k) (all-is ((c .before .before .before .before .before .before .before .before .before .before))) (pending-is ((c .before .before .before .before .before .before .before .before .before .before)));
           };
     }
 
@@ -367,4 +371,5 @@ scan-spec =
     mul-tail
     element-copy-out-tail
     is-bad-state-requires
+    found-requires
     returns-5)

@@ -95,17 +95,17 @@ loop-holds : tie.Need-loop-holds Inv-loop μ-loop
 loop-holds c =
     (omega arith, sym (first-slot (c .before .before .slots-of .result) (c .before .before .before .before .before .before .before .before .insert-of .result) (c .before .step-of .result)), omega arith, long-plans ((c .before .before .before .before .before .before .before .before .before .before .before .before .before .before .before .before .before)), refl, refl)
 
-mul-t31 : tie.Need-mul-t31 Inv-loop μ-loop
-mul-t31 c = omega (arith, fits ((c .before .before .before .before .before)) (omega arith))
+mul-t29 : tie.Need-mul-t29 Inv-loop μ-loop
+mul-t29 c = omega (arith, fits ((c .before .before .before .before .before)) (omega arith))
 
-shared-slice-read-t33 : tie.Need-shared-slice-read-t33 Inv-loop μ-loop
-shared-slice-read-t33 c = omega (arith, all-added ((c .before .before .before .before .before .before)) (omega arith) .1)
+shared-slice-read-t31 : tie.Need-shared-slice-read-t31 Inv-loop μ-loop
+shared-slice-read-t31 c = omega (arith, all-added ((c .before .before .before .before .before .before)) (omega arith) .1)
 
-cast-t34 : tie.Need-cast-t34 Inv-loop μ-loop
-cast-t34 c = omega (arith, sure ((c .before .before .before .before .before .before)) (omega arith) .short (c .before .before .loop .i) (omega (arith, all-added ((c .before .before .before .before .before .before)) (omega arith) .1)))
+cast-t32 : tie.Need-cast-t32 Inv-loop μ-loop
+cast-t32 c = omega (arith, sure ((c .before .before .before .before .before .before)) (omega arith) .short (c .before .before .loop .i) (omega (arith, all-added ((c .before .before .before .before .before .before)) (omega arith) .1)))
 
-mul-t37 : tie.Need-mul-t37 Inv-loop μ-loop
-mul-t37 c = omega (arith, fits ((c .before .before .before .before .before .before)) (omega arith), c .before .before .loop .inv .2)
+mul-t35 : tie.Need-mul-t35 Inv-loop μ-loop
+mul-t35 c = omega (arith, fits ((c .before .before .before .before .before .before)) (omega arith), c .before .before .loop .inv .2)
 
 element-set-from-self : tie.Need-element-set-from-self Inv-loop μ-loop
 element-set-from-self c = omega (arith, fits ((c .before .before .before .before .before .before)) (omega arith), c .before .before .loop .inv .2, c .before .before .loop .inv .3)
@@ -142,11 +142,11 @@ loop-again c =
 new-request-requires : tie.Need-new-request-requires Inv-loop μ-loop
 new-request-requires c κs = omega (arith, sure ((c .before .before .before .before .before .before)) (omega arith) .few, all-added ((c .before .before .before .before .before .before)) (omega arith) .1)
 
-cast-t42 : tie.Need-cast-t42 Inv-loop μ-loop
-cast-t42 c = search needs
+cast-t40 : tie.Need-cast-t40 Inv-loop μ-loop
+cast-t40 c = search needs
 
-mul-t43 : tie.Need-mul-t43 Inv-loop μ-loop
-mul-t43 c = omega (arith, sure ((c .before .before .before .before .before .before .before .before)) (omega arith) .requests)
+mul-t41 : tie.Need-mul-t41 Inv-loop μ-loop
+mul-t41 c = omega (arith, sure ((c .before .before .before .before .before .before .before .before)) (omega arith) .requests)
 
 element-set-from-self-2 : tie.Need-element-set-from-self-2 Inv-loop μ-loop
 element-set-from-self-2 c = omega (arith, sure ((c .before .before .before .before .before .before .before .before)) (omega arith) .requests)
@@ -210,10 +210,10 @@ submit-spec =
     rem-slot
     cast-to
     loop-holds
-    mul-t31
-    shared-slice-read-t33
-    cast-t34
-    mul-t37
+    mul-t29
+    shared-slice-read-t31
+    cast-t32
+    mul-t35
     element-set-from-self
     next-slot-requires
     add-to
@@ -221,8 +221,8 @@ submit-spec =
     loop-less
     loop-again
     new-request-requires
-    cast-t42
-    mul-t43
+    cast-t40
+    mul-t41
     element-set-from-self-2
     head-after-requires
     answer-of-requires
