@@ -283,9 +283,9 @@ impl IsoChannelState {
         let next = head_after(way, cfg, head, transfer, slot);
         self.head = next;
         Submitted {
-            session: self,
             answer: answer_of(way, cfg, head),
             start: start_if((n > 0) & !head.live, cfg, head, transfer),
+            session: self,
         }
     }
 }
