@@ -5,9 +5,9 @@ pub mod Entries
 pub mod Head
 pub mod Kept
 pub mod Loaded
+pub mod Numbers
 pub mod Requests
 pub mod Runs
 pub mod Saved
-pub mod Numbers
 pub mod Tables
 pub mod Tags
