@@ -13,7 +13,8 @@ use Rattle.port.specs.Calls.{byBytes}
 use Rattle.port.proofs.Roundtrip.{saved-good, saved-loaded}
 
 pub by-value :
-    {A : Type 0} (s : IsoChannelState) → length (s .requests) ≡ 64 → length (s .plans) ≡ 1024 → (ys : List ℕ) (refuse : ℕ → A) (call : IsoChannelState → A)
+    {A : Type 0} (s : IsoChannelState) → length (s .requests) ≡ 64 → length (s .plans) ≡ 1024
+    → (ys : List ℕ) (refuse : ℕ → A) (call : IsoChannelState → A)
     → byBytes (saved s ++ ys) refuse call ≡ call s
 by-value s h k ys refuse call =
     let test : eqb (layoutNumber (saved s ++ ys)) 0 ≡ true = ap (λ (n : ℕ). eqb n 0) (saved-good s h k ys) in

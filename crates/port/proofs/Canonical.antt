@@ -56,7 +56,10 @@ module _ (xs : List ℕ) (octets : Octets xs) (long : 8488 ≤ length xs) where
       → configBytes (configOf xs) ≡ take 10 (drop 5 xs)
   unfolding configBytes configOf
   config-kept a b c =
-      let names : speedTag (speedOf (byteOf (drop 5 xs))) ∷ directionTag (directionOf (byteOf (drop 6 xs))) ∷ modeTag (modeOf (byteOf (drop 7 xs))) ∷ [] ≡ take 3 (drop 5 xs) =
+      let speed : ℕ = speedTag (speedOf (byteOf (drop 5 xs))) in
+      let direction : ℕ = directionTag (directionOf (byteOf (drop 6 xs))) in
+      let mode : ℕ = modeTag (modeOf (byteOf (drop 7 xs))) in
+      let names : speed ∷ direction ∷ mode ∷ [] ≡ take 3 (drop 5 xs) =
       three (triple-kept (λ (n : ℕ). speedTag (speedOf n)) refl refl refl (byteOf (drop 5 xs)) a)
       (pair-kept (λ (n : ℕ). directionTag (directionOf n)) refl refl (byteOf (drop 6 xs)) b)
       (pair-kept (λ (n : ℕ). modeTag (modeOf n)) refl refl (byteOf (drop 7 xs)) c)
@@ -131,8 +134,11 @@ loaded-saved xs octets z =
     same-front 8488 xs (saved (sessionOf xs)) (whole-kept xs octets long (in-layout xs z)) long
 
 -- a call that leaves the session as it was leaves the bytes as they were
-pub left-alone : (xs : List ℕ) → Octets xs → layoutNumber xs ≡ 0 → (after : IsoChannelState → IsoChannelState) → after (sessionOf xs) ≡ sessionOf xs → bytesBy xs after ≡ xs
+pub left-alone :
+    (xs : List ℕ) → Octets xs → layoutNumber xs ≡ 0 → (after : IsoChannelState → IsoChannelState) → after (sessionOf xs) ≡ sessionOf xs
+    → bytesBy xs after ≡ xs
 left-alone xs octets z after same =
-    sym (done xs (λ (n : ℕ). xs) after (λ (s : IsoChannelState). sets xs 0 (saved s)) {n = layoutNumber xs} {s = sessionOf xs} {r = after (sessionOf xs)} refl z refl refl)
-    ∙ ap (λ (s : IsoChannelState). sets xs 0 (saved s)) same
+    let bytes : IsoChannelState → List ℕ = λ (s : IsoChannelState). sets xs 0 (saved s) in
+    sym (done xs (λ (n : ℕ). xs) after bytes {n = layoutNumber xs} {s = sessionOf xs} {r = after (sessionOf xs)} refl z refl refl)
+    ∙ ap bytes same
     ∙ loaded-saved xs octets z

@@ -5,10 +5,10 @@ pub mod Entries
 pub mod Head
 pub mod Kept
 pub mod Loaded
+pub mod Numbers
+pub mod Planning
 pub mod Requests
 pub mod Runs
 pub mod Saved
-pub mod Numbers
-pub mod Planning
 pub mod Tables
 pub mod Tags

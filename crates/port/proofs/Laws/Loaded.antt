@@ -13,7 +13,8 @@ use Rattle.session.specs.declared.types.IsoPacketPlan.{IsoPacketPlan}
 use Rattle.session.specs.declared.types.IsoChannelState.{IsoChannelState}
 use Rattle.port.specs.declared.tags.Tagged.{Tagged}
 use Rattle.port.specs.Tags.{taggedOf, fatalOf}
-use Rattle.port.specs.Layout.{configOf, headOf, requestOf, planOf, tableOf, anyOf, isBadMark, isBadHead, isBadRequestBytes, isBadPlanBytes, isBadLayout, layoutNumber, sessionOf}
+use Rattle.port.specs.Layout.{configOf, headOf, requestOf, planOf, tableOf, anyOf}
+use Rattle.port.specs.Layout.{isBadMark, isBadHead, isBadRequestBytes, isBadPlanBytes, isBadLayout, layoutNumber, sessionOf}
 
 abbrev pub session : IsoConfig → IsoHead → IsoFatal → List IsoRequest → List IsoPacketPlan → IsoChannelState
 session cfg head fatal requests plans = record { cfg = cfg; head = head; fatal = fatal; requests = requests; plans = plans }

@@ -106,7 +106,8 @@ module _ {A : Type 0} (f : A → List ℕ) (w : ℕ) where
 
 -- ---- a table that was written is read back
 
-module _ {A : Type 0} (f : List ℕ → A) (g : A → List ℕ) (w : ℕ) (long : (a : A) → length (g a) ≡ w) (back : (a : A) (ys : List ℕ) → f (g a ++ ys) ≡ a) where
+module _ {A : Type 0} (f : List ℕ → A) (g : A → List ℕ) (w : ℕ)
+    (long : (a : A) → length (g a) ≡ w) (back : (a : A) (ys : List ℕ) → f (g a ++ ys) ≡ a) where
   pub table-back : (l : List A) (ys : List ℕ) → tableOf f w (length l) (tableBytes g l ++ ys) ≡ l
   unfolding tableOf tableBytes
   table-back [] ys = refl
@@ -115,7 +116,8 @@ module _ {A : Type 0} (f : List ℕ → A) (g : A → List ℕ) (w : ℕ) (long 
       ap (tableOf f w (suc (length l))) (append-assoc (g a) (tableBytes g l) ys)
       ∙ ap₂ (λ (x : A) (r : List A). x ∷ r) (back a rest) (ap (tableOf f w (length l)) (drop-at (g a) rest w (long a)) ∙ table-back l ys)
 
-module _ {A : Type 0} (bad : List ℕ → Bool) (g : A → List ℕ) (w : ℕ) (long : (a : A) → length (g a) ≡ w) (good : (a : A) (ys : List ℕ) → bad (g a ++ ys) ≡ false) where
+module _ {A : Type 0} (bad : List ℕ → Bool) (g : A → List ℕ) (w : ℕ)
+    (long : (a : A) → length (g a) ≡ w) (good : (a : A) (ys : List ℕ) → bad (g a ++ ys) ≡ false) where
   pub table-good : (l : List A) (ys : List ℕ) → anyOf bad w (length l) (tableBytes g l ++ ys) ≡ false
   unfolding anyOf tableBytes
   table-good [] ys = refl

@@ -1,10 +1,10 @@
 -- The answer arm by arm.
+use mathlib.Core.Path.{_∙_, sym, ap}
 use borrow.Author.Needs.{needs}
-use Rattle.port.proofs.Laws.Answers.{completed-port}
+use Rattle.session.specs.declared.reply.ReclaimAnswer.{ReclaimAnswer}
 use Rattle.port.specs.Calls.{reclaimPort}
 use Rattle.port.specs.Tags.{flagTag}
-use Rattle.session.specs.declared.reply.ReclaimAnswer.{ReclaimAnswer}
-use mathlib.Core.Path.{_∙_, sym, ap}
+use Rattle.port.proofs.Laws.Answers.{completed-port}
 use Rattle.port.proofs.answers.reclaim_port.Statement.{statement}
 use Rattle.port.proofs.answers.reclaim_port.Tie as tie
 

@@ -1,9 +1,9 @@
+use mathlib.Core.Bool.{Bool, cond}
+use mathlib.Core.Path.{_∙_, ap, sym}
+use Prim.Native.Nat.{ℕ}
 use borrow.Author.Needs.{needs}
 use Rattle.session.specs.declared.types.IsoChannelState.{IsoChannelState}
 use Rattle.session.specs.Record.{isBadRecord}
-use Prim.Native.Nat.{ℕ}
-use mathlib.Core.Bool.{Bool, cond}
-use mathlib.Core.Path.{_∙_, ap, sym}
 use Rattle.port.proofs.Laws.Calls.{long-enough, refused, done}
 use Rattle.port.proofs.calls.dwc2_iso_check.Statement.{statement}
 use Rattle.port.proofs.calls.dwc2_iso_check.Tie as tie

@@ -1,11 +1,11 @@
-use borrow.Author.Needs.{needs}
-use Rattle.session.specs.Poll.{polled, polledRing}
-use Rattle.port.specs.Calls.{eventOf}
-use Rattle.session.specs.declared.reply.IsoEvent.{IsoEvent}
-use Rattle.session.specs.declared.types.IsoChannelState.{IsoChannelState}
-use Prim.Native.Nat.{ℕ}
 use mathlib.Core.List.{List}
 use mathlib.Core.Path.{_∙_, ap}
+use Prim.Native.Nat.{ℕ}
+use borrow.Author.Needs.{needs}
+use Rattle.session.specs.Poll.{polled, polledRing}
+use Rattle.session.specs.declared.reply.IsoEvent.{IsoEvent}
+use Rattle.session.specs.declared.types.IsoChannelState.{IsoChannelState}
+use Rattle.port.specs.Calls.{eventOf}
 use Rattle.port.proofs.Laws.Calls.{long-enough, refused, done, reply-refused, reply-done}
 use Rattle.port.proofs.calls.dwc2_iso_poll.Statement.{statement}
 use Rattle.port.proofs.calls.dwc2_iso_poll.Tie as tie

@@ -1,16 +1,15 @@
-use borrow.Author.Needs.{needs}
-use Rattle.port.specs.Calls.{eventOf}
-use Rattle.session.specs.declared.reply.IsoEvent.{IsoEvent}
-use Rattle.session.specs.declared.types.IsoChannelState.{IsoChannelState}
-use lib.ListN.{length}
-use Prim.Native.Nat.{ℕ}
 use mathlib.Core.List.{List}
 use mathlib.Core.Path.{_∙_, ap}
-use Rattle.port.specs.Calls.{reclaimRefused, reclaimedPort}
-use Rattle.port.specs.Layout.{saved}
+use Prim.Native.Nat.{ℕ}
+use lib.ListN.{length}
+use lib.Seq.{sets}
+use borrow.Author.Needs.{needs}
+use Rattle.session.specs.declared.reply.IsoEvent.{IsoEvent}
+use Rattle.session.specs.declared.types.IsoChannelState.{IsoChannelState}
 use Rattle.session.specs.Reclaim.{reclaimed, reclaimedRing, reclaimedResults}
 use Rattle.session.specs.declared.reply.Reclaimed.{Reclaimed}
-use lib.Seq.{sets}
+use Rattle.port.specs.Calls.{eventOf, reclaimRefused, reclaimedPort}
+use Rattle.port.specs.Layout.{saved}
 use Rattle.port.proofs.Laws.Calls.{long-enough, refused, done}
 use Rattle.port.proofs.calls.dwc2_iso_reclaim.Statement.{statement}
 use Rattle.port.proofs.calls.dwc2_iso_reclaim.Tie as tie

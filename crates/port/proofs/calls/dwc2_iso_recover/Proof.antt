@@ -1,9 +1,9 @@
+use mathlib.Core.List.{List}
+use Prim.Native.Nat.{ℕ}
+use lib.ListN.{length}
 use borrow.Author.Needs.{needs}
 use Rattle.session.specs.Poll.{recovered, recoveredRing}
 use Rattle.session.specs.declared.types.IsoChannelState.{IsoChannelState}
-use lib.ListN.{length}
-use Prim.Native.Nat.{ℕ}
-use mathlib.Core.List.{List}
 use Rattle.port.proofs.Laws.Calls.{long-enough, refused, done, reply-refused, reply-done}
 use Rattle.port.proofs.calls.dwc2_iso_recover.Statement.{statement}
 use Rattle.port.proofs.calls.dwc2_iso_recover.Tie as tie

@@ -1,10 +1,10 @@
 -- The invariant: a bad entry is among those still to be looked at exactly if one is in the table. The measure is how many are left.
-use Rattle.port.proofs.Laws.Tables.{any-found, any-more, any-end}
-use Rattle.port.specs.Layout.{anyOf, isBadPlanBytes}
-use lib.ListN.{drop}
-use native.Mathlib.Omega.{arith}
-use Prim.Native.Nat.{_+_, _-_, _*_, _≤_}
 use mathlib.Core.Path.{_≡_, refl, _∙_}
+use Prim.Native.Nat.{_+_, _-_, _*_, _≤_}
+use native.Mathlib.Omega.{arith}
+use lib.ListN.{drop}
+use Rattle.port.specs.Layout.{anyOf, isBadPlanBytes}
+use Rattle.port.proofs.Laws.Tables.{any-found, any-more, any-end}
 use Rattle.port.proofs.load.any_bad_plan.Statement.{statement}
 use Rattle.port.proofs.load.any_bad_plan.Tie as tie
 

@@ -1,12 +1,12 @@
 -- The invariant: the entries still to be read, put into the table as it is now, give the goal. The measure is how many are left.
-use Rattle.port.proofs.Laws.Tables.{read-first, read-more, read-end}
-use Rattle.port.specs.Layout.{tableOf, requestOf}
+use mathlib.Core.Path.{_≡_, refl, _∙_, sym}
+use Prim.Native.Nat.{_+_, _-_, _*_, _≤_}
+use native.Mathlib.Omega.{arith}
 use lib.Seq.{sets}
 use lib.ListN.{length, drop, length-set, replicate, length-replicate}
 use Rattle.session.specs.Session.{blankRequest}
-use native.Mathlib.Omega.{arith}
-use Prim.Native.Nat.{_+_, _-_, _*_, _≤_}
-use mathlib.Core.Path.{_≡_, refl, _∙_, sym}
+use Rattle.port.specs.Layout.{tableOf, requestOf}
+use Rattle.port.proofs.Laws.Tables.{read-first, read-more, read-end}
 use Rattle.port.proofs.load.requests_at.Statement.{statement}
 use Rattle.port.proofs.load.requests_at.Tie as tie
 

@@ -1,7 +1,7 @@
+use mathlib.Core.Path.{_≡_, _∙_, sym}
+use lib.ListN.{length, length-map}
 use borrow.Author.Needs.{needs}
 use Rattle.port.proofs.Laws.Saved.{session-put}
-use lib.ListN.{length, length-map}
-use mathlib.Core.Path.{_≡_, _∙_, sym}
 use Rattle.port.proofs.save.save_session.Statement.{statement}
 use Rattle.port.proofs.save.save_session.Tie as tie
 

@@ -1,9 +1,9 @@
 -- Each tag that is tested for, and the last case where none of them is there.
-use borrow.Author.Needs.{needs}
-use Rattle.port.proofs.Laws.Tags.{last-fatal}
-use Rattle.port.specs.Tags.{fatalOf, tagged}
-use Prim.Native.Nat.{ℕ}
 use mathlib.Core.Path.{sym, ap}
+use Prim.Native.Nat.{ℕ}
+use borrow.Author.Needs.{needs}
+use Rattle.port.specs.Tags.{fatalOf, tagged}
+use Rattle.port.proofs.Laws.Tags.{last-fatal}
 use Rattle.port.proofs.tags.fatal_of.Statement.{statement}
 use Rattle.port.proofs.tags.fatal_of.Tie as tie
 

@@ -1,7 +1,7 @@
 -- The tag of each case.
+use mathlib.Core.Path.{sym, ap}
 use borrow.Author.Needs.{needs}
 use Rattle.port.specs.Tags.{fatalTagged}
-use mathlib.Core.Path.{sym, ap}
 use Rattle.port.proofs.tags.fatal_tagged.Statement.{statement}
 use Rattle.port.proofs.tags.fatal_tagged.Tie as tie
 

@@ -1,11 +1,11 @@
 -- Each tag that is tested for, and the last case where none of them is there.
-use borrow.Author.Needs.{needs}
-use Rattle.session.specs.declared.types.IsoOutcome.the-variants.{Fault}
-use Rattle.words.specs.declared.types.Dwc2TransferFault.{Dwc2TransferFault}
-use Rattle.port.specs.Tags.{outcomeOf, tagged}
-use borrow.Author.Tests.{ne-eqb}
-use Prim.Native.Nat.{ℕ}
 use mathlib.Core.Path.{sym, ap, _∙_}
+use Prim.Native.Nat.{ℕ}
+use borrow.Author.Needs.{needs}
+use borrow.Author.Tests.{ne-eqb}
+use Rattle.words.specs.declared.types.Dwc2TransferFault.{Dwc2TransferFault}
+use Rattle.session.specs.declared.types.IsoOutcome.the-variants.{Fault}
+use Rattle.port.specs.Tags.{outcomeOf, tagged}
 use Rattle.port.proofs.tags.outcome_of.Statement.{statement}
 use Rattle.port.proofs.tags.outcome_of.Tie as tie
 

@@ -1,8 +1,8 @@
 -- The tag of each case.
+use mathlib.Core.Path.{sym, ap, _∙_}
+use Prim.Native.Nat.{ℕ}
 use borrow.Author.Needs.{needs}
 use Rattle.port.specs.Tags.{reasonTagged, tagged}
-use Prim.Native.Nat.{ℕ}
-use mathlib.Core.Path.{sym, ap, _∙_}
 use Rattle.port.proofs.tags.reason_tagged.Statement.{statement}
 use Rattle.port.proofs.tags.reason_tagged.Tie as tie
 
