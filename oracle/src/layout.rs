@@ -1,0 +1,248 @@
+//! The bytes of a session, from the port's docs/LAYOUT.md, and the numbers of include/dwc2_port.h.
+
+use crate::model::{Behind, Entry, MAX_PACKETS, MAX_REQUESTS, Packet, Request, Session};
+use lifted::calls::*;
+
+pub const SESSION_BYTES: usize = 8_488;
+const REQUESTS_AT: usize = 40;
+const PLANS_AT: usize = 1_320;
+
+pub fn speed_number(speed: Speed) -> u8 {
+    match speed {
+        Speed::High => 0,
+        Speed::Full => 1,
+        Speed::Low => 2,
+    }
+}
+
+pub fn speed_named(number: u8) -> Option<Speed> {
+    [Speed::High, Speed::Full, Speed::Low].into_iter().find(|s| speed_number(*s) == number)
+}
+
+pub fn direction_number(direction: Direction) -> u8 {
+    u8::from(direction == Direction::In)
+}
+
+pub fn direction_named(number: u8) -> Option<Direction> {
+    match number {
+        0 => Some(Direction::Out),
+        1 => Some(Direction::In),
+        _ => None,
+    }
+}
+
+pub fn mode_number(mode: Mode) -> u8 {
+    u8::from(mode == Mode::Guarded)
+}
+
+pub fn mode_named(number: u8) -> Option<Mode> {
+    match number {
+        0 => Some(Mode::Compatible),
+        1 => Some(Mode::Guarded),
+        _ => None,
+    }
+}
+
+pub fn fault_number(fault: Fault) -> u8 {
+    match fault {
+        Fault::Ahb => 2,
+        Fault::Stall => 3,
+        Fault::Transaction => 7,
+        Fault::Babble => 8,
+        Fault::Overrun => 9,
+        Fault::Toggle => 10,
+    }
+}
+
+fn fault_named(number: u8) -> Option<Fault> {
+    [Fault::Ahb, Fault::Stall, Fault::Transaction, Fault::Babble, Fault::Overrun, Fault::Toggle]
+        .into_iter()
+        .find(|f| fault_number(*f) == number)
+}
+
+/// tag, fault, word
+pub fn failure_numbers(failure: Option<Failure>) -> (u8, u8, u32) {
+    match failure {
+        None => (0, 0, 0),
+        Some(Failure::Disconnected) => (1, 0, 0),
+        Some(Failure::Cancelled) => (2, 0, 0),
+        Some(Failure::Fault(fault, word)) => (3, fault_number(fault), word),
+        Some(Failure::UnexpectedHalt(word)) => (4, 0, word),
+    }
+}
+
+fn failure_named(tag: u8, fault: u8, word: u32) -> Option<Option<Failure>> {
+    match (tag, fault, word) {
+        (0, 0, 0) => Some(None),
+        (1, 0, 0) => Some(Some(Failure::Disconnected)),
+        (2, 0, 0) => Some(Some(Failure::Cancelled)),
+        (3, fault, word) => Some(Some(Failure::Fault(fault_named(fault)?, word))),
+        (4, 0, word) => Some(Some(Failure::UnexpectedHalt(word))),
+        _ => None,
+    }
+}
+
+fn reason_numbers(reason: Option<Reason>) -> (u8, u8, u32) {
+    match reason {
+        None => (0, 0, 0),
+        Some(Reason::Cancelled) => (1, 0, 0),
+        Some(Reason::Fault(fault, word)) => (2, fault_number(fault), word),
+    }
+}
+
+fn reason_named(tag: u8, fault: u8, word: u32) -> Option<Option<Reason>> {
+    match (tag, fault, word) {
+        (0, 0, 0) => Some(None),
+        (1, 0, 0) => Some(Some(Reason::Cancelled)),
+        (2, fault, word) => Some(Some(Reason::Fault(fault_named(fault)?, word))),
+        _ => None,
+    }
+}
+
+pub struct Bytes<'a>(pub &'a [u8]);
+
+impl Bytes<'_> {
+    pub fn u8(&self, at: usize) -> u8 {
+        self.0[at]
+    }
+    pub fn u16(&self, at: usize) -> u16 {
+        u16::from_le_bytes(self.0[at..at + 2].try_into().unwrap())
+    }
+    pub fn u32(&self, at: usize) -> u32 {
+        u32::from_le_bytes(self.0[at..at + 4].try_into().unwrap())
+    }
+    pub fn u64(&self, at: usize) -> u64 {
+        u64::from_le_bytes(self.0[at..at + 8].try_into().unwrap())
+    }
+}
+
+/// What bytes hold.
+pub enum Loaded {
+    Session(Session),
+    /// a record of the layout whose counts lie beyond their limits: each call refuses it
+    Beyond(Config),
+}
+
+/// Err: 17 or 18 of the bytes.
+pub fn load(bytes: &[u8]) -> Result<Loaded, u16> {
+    if bytes.len() < SESSION_BYTES {
+        return Err(17);
+    }
+    loaded(&Bytes(bytes)).ok_or(18)
+}
+
+fn loaded(b: &Bytes) -> Option<Loaded> {
+    if b.0[..3] != *b"DWS" || b.u16(3) != 1 {
+        return None;
+    }
+    let cfg = Config {
+        speed: speed_named(b.u8(5))?,
+        direction: direction_named(b.u8(6))?,
+        mode: mode_named(b.u8(7))?,
+        interval: b.u16(8),
+        max_packet_size: b.u16(10),
+        endpoint: b.u8(12),
+        device: b.u8(13),
+        mult: b.u8(14),
+        tiny: 0,
+    };
+    let live = match b.u8(15) {
+        0 => false,
+        1 => true,
+        _ => return None,
+    };
+    let reason = reason_named(b.u8(34), b.u8(35), b.u32(36))?;
+    let mut entries = Vec::with_capacity(MAX_REQUESTS);
+    for i in 0..MAX_REQUESTS {
+        let at = REQUESTS_AT + 20 * i;
+        let failure = failure_named(b.u8(at + 14), b.u8(at + 15), b.u32(at + 16))?;
+        entries.push(Entry { id: b.u64(at), total: b.u32(at + 8), packets: b.u16(at + 12), failure });
+    }
+    let mut packets = Vec::with_capacity(MAX_PACKETS);
+    for i in 0..MAX_PACKETS {
+        let at = PLANS_AT + 7 * i;
+        let error = match b.u8(at + 6) {
+            0 => false,
+            1 => true,
+            _ => return None,
+        };
+        packets.push(Packet { planned: b.u16(at), slot: b.u16(at + 2), actual: b.u16(at + 4), error });
+    }
+    let (done, count) = (usize::from(b.u16(30)), usize::from(b.u16(32)));
+    let used: usize = entries.iter().take(count).map(|e| usize::from(e.packets)).sum();
+    if done > count || count > MAX_REQUESTS || used > MAX_PACKETS {
+        return Some(Loaded::Beyond(cfg));
+    }
+    let mut at = 0;
+    let mut request = |e: &Entry| {
+        let own = packets[at..at + usize::from(e.packets)].to_vec();
+        at += own.len();
+        Request { id: e.id, total: e.total, failure: e.failure, packets: own }
+    };
+    let completed = entries[..done].iter().map(&mut request).collect();
+    let pending = entries[done..count].iter().map(&mut request).collect();
+    let behind = Behind { requests: entries[count..].to_vec(), packets: packets[used..].to_vec() };
+    Some(Loaded::Session(Session {
+        cfg,
+        next: b.u64(16),
+        live,
+        cursor: b.u16(28),
+        start: b.u32(24),
+        reason,
+        completed,
+        pending,
+        behind: Some(behind),
+    }))
+}
+
+/// The session's bytes. What stands behind the entries in use is blank where the session does not know it.
+pub fn save(s: &Session, bytes: &mut [u8]) {
+    let mut at = 0;
+    let mut put = |value: u64, width: usize| {
+        bytes[at..at + width].copy_from_slice(&value.to_le_bytes()[..width]);
+        at += width;
+    };
+    let cfg = &s.cfg;
+    for byte in b"DWS" {
+        put((*byte).into(), 1);
+    }
+    put(1, 2);
+    put(speed_number(cfg.speed).into(), 1);
+    put(direction_number(cfg.direction).into(), 1);
+    put(mode_number(cfg.mode).into(), 1);
+    put(cfg.interval.into(), 2);
+    put(cfg.max_packet_size.into(), 2);
+    put(cfg.endpoint.into(), 1);
+    put(cfg.device.into(), 1);
+    put(cfg.mult.into(), 1);
+    put(s.live.into(), 1);
+    put(s.next, 8);
+    put(s.start.into(), 4);
+    put(s.cursor.into(), 2);
+    put(s.completed.len() as u64, 2);
+    put((s.completed.len() + s.pending.len()) as u64, 2);
+    let (tag, fault, word) = reason_numbers(s.reason);
+    put(tag.into(), 1);
+    put(fault.into(), 1);
+    put(word.into(), 4);
+    let blank = Behind::default();
+    let behind = s.behind.as_ref().unwrap_or(&blank);
+    let all = || s.completed.iter().chain(&s.pending);
+    let used = all().map(|r| Entry { id: r.id, total: r.total, packets: r.packets.len() as u16, failure: r.failure });
+    for e in used.chain(behind.requests.iter().copied()).chain(std::iter::repeat(Entry::default())).take(MAX_REQUESTS) {
+        put(e.id, 8);
+        put(e.total.into(), 4);
+        put(e.packets.into(), 2);
+        let (tag, fault, word) = failure_numbers(e.failure);
+        put(tag.into(), 1);
+        put(fault.into(), 1);
+        put(word.into(), 4);
+    }
+    let used = all().flat_map(|r| r.packets.iter().copied());
+    for p in used.chain(behind.packets.iter().copied()).chain(std::iter::repeat(Packet::default())).take(MAX_PACKETS) {
+        put(p.planned.into(), 2);
+        put(p.slot.into(), 2);
+        put(p.actual.into(), 2);
+        put(p.error.into(), 1);
+    }
+}
