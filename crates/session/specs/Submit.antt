@@ -1,9 +1,8 @@
 -- Submission: document 01, "Submit", "Guarded mode" and "Refusal numbers". First where the packets go, then which way the call goes, then what it
 -- leaves.
-use mathlib.Core.Path.{_≡_}
 use mathlib.Core.Bool.{Bool, true, false, not, _||_, _&&_, cond}
 use mathlib.Core.List.{List, [], _∷_}
-use Prim.Native.Nat.{ℕ, suc, _+_, _-_, _*_, _≤_, _<_, max}
+use Prim.Native.Nat.{ℕ, suc, _+_, _-_, _*_, max}
 use lib.Dec.{eqb, ltb}
 use lib.ListN.{length, getD, set, take}
 use lib.Seq.{sets, slice}

@@ -1,5 +1,5 @@
 -- Each arm of `store_by` knows its way.
-use mathlib.Core.Path.{_≡_, _∙_, sym, ap, subst, subst⁻¹}
+use mathlib.Core.Path.{_≡_, _∙_, sym, ap, subst⁻¹}
 use Prim.Native.Nat.{ℕ, _+_, _≤_}
 use lib.Dec.{T}
 use lib.ListN.{length}

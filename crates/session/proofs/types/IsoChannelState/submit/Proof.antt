@@ -2,7 +2,7 @@
 -- adds. The invariant: only the plans change, and those still to be put, put into the table as it is now, give the goal; `slot` is the next
 -- packet's. The measure is how many packets are left.
 use mathlib.Core.Path.{_≡_, refl, _∙_, sym, ap, ap₂, subst⁻¹}
-use mathlib.Core.Logic.{_⊎_, inl, inr, ⊎-elim}
+use mathlib.Core.Logic.{inl, inr, ⊎-elim}
 use Prim.Native.Nat.{ℕ, _+_, _-_, _≤_, _<_}
 use native.Mathlib.Omega.{arith}
 use lib.Dec.{T}
