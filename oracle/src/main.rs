@@ -214,36 +214,50 @@ fn about_demand3(args: &Args) -> Result<(), String> {
     if missed > 0 { Err(format!("{missed} faults not caught")) } else { Ok(()) }
 }
 
-/// the comparison that sees a slip, and what it said
+/// the comparison that sees a slip, and what it said: short runs first, since they see most
 fn caught(slip: Slip, seed: u64) -> Option<(&'static str, String)> {
     let mut slipped = wire::Slipped { model: wire::Model::new(), slip };
-    let against_rust = against_rust(slip, seed);
-    against_rust
-        .or_else(|| off::session(seed, 200_000, &mut slipped).err().map(|e| ("model, session", e)))
-        .or_else(|| off::plans(seed, 40_000, false, &mut slipped).err().map(|e| ("model, plans", e)))
-        .or_else(|| off::sums(seed, false, &mut slipped).err().map(|e| ("model, sums", e)))
-        .or_else(|| {
-            set_slip(slip);
-            let found = demand3::small(3, 20_000, true).err();
-            set_slip(Slip::None);
-            found.map(|e| ("demand 3", e))
-        })
+    for (calls, plans) in [(10_000, 2_000), (400_000, 40_000)] {
+        let seen = against_rust(slip, seed, calls, plans)
+            .or_else(|| off::session(seed, calls, &mut slipped).err().map(|e| ("model, session", e)))
+            .or_else(|| off::plans(seed, plans, false, &mut slipped).err().map(|e| ("model, plans", e)))
+            .or_else(|| sums_against_rust(slip, seed))
+            .or_else(|| off::sums(seed, false, &mut slipped).err().map(|e| ("model, sums", e)))
+            .or_else(|| slipping(slip, || demand3::small(3, 20_000, true)).map(|e| ("demand 3", e)));
+        if seen.is_some() {
+            return seen;
+        }
+    }
+    None
 }
 
-#[cfg(lifted)]
-fn against_rust(slip: Slip, seed: u64) -> Option<(&'static str, String)> {
+/// what a check of the model says while the model slips
+fn slipping<T>(slip: Slip, check: impl FnOnce() -> Result<T, String>) -> Option<String> {
     set_slip(slip);
-    let found = diff_sums::sums(seed, false)
-        .err()
-        .map(|e| ("Rust, sums", e))
-        .or_else(|| diff_plan::plans(seed, 20_000).err().map(|e| ("Rust, plans", e)))
-        .or_else(|| diff::session(seed, 400_000, None).err().map(|e| ("Rust, session", e)));
+    let found = check().err();
     set_slip(Slip::None);
     found
 }
 
+#[cfg(lifted)]
+fn against_rust(slip: Slip, seed: u64, calls: u64, plans: u64) -> Option<(&'static str, String)> {
+    slipping(slip, || diff::session(seed, calls, None))
+        .map(|e| ("Rust, session", e))
+        .or_else(|| slipping(slip, || diff_plan::plans(seed, plans)).map(|e| ("Rust, plans", e)))
+}
+
+#[cfg(lifted)]
+fn sums_against_rust(slip: Slip, seed: u64) -> Option<(&'static str, String)> {
+    slipping(slip, || diff_sums::sums(seed, false)).map(|e| ("Rust, sums", e))
+}
+
 #[cfg(not(lifted))]
-fn against_rust(_slip: Slip, _seed: u64) -> Option<(&'static str, String)> {
+fn against_rust(_slip: Slip, _seed: u64, _calls: u64, _plans: u64) -> Option<(&'static str, String)> {
+    None
+}
+
+#[cfg(not(lifted))]
+fn sums_against_rust(_slip: Slip, _seed: u64) -> Option<(&'static str, String)> {
     None
 }
 
