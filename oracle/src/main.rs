@@ -31,7 +31,7 @@ oracle port [--seed S] [--calls N] [--plans N] [--whole] [--session-only] [--off
                                                              a driver of the port beside the model and the lifted Rust
 oracle demand3 [--seed S] [--cuts N] [--largest R]           demand 3 by brute force
 oracle worked                                                01's worked numbers P1 to P8, on both sides
-oracle differences                                           the list of differences, run on both sides
+oracle differences [-- DRIVER ARGS..]                        docs/DIFFERENCES.md, run on both sides, and by the port
 oracle slips [--seed S]                                      every small wrong change of the model is seen
 oracle serve [--slip NAME]                                   the model as a driver, on standard input and output
 ";
@@ -119,12 +119,15 @@ fn rust(_args: &Args) -> Result<(), String> {
 }
 
 #[cfg(lifted)]
-fn differences() -> Result<(), String> {
-    differences::run()
+fn differences(args: &Args) -> Result<(), String> {
+    if args.driver.is_empty() {
+        return differences::run(None);
+    }
+    differences::run(Some(&mut Pipe::start(&args.driver)?))
 }
 
 #[cfg(not(lifted))]
-fn differences() -> Result<(), String> {
+fn differences(_args: &Args) -> Result<(), String> {
     without_rust()
 }
 
@@ -211,6 +214,7 @@ fn about_demand3(args: &Args) -> Result<(), String> {
             println!("  request numbers used up twice: NOT CAUGHT");
         }
     }
+    println!("demand 3: {} cuts, no counterexample; {} faults, {missed} not caught", small.cuts + walk.cuts, faults.len() + 1);
     if missed > 0 { Err(format!("{missed} faults not caught")) } else { Ok(()) }
 }
 
@@ -306,7 +310,7 @@ fn main() -> ExitCode {
         }
         "demand3" => about_demand3(&args),
         "worked" => worked::run(),
-        "differences" => differences(),
+        "differences" => differences(&args),
         "slips" => all_slips(&args),
         "serve" => serve(args.slip),
         _ => {

@@ -172,5 +172,6 @@ pub fn run() -> Result<(), String> {
             println!("   model {ours:?}, Rust {rust:?}");
         }
     }
+    println!("01's worked numbers P1 to P8, {wrong} not as 01 has them");
     if wrong > 0 { Err(format!("{wrong} of 01's worked numbers differ")) } else { Ok(()) }
 }
