@@ -1,0 +1,84 @@
+//! A row of the table: one call on both sides, and its figures.
+
+use crate::probe::Probe;
+
+/// makes the state, makes the call under the probe, and answers what came of it as one number
+pub type Once = Box<dyn FnMut(&mut Probe) -> u64>;
+
+pub struct Row {
+    pub group: &'static str,
+    pub name: String,
+    /// none: the Rust has no such call
+    pub rust: Option<Once>,
+    pub port: Once,
+}
+
+/// First quartile, median, third quartile.
+#[derive(Clone, Copy)]
+pub struct Spread(pub [f64; 3]);
+
+impl Spread {
+    fn of(mut values: Vec<f64>) -> Spread {
+        values.sort_by(f64::total_cmp);
+        let at = |share: f64| values[((values.len() - 1) as f64 * share).round() as usize];
+        Spread([at(0.25), at(0.5), at(0.75)])
+    }
+
+    pub fn median(&self) -> f64 {
+        self.0[1]
+    }
+}
+
+pub struct Figures {
+    pub group: &'static str,
+    pub name: String,
+    /// nanoseconds a call
+    pub rust: Option<Spread>,
+    pub port: Spread,
+    /// port over Rust, sample by sample
+    pub ratio: Option<Spread>,
+}
+
+impl Row {
+    /// both sides must do the same
+    pub fn compare(&mut self) {
+        let mut probe = Probe::comparing();
+        if let Some(rust) = &mut self.rust {
+            assert_eq!(rust(&mut probe), (self.port)(&mut probe), "{}: the two sides differ", self.name);
+        }
+    }
+
+    /// `samples` of each side, turn by turn
+    pub fn measure(&mut self, probe: &mut Probe, samples: usize) -> Figures {
+        let (mut rusts, mut ports) = (Vec::new(), Vec::new());
+        for turn in 0..samples + 2 {
+            let rust = self.rust.as_mut().map(|once| probe.sample(once));
+            let port = probe.sample(&mut self.port);
+            // the first two warm up
+            if turn >= 2 {
+                rusts.extend(rust);
+                ports.push(port);
+            }
+        }
+        let ratios: Vec<f64> = rusts.iter().zip(&ports).map(|(rust, port)| port / rust).collect();
+        let spread = |values: Vec<f64>| (!values.is_empty()).then(|| Spread::of(values));
+        Figures { group: self.group, name: self.name.clone(), rust: spread(rusts), port: Spread::of(ports), ratio: spread(ratios) }
+    }
+
+    /// under callgrind: one call of each side, behind three that warm up, written under the name of the row
+    pub fn count(&mut self) {
+        let mut count = |side: &str, once: &mut Once| {
+            let mut warm = Probe::comparing();
+            for _ in 0..3 {
+                once(&mut warm);
+            }
+            let mut probe = Probe::counting();
+            once(&mut probe);
+            crate::callgrind::dump(&format!("{side}/{}/{}", probe.take_calls(), self.name));
+        };
+        if let Some(rust) = &mut self.rust {
+            count("rust", rust);
+        }
+        count("port", &mut self.port);
+    }
+}
