@@ -9,6 +9,7 @@ use lifted::host::hub::Speed;
 use lifted::rust_plan::{self, Planner, SMALL_ARRAY};
 use lifted::transfer::Direction;
 use lifted::{rust_session, rust_sums};
+use std::cell::{Cell, RefCell};
 use std::hint::black_box;
 
 const BASE: u64 = 0x1000_0000;
@@ -62,7 +63,7 @@ fn plan_row(descriptors: u64, direction: Direction) -> Row {
         let programs = plan.stages[..plan.count as usize].iter().flat_map(|s| [s.hcchar, s.hctsiz, s.dma_addr]);
         sum_of(array[..2 * descriptors as usize].iter().copied().chain(programs))
     });
-    Row { group: "plan", name: format!("plan {descriptors} {}", named(direction)), rust: Some(rust), port }
+    Row { name: format!("plan {descriptors} {}", named(direction)), rust: Some(rust), port }
 }
 
 /// the setup packet too, which the Rust makes with the plan
@@ -84,7 +85,7 @@ fn control_row(direction: Direction) -> Row {
         let programs = [plan.setup, plan.data, plan.status].into_iter().flat_map(|s| [s.hcchar, s.hctsiz, s.dma_addr]);
         if probe.compares() { sum_of(array[..6].iter().copied().chain(programs)) } else { 0 }
     });
-    Row { group: "plan", name: format!("plan control of 4,096 bytes {}", named(direction)), rust: Some(rust), port }
+    Row { name: format!("plan control of 4,096 bytes {}", named(direction)), rust: Some(rust), port }
 }
 
 /// the bytes that a stage of 256 descriptors moved
@@ -101,7 +102,7 @@ fn moved_row(direction: Direction) -> Row {
         // SAFETY: the array is lent with its count
         probe.call(|| unsafe { port::dwc2_stage_actual_length(black_box(stage), array.as_ptr(), array.len()) }).value.into()
     });
-    Row { group: "plan", name: format!("bytes moved by 256 {}", named(direction)), rust: Some(rust), port }
+    Row { name: format!("bytes moved by 256 {}", named(direction)), rust: Some(rust), port }
 }
 
 /// Numbers for a ring sum, on both sides.
@@ -144,7 +145,7 @@ fn many(call: impl Fn(&Input) -> u64 + 'static) -> Once {
 }
 
 fn sum(name: &str, rust: impl Fn(&Input) -> u64 + 'static, port: impl Fn(&Input) -> u64 + 'static) -> Row {
-    Row { group: "sums", name: name.into(), rust: Some(many(rust)), port: many(port) }
+    Row { name: name.into(), rust: Some(many(rust)), port: many(port) }
 }
 
 fn sums() -> Vec<Row> {
@@ -187,7 +188,16 @@ fn sums() -> Vec<Row> {
             |i| rust_sums::service_frames(i.frame, i.interval.into(), i.speed).len() as u64,
             |i| port::dwc2_iso_service_frames(i.frame, i.interval, i.number).count.into(),
         ),
+        request_numbers(),
     ]
+}
+
+/// each side draws on from 1
+fn request_numbers() -> Row {
+    let session = RefCell::new(rust_session::RustSession::open(ENDPOINT, DEVICE, MAX_PACKET_SIZE));
+    let number = Cell::new(1);
+    let drawn = move |_: &Input| number.replace(port::dwc2_next_request_id(number.get()));
+    sum("next request number", move |_| session.borrow_mut().draw(), drawn)
 }
 
 fn splits() -> Vec<Row> {

@@ -1,8 +1,9 @@
 //! What stands around a call: the machine's counter for a time, or callgrind's switch for instructions.
 //!
-//! A call is timed by itself, so that the state it starts from is made outside the timed stretch. The counter's own cost is measured
-//! by timing nothing and taken off. A call of a few nanoseconds is timed a thousand at a time.
+//! A call is timed by itself, so that the state it starts from is made outside the timed stretch. Before each call nothing is timed
+//! likewise, and the time of that is taken off. A ring sum, of a few nanoseconds, is timed a thousand calls at a time.
 
+use crate::copies;
 use std::hint::black_box;
 use std::time::{Duration, Instant};
 
@@ -13,15 +14,19 @@ enum Mode {
     Time,
     /// callgrind collects during the call
     Count,
+    /// the port's copies are counted
+    Copies,
 }
 
 pub struct Probe {
     mode: Mode,
     ticks: u64,
     calls: u64,
-    /// ticks of an empty stretch
-    empty: f64,
+    /// ticks of the empty stretches
+    empty: u64,
     per_ns: f64,
+    /// calls of memcpy and memset, and their bytes
+    copies: (u64, u64),
 }
 
 #[cfg(target_arch = "x86_64")]
@@ -53,28 +58,28 @@ fn ticks_per_ns() -> f64 {
 }
 
 impl Probe {
+    fn new(mode: Mode, per_ns: f64) -> Probe {
+        Probe { mode, ticks: 0, calls: 0, empty: 0, per_ns, copies: (0, 0) }
+    }
+
     pub fn clock() -> Probe {
-        let mut probe = Probe { mode: Mode::Time, ticks: 0, calls: 0, empty: 0.0, per_ns: ticks_per_ns() };
-        let mut trials: Vec<f64> = (0..101).map(|_| probe.sample(|p| p.call(|| black_box(0)))).collect();
-        trials.sort_by(f64::total_cmp);
-        probe.empty = trials[50] * probe.per_ns;
-        probe
+        Probe::new(Mode::Time, ticks_per_ns())
     }
 
     pub fn counting() -> Probe {
-        Probe { mode: Mode::Count, ticks: 0, calls: 0, empty: 0.0, per_ns: 1.0 }
+        Probe::new(Mode::Count, 1.0)
+    }
+
+    pub fn copying() -> Probe {
+        Probe::new(Mode::Copies, 1.0)
     }
 
     pub fn comparing() -> Probe {
-        Probe { mode: Mode::Compare, ticks: 0, calls: 0, empty: 0.0, per_ns: 1.0 }
+        Probe::new(Mode::Compare, 1.0)
     }
 
     pub fn compares(&self) -> bool {
         self.mode == Mode::Compare
-    }
-
-    pub fn empty_ns(&self) -> f64 {
-        self.empty / self.per_ns
     }
 
     #[inline(always)]
@@ -89,9 +94,11 @@ impl Probe {
         match self.mode {
             Mode::Compare => act(),
             Mode::Time => {
+                let before = counter();
                 let start = counter();
                 let answer = black_box(act());
                 self.ticks += counter() - start;
+                self.empty += start - before;
                 answer
             }
             Mode::Count => {
@@ -100,22 +107,38 @@ impl Probe {
                 crate::callgrind::toggle();
                 answer
             }
+            Mode::Copies => {
+                let before = copies::so_far();
+                let answer = black_box(act());
+                let behind = copies::so_far();
+                self.copies = (behind.0 - before.0, behind.1 - before.1);
+                answer
+            }
         }
     }
 
     /// one sample: repetitions for at least 20 µs and 16 times; nanoseconds a call
     pub fn sample<T>(&mut self, mut once: impl FnMut(&mut Probe) -> T) -> f64 {
-        (self.ticks, self.calls) = (0, 0);
-        let (mut stretches, enough) = (0u64, (20_000.0 * self.per_ns) as u64);
-        while self.ticks < enough || stretches < 16 {
+        (self.ticks, self.empty, self.calls) = (0, 0, 0);
+        let (mut stretches, enough) = (0, (20_000.0 * self.per_ns) as u64);
+        while self.ticks < self.empty + enough || stretches < 16 {
             black_box(once(self));
             stretches += 1;
+            // a call of no time at all
+            if stretches == 4_096 {
+                break;
+            }
         }
-        (self.ticks as f64 - stretches as f64 * self.empty).max(0.0) / self.per_ns / self.calls as f64
+        self.ticks.saturating_sub(self.empty) as f64 / self.per_ns / self.calls as f64
     }
 
-    /// the calls of the last stretch, for dividing a count
-    pub fn take_calls(&mut self) -> u64 {
-        std::mem::take(&mut self.calls)
+    /// the calls so far, for dividing a count
+    pub fn calls(&self) -> u64 {
+        self.calls
+    }
+
+    /// calls of memcpy and memset in the last stretch, and their bytes
+    pub fn copies(&self) -> (u64, u64) {
+        self.copies
     }
 }

@@ -6,7 +6,6 @@ use crate::probe::Probe;
 pub type Once = Box<dyn FnMut(&mut Probe) -> u64>;
 
 pub struct Row {
-    pub group: &'static str,
     pub name: String,
     /// none: the Rust has no such call
     pub rust: Option<Once>,
@@ -30,7 +29,6 @@ impl Spread {
 }
 
 pub struct Figures {
-    pub group: &'static str,
     pub name: String,
     /// nanoseconds a call
     pub rust: Option<Spread>,
@@ -62,23 +60,31 @@ impl Row {
         }
         let ratios: Vec<f64> = rusts.iter().zip(&ports).map(|(rust, port)| port / rust).collect();
         let spread = |values: Vec<f64>| (!values.is_empty()).then(|| Spread::of(values));
-        Figures { group: self.group, name: self.name.clone(), rust: spread(rusts), port: Spread::of(ports), ratio: spread(ratios) }
+        Figures { name: self.name.clone(), rust: spread(rusts), port: Spread::of(ports), ratio: spread(ratios) }
     }
 
     /// under callgrind: one call of each side, behind three that warm up, written under the name of the row
     pub fn count(&mut self) {
-        let mut count = |side: &str, once: &mut Once| {
+        let count = |side: &str, once: &mut Once| {
             let mut warm = Probe::comparing();
             for _ in 0..3 {
                 once(&mut warm);
             }
             let mut probe = Probe::counting();
             once(&mut probe);
-            crate::callgrind::dump(&format!("{side}/{}/{}", probe.take_calls(), self.name));
+            crate::callgrind::dump(&format!("{side}/{}/{}", probe.calls(), self.name));
         };
         if let Some(rust) = &mut self.rust {
             count("rust", rust);
         }
         count("port", &mut self.port);
+    }
+
+    /// what one call of the port copies: calls of memcpy and memset, and bytes
+    pub fn print_copies(&mut self) {
+        let mut probe = Probe::copying();
+        (self.port)(&mut probe);
+        let (calls, bytes) = probe.copies();
+        println!("{}\t{calls}\t{bytes}", self.name);
     }
 }

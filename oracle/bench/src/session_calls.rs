@@ -98,7 +98,7 @@ fn port_once(probe: &mut Probe, s: &mut PortSession, timed: Timed) -> u64 {
     if probe.compares() { outcome(&answers, &s.ring[..], s.counts()) } else { 0 }
 }
 
-pub fn row(group: &'static str, name: String, steps: Vec<Step>, timed: Timed) -> Row {
+pub fn row(name: String, steps: Vec<Step>, timed: Timed) -> Row {
     let start = port_after(&steps);
     let mut work = start.clone();
     let port: Once = Box::new(move |probe| {
@@ -107,5 +107,5 @@ pub fn row(group: &'static str, name: String, steps: Vec<Step>, timed: Timed) ->
     });
     let alone = matches!(timed, Timed::Open | Timed::Check | Timed::Recover);
     let rust: Option<Once> = (!alone).then(|| Box::new(move |probe: &mut Probe| rust_once(probe, &steps, timed)) as Once);
-    Row { group, name, rust, port }
+    Row { name, rust, port }
 }

@@ -36,15 +36,15 @@ fn served(packets: usize, others: usize) -> Vec<Step> {
 fn settles(requests: usize, packets: usize) -> Row {
     let mut steps = vec![Step::Submit(packets); requests];
     steps.push(Step::Serve(0, requests * packets));
-    row("poll", format!("poll, settles {requests} of {packets} packets"), steps, Timed::Poll(COMPLETE))
+    row(format!("poll, settles {requests} of {packets} packets"), steps, Timed::Poll(COMPLETE))
 }
 
 fn submissions(rows: &mut Vec<Row>) {
-    rows.push(row("submit", "submit 8, starts the channel".into(), vec![], Timed::Submit(8)));
+    rows.push(row("submit 8, starts the channel".into(), vec![], Timed::Submit(8)));
     for others in [0, 3, 31] {
         for packets in [1, 8, 64, CAPACITY] {
             let packets = packets.min(CAPACITY - others);
-            rows.push(row("submit", format!("submit {packets}, {others} pending"), pending(others), Timed::Submit(packets)));
+            rows.push(row(format!("submit {packets}, {others} pending"), pending(others), Timed::Submit(packets)));
         }
     }
 }
@@ -54,7 +54,7 @@ fn reclaims(rows: &mut Vec<Row>) {
         for packets in [1, 8, 64, CAPACITY] {
             let packets = packets.min(CAPACITY - others);
             let name = format!("reclaim {packets}, {others} pending");
-            rows.push(row("reclaim", name, served(packets, others), Timed::Reclaim(1, COMPLETE)));
+            rows.push(row(name, served(packets, others), Timed::Reclaim(1, COMPLETE)));
         }
     }
 }
@@ -64,19 +64,19 @@ pub fn rows() -> Vec<Row> {
     submissions(&mut rows);
     reclaims(&mut rows);
     for others in [0, 3, 31] {
-        rows.push(row("poll", format!("poll, no event, {others} pending"), pending(others), Timed::Poll(None)));
-        rows.push(row("poll", format!("poll, none served, {others} pending"), pending(others), Timed::Poll(Some(0))));
+        rows.push(row(format!("poll, no event, {others} pending"), pending(others), Timed::Poll(None)));
+        rows.push(row(format!("poll, none served, {others} pending"), pending(others), Timed::Poll(Some(0))));
     }
     rows.extend([settles(1, 1), settles(1, 8), settles(8, 1), settles(8, 8)]);
     for others in [0usize, 3, 31] {
-        rows.push(row("cancel", format!("cancel, {others} others pending"), pending(others + 1), Timed::Cancel(others as u64 + 1)));
+        rows.push(row(format!("cancel, {others} others pending"), pending(others + 1), Timed::Cancel(others as u64 + 1)));
     }
-    rows.push(row("cancel", "cancel, completed".into(), completed(1), Timed::Cancel(1)));
-    rows.push(row("bytes", "reset, idle".into(), vec![], Timed::Reset));
-    rows.push(row("bytes", "check, idle".into(), vec![], Timed::Check));
-    rows.push(row("bytes", "check, 31 pending".into(), pending(31), Timed::Check));
-    rows.push(row("bytes", "open".into(), vec![], Timed::Open));
-    rows.push(row("bytes", "recover, 31 pending".into(), pending(31), Timed::Recover));
+    rows.push(row("cancel, completed".into(), completed(1), Timed::Cancel(1)));
+    rows.push(row("reset, idle".into(), vec![], Timed::Reset));
+    rows.push(row("check, idle".into(), vec![], Timed::Check));
+    rows.push(row("check, 31 pending".into(), pending(31), Timed::Check));
+    rows.push(row("open".into(), vec![], Timed::Open));
+    rows.push(row("recover, 31 pending".into(), pending(31), Timed::Recover));
     rows
 }
 
@@ -91,7 +91,7 @@ pub struct Curve {
 fn curve(plot: &'static str, name: &'static str, along: &[usize], point: impl Fn(usize) -> (Vec<Step>, Timed)) -> Curve {
     let at = |x: usize| {
         let (steps, timed) = point(x);
-        (x, row(plot, format!("{name}, {x} {plot}"), steps, timed))
+        (x, row(format!("{name}, {x} {plot}"), steps, timed))
     };
     Curve { plot, name, points: along.iter().map(|x| at(*x)).collect() }
 }
