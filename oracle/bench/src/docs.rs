@@ -33,7 +33,8 @@ fn ratio(r: &Spread) -> String {
 }
 
 fn table(figures: &[Figures]) -> String {
-    let mut out = String::from("| Call | Rust ns | quartiles | port ns | quartiles | port / Rust | quartiles |\n|---|--:|--:|--:|--:|--:|--:|\n");
+    let mut out =
+        String::from("| Call | Rust ns | quartiles | port ns | quartiles | port / Rust | quartiles |\n|---|--:|--:|--:|--:|--:|--:|\n");
     for f in figures {
         let rust = f.rust.as_ref().map_or("– | –".into(), spread);
         let over = f.ratio.as_ref().map_or("– | –".into(), ratio);
@@ -44,7 +45,8 @@ fn table(figures: &[Figures]) -> String {
 
 /// instructions a call, and where the port's lie
 fn instructions(figures: &[Figures], counts: &Counts) -> String {
-    let mut out = String::from("| Call | Rust | port | port / Rust | byte tests | load | record check | save | copies | the call itself |\n");
+    let mut out =
+        String::from("| Call | Rust | port | port / Rust | byte tests | load | record check | save | copies | the call itself |\n");
     out.push_str("|---|--:|--:|--:|--:|--:|--:|--:|--:|--:|\n");
     for f in figures {
         let Some(port) = counts.of("port", &f.name) else { continue };
@@ -92,7 +94,9 @@ fn rust_ns(f: &Figures) -> f64 {
 }
 
 fn growth(curves: &[Measured], counts: &Counts) -> String {
-    let mut out = String::from("| Against | Call | Rust: at none, ns | one more, ns | instr. | port: at none, ns | one more, ns | instr. at none | instr. |\n");
+    let mut out = String::from(
+        "| Against | Call | Rust: at none, ns | one more, ns | instr. | port: at none, ns | one more, ns | instr. at none | instr. |\n",
+    );
     out.push_str("|---|---|--:|--:|--:|--:|--:|--:|--:|\n");
     for c in curves {
         let told = |side: &'static str| move |f: &Figures| counts.of(side, &f.name).map_or(0.0, |p: &Parts| p.total);
@@ -100,7 +104,15 @@ fn growth(curves: &[Measured], counts: &Counts) -> String {
         let (rust_told, port_told) = (slope(&times(c, told("rust"))), slope(&times(c, told("port"))));
         out.push_str(&format!(
             "| {} | {} | {:.1} | {:.2} | {:.1} | {} | {:.2} | {} | {:.1} |\n",
-            c.plot, c.name, rust.1, rust.0, rust_told.0, time(port.1), port.0, whole(port_told.1), port_told.0
+            c.plot,
+            c.name,
+            rust.1,
+            rust.0,
+            rust_told.0,
+            time(port.1),
+            port.0,
+            whole(port_told.1),
+            port_told.0
         ));
     }
     out
@@ -109,12 +121,14 @@ fn growth(curves: &[Measured], counts: &Counts) -> String {
 fn plots(folder: &Path, figures: &[Figures], curves: &[Measured]) {
     let write = |name: &str, text: String| fs::write(folder.join(format!("speed-{name}.svg")), text).expect("a plot is written");
     let told = |f: &Figures| Some((f.name.clone(), f.ratio.as_ref()?.median()));
-    write("ratios", svg::bars("Time of the port over time of the Rust, each call (1 is the Rust; powers of ten)", &figures.iter().filter_map(told).collect::<Vec<_>>()));
-    let axes = [
-        ("packets", "packets in the request"),
-        ("pending", "requests pending"),
-        ("completed", "completed requests waiting"),
-    ];
+    write(
+        "ratios",
+        svg::bars(
+            "Time of the port over time of the Rust, each call (1 is the Rust; powers of ten)",
+            &figures.iter().filter_map(told).collect::<Vec<_>>(),
+        ),
+    );
+    let axes = [("packets", "packets in the request"), ("pending", "requests pending"), ("completed", "completed requests waiting")];
     for (plot, along) in axes {
         let own: Vec<&Measured> = curves.iter().filter(|c| c.plot == plot).collect();
         let lines = |side: fn(&Figures) -> f64| -> Vec<svg::Line> {

@@ -38,14 +38,18 @@ fn spin(rows: &mut [Row], name: &str, seconds: u64) {
     }
 }
 
-fn measure(rows: &mut [Row], curves: Vec<Curve>, samples: usize) -> (Vec<Figures>, Vec<Measured>) {
-    let mut probe = Probe::clock();
-    let figures = rows.iter_mut().map(|row| row.measure(&mut probe, samples)).collect();
-    let mut measured = |c: Curve| {
-        let points = c.points.into_iter().map(|(x, mut row)| (x, row.measure(&mut probe, samples))).collect();
+fn measure(rows: &mut [Row], curves: &mut [Curve], turns: usize) -> (Vec<Figures>, Vec<Measured>) {
+    let points = curves.iter_mut().flat_map(|c| c.points.iter_mut().map(|(_, row)| row));
+    let count = rows.len();
+    let mut all: Vec<&mut Row> = rows.iter_mut().chain(points).collect();
+    let mut figures = rows::measure(&mut all, turns);
+    let mut behind = figures.split_off(count).into_iter();
+    let mut measured = |c: &Curve| {
+        let points = c.points.iter().map(|(x, _)| *x).zip(behind.by_ref()).collect();
         Measured { plot: c.plot, name: c.name, points }
     };
-    (figures, curves.into_iter().map(&mut measured).collect())
+    let measured = curves.iter().map(&mut measured).collect();
+    (figures, measured)
 }
 
 fn main() {
@@ -70,7 +74,7 @@ fn main() {
     }
     let samples = after("--samples", 1).map_or(41, |n| n.parse().expect("a number of samples"));
     println!("{samples} samples of each side, turn by turn: median (first to third quartile)");
-    let (figures, measured) = measure(&mut rows, curves, samples);
+    let (figures, measured) = measure(&mut rows, &mut curves, samples);
     print!("{}", table::text(&figures, &measured));
     if let (Some(folder), Some(counted)) = (after("--docs", 1), after("--docs", 2)) {
         docs::write(Path::new(&folder), Path::new(&counted), &figures, &measured);

@@ -9,7 +9,6 @@ use lifted::host::hub::Speed;
 use lifted::rust_plan::{self, Planner, SMALL_ARRAY};
 use lifted::transfer::Direction;
 use lifted::{rust_session, rust_sums};
-use std::cell::{Cell, RefCell};
 use std::hint::black_box;
 
 const BASE: u64 = 0x1000_0000;
@@ -137,14 +136,14 @@ fn inputs() -> Vec<Input> {
 }
 
 /// a thousand calls in one timed stretch, over the same inputs
-fn many(call: impl Fn(&Input) -> u64 + 'static) -> Once {
+fn many(mut call: impl FnMut(&Input) -> u64 + 'static) -> Once {
     let inputs = inputs();
     Box::new(move |probe| {
         probe.calls_of(CALLS as u64, || (0..CALLS).fold(0, |sum: u64, i| sum.wrapping_mul(31).wrapping_add(call(&inputs[i % INPUTS]))))
     })
 }
 
-fn sum(name: &str, rust: impl Fn(&Input) -> u64 + 'static, port: impl Fn(&Input) -> u64 + 'static) -> Row {
+fn sum(name: &str, rust: impl FnMut(&Input) -> u64 + 'static, port: impl FnMut(&Input) -> u64 + 'static) -> Row {
     Row { name: name.into(), rust: Some(many(rust)), port: many(port) }
 }
 
@@ -168,6 +167,11 @@ fn sums() -> Vec<Row> {
             |i| rust_sums::desc_idx(i.speed, i.frame) as u64,
             |i| port::dwc2_frame_to_desc_idx(i.number, i.frame).value.into(),
         ),
+    ]
+}
+
+fn sums_of_rings() -> Vec<Row> {
+    vec![
         sum(
             "advance_along_grid",
             |i| rust_sums::along_grid(i.a.into(), i.b.into(), i.interval.into(), 256) as u64,
@@ -194,10 +198,29 @@ fn sums() -> Vec<Row> {
 
 /// each side draws on from 1
 fn request_numbers() -> Row {
-    let session = RefCell::new(rust_session::RustSession::open(ENDPOINT, DEVICE, MAX_PACKET_SIZE));
-    let number = Cell::new(1);
-    let drawn = move |_: &Input| number.replace(port::dwc2_next_request_id(number.get()));
-    sum("next request number", move |_| session.borrow_mut().draw(), drawn)
+    let mut session = rust_session::RustSession::open(ENDPOINT, DEVICE, MAX_PACKET_SIZE);
+    let mut next = 1;
+    let drawn = move |_: &Input| {
+        let id = next;
+        next = port::dwc2_next_request_id(id);
+        id
+    };
+    sum("next request number", move |_| session.draw(), drawn)
+}
+
+/// the answer is looked at, and no byte of it moved: what the caller does with the eight bytes is its own
+fn setup_packets() -> Row {
+    let setup = rust_plan::SETUP;
+    let told = |i: &Input| (i.direction, u8::from(i.direction == Direction::In), u64::from(i.a));
+    let rust = move |i: &Input| {
+        black_box(rust_plan::setup_bytes(black_box(&setup), told(i).0, told(i).2 as usize));
+        0
+    };
+    let port = move |i: &Input| {
+        black_box(port::dwc2_setup_packet_bytes(0, 0, told(i).1, 6, 0x100, 0, told(i).2));
+        0
+    };
+    sum("setup_packet_bytes", rust, port)
 }
 
 fn splits() -> Vec<Row> {
@@ -209,14 +232,7 @@ fn splits() -> Vec<Row> {
             move |i| rust_plan::split(len(i) as usize, i.a).len() as u64,
             move |i| port::dwc2_split_dma_lengths(len(i), i.a).count,
         ),
-        sum(
-            "setup_packet_bytes",
-            |i| u64::from_le_bytes(rust_plan::setup_bytes(i.direction, i.a.into())),
-            |i| {
-                let way = u8::from(i.direction == Direction::In);
-                u64::from_le_bytes(port::dwc2_setup_packet_bytes(0, 0, way, 6, 0x100, 0, i.a.into()).bytes)
-            },
-        ),
+        setup_packets(),
     ]
 }
 
@@ -228,5 +244,6 @@ pub fn rows() -> Vec<Row> {
     rows.extend([control_row(Direction::In), control_row(Direction::Out), moved_row(Direction::In), moved_row(Direction::Out)]);
     rows.extend(splits());
     rows.extend(sums());
+    rows.extend(sums_of_rings());
     rows
 }

@@ -146,18 +146,48 @@ pub struct SetupPacket {
 // SAFETY of every call: the arrays are lent with their true counts, aligned, apart from one another
 unsafe extern "C" {
     pub fn dwc2_iso_open(
-        session: *mut u8, session_len: usize, ring: *mut u32, ring_words: usize, speed: u8, direction: u8, mode: u8, interval: u16,
-        max_packet_size: u16, endpoint: u8, device: u8, mult: u8,
+        session: *mut u8,
+        session_len: usize,
+        ring: *mut u32,
+        ring_words: usize,
+        speed: u8,
+        direction: u8,
+        mode: u8,
+        interval: u16,
+        max_packet_size: u16,
+        endpoint: u8,
+        device: u8,
+        mult: u8,
     ) -> u32;
     pub fn dwc2_iso_submit(
-        session: *mut u8, session_len: usize, ring: *mut u32, ring_words: usize, lengths: *const u32, packets: usize, transfer: Transfer,
+        session: *mut u8,
+        session_len: usize,
+        ring: *mut u32,
+        ring_words: usize,
+        lengths: *const u32,
+        packets: usize,
+        transfer: Transfer,
     ) -> Submitted;
     pub fn dwc2_iso_poll(
-        session: *mut u8, session_len: usize, ring: *mut u32, ring_words: usize, reported: u32, unplugged: u32, hcint: u32,
+        session: *mut u8,
+        session_len: usize,
+        ring: *mut u32,
+        ring_words: usize,
+        reported: u32,
+        unplugged: u32,
+        hcint: u32,
     ) -> Reply;
     pub fn dwc2_iso_reclaim(
-        session: *mut u8, session_len: usize, ring: *mut u32, ring_words: usize, results: *mut u64, results_len: usize, id: u64,
-        reported: u32, unplugged: u32, hcint: u32,
+        session: *mut u8,
+        session_len: usize,
+        ring: *mut u32,
+        ring_words: usize,
+        results: *mut u64,
+        results_len: usize,
+        id: u64,
+        reported: u32,
+        unplugged: u32,
+        hcint: u32,
     ) -> Reclaimed;
     pub fn dwc2_iso_cancel(session: *mut u8, session_len: usize, id: u64) -> Reply;
     pub fn dwc2_iso_reset(session: *mut u8, session_len: usize) -> Reply;
@@ -166,8 +196,15 @@ unsafe extern "C" {
     pub fn dwc2_data_stages(request: DataRequest, array: *mut u32, array_words: usize) -> DataPlan;
     pub fn dwc2_build_control_plan(request: ControlRequest, array: *mut u32, array_words: usize) -> ControlPlan;
     pub fn dwc2_stage_actual_length(stage: Stage, array: *const u32, array_words: usize) -> Number;
-    pub safe fn dwc2_setup_packet_bytes(kind: u8, recipient: u8, direction: u8, request: u8, value: u16, index: u16, len: u64)
-    -> SetupPacket;
+    pub safe fn dwc2_setup_packet_bytes(
+        kind: u8,
+        recipient: u8,
+        direction: u8,
+        request: u8,
+        value: u16,
+        index: u16,
+        len: u64,
+    ) -> SetupPacket;
     pub safe fn dwc2_split_dma_lengths(len: u64, max_packet_size: u16) -> Split;
     pub safe fn dwc2_packet_count(len: u64, max_packet_size: u16) -> u64;
     pub safe fn dwc2_iso_ring_size(speed: u8) -> Number;

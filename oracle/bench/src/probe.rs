@@ -117,8 +117,11 @@ impl Probe {
         }
     }
 
-    /// one sample: repetitions for at least 20 µs and 16 times; nanoseconds a call
+    /// one sample: two repetitions to warm up, then for at least 20 µs and 16 times; nanoseconds a call
     pub fn sample<T>(&mut self, mut once: impl FnMut(&mut Probe) -> T) -> f64 {
+        for _ in 0..2 {
+            black_box(once(self));
+        }
         (self.ticks, self.empty, self.calls) = (0, 0, 0);
         let (mut stretches, enough) = (0, (20_000.0 * self.per_ns) as u64);
         while self.ticks < self.empty + enough || stretches < 16 {

@@ -46,23 +46,6 @@ impl Row {
         }
     }
 
-    /// `samples` of each side, turn by turn
-    pub fn measure(&mut self, probe: &mut Probe, samples: usize) -> Figures {
-        let (mut rusts, mut ports) = (Vec::new(), Vec::new());
-        for turn in 0..samples + 2 {
-            let rust = self.rust.as_mut().map(|once| probe.sample(once));
-            let port = probe.sample(&mut self.port);
-            // the first two warm up
-            if turn >= 2 {
-                rusts.extend(rust);
-                ports.push(port);
-            }
-        }
-        let ratios: Vec<f64> = rusts.iter().zip(&ports).map(|(rust, port)| port / rust).collect();
-        let spread = |values: Vec<f64>| (!values.is_empty()).then(|| Spread::of(values));
-        Figures { name: self.name.clone(), rust: spread(rusts), port: Spread::of(ports), ratio: spread(ratios) }
-    }
-
     /// under callgrind: one call of each side, behind three that warm up, written under the name of the row
     pub fn count(&mut self) {
         let count = |side: &str, once: &mut Once| {
@@ -87,4 +70,26 @@ impl Row {
         let (calls, bytes) = probe.copies();
         println!("{}\t{calls}\t{bytes}", self.name);
     }
+}
+
+/// The samples of a row: the Rust's and the port's.
+type Samples = (Vec<f64>, Vec<f64>);
+
+fn figures(row: &Row, (rusts, ports): Samples) -> Figures {
+    let ratios: Vec<f64> = rusts.iter().zip(&ports).map(|(rust, port)| port / rust).collect();
+    let spread = |values: Vec<f64>| (!values.is_empty()).then(|| Spread::of(values));
+    Figures { name: row.name.clone(), rust: spread(rusts), port: Spread::of(ports), ratio: spread(ratios) }
+}
+
+/// `turns` over all the rows; in each turn one sample of both sides of each row, so that what else the machine does falls on all alike
+pub fn measure(rows: &mut [&mut Row], turns: usize) -> Vec<Figures> {
+    let mut probe = Probe::clock();
+    let mut samples: Vec<Samples> = rows.iter().map(|_| Samples::default()).collect();
+    for _ in 0..turns {
+        for (row, (rusts, ports)) in rows.iter_mut().zip(&mut samples) {
+            rusts.extend(row.rust.as_mut().map(|once| probe.sample(once)));
+            ports.push(probe.sample(&mut row.port));
+        }
+    }
+    rows.iter().zip(samples).map(|(row, samples)| figures(row, samples)).collect()
 }

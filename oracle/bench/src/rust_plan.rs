@@ -86,6 +86,6 @@ pub fn split(len: usize, packet: u16) -> Vec<usize> {
 }
 
 #[inline(never)]
-pub fn setup_bytes(direction: Direction, len: usize) -> [u8; 8] {
-    access::setup_bytes(&SETUP, direction, len)
+pub fn setup_bytes(setup: &ControlSetup, direction: Direction, len: usize) -> [u8; 8] {
+    access::setup_bytes(setup, direction, len)
 }

@@ -74,8 +74,8 @@ fn rust_once(probe: &mut Probe, steps: &[Step], timed: Timed) -> u64 {
 fn port_once(probe: &mut Probe, s: &mut PortSession, timed: Timed) -> u64 {
     let answers = match timed {
         Timed::Submit(n) => {
-            let submitted = probe.call(|| s.submit(&LENGTHS[..black_box(n)], sides::transfer(n)));
-            vec![submitted.value]
+            let (lengths, transfer) = (&LENGTHS[..n], sides::transfer(n));
+            vec![probe.call(|| s.submit(black_box(lengths), transfer)).value]
         }
         Timed::Poll(event) => vec![probe.call(|| s.poll(black_box(event))).halt.into()],
         Timed::Reclaim(id, event) => {

@@ -65,7 +65,8 @@ fn panel(body: &mut String, left: f64, title: &str, along: &str, lines: &[Line])
     let (width, top, bottom) = (320.0, 60.0, 300.0);
     let all = || lines.iter().flat_map(|l| l.points.iter());
     let most = ceiling(all().map(|p| p.1).fold(1.0, f64::max));
-    let far = all().map(|p| p.0).fold(1.0, f64::max);
+    // to a multiple of 64, so that the marks below are whole
+    let far = (all().map(|p| p.0).fold(1.0, f64::max) / 64.0).ceil() * 64.0;
     let place = |p: &(f64, f64)| (left + width * p.0 / far, bottom - (bottom - top) * p.1 / most);
     text(body, left, top - 14.0, "start", title);
     for part in 0..=4 {
