@@ -12,6 +12,7 @@ mod counts;
 mod docs;
 mod other_rows;
 mod port;
+mod port_arm;
 mod probe;
 mod rows;
 mod session_calls;

@@ -159,15 +159,6 @@ unsafe extern "C" {
         device: u8,
         mult: u8,
     ) -> u32;
-    pub fn dwc2_iso_submit(
-        session: *mut u8,
-        session_len: usize,
-        ring: *mut u32,
-        ring_words: usize,
-        lengths: *const u32,
-        packets: usize,
-        transfer: Transfer,
-    ) -> Submitted;
     pub fn dwc2_iso_poll(
         session: *mut u8,
         session_len: usize,
@@ -193,9 +184,6 @@ unsafe extern "C" {
     pub fn dwc2_iso_reset(session: *mut u8, session_len: usize) -> Reply;
     pub fn dwc2_iso_recover(session: *mut u8, session_len: usize, ring: *mut u32, ring_words: usize) -> Reply;
     pub fn dwc2_iso_check(session: *const u8, session_len: usize) -> u32;
-    pub fn dwc2_data_stages(request: DataRequest, array: *mut u32, array_words: usize) -> DataPlan;
-    pub fn dwc2_build_control_plan(request: ControlRequest, array: *mut u32, array_words: usize) -> ControlPlan;
-    pub fn dwc2_stage_actual_length(stage: Stage, array: *const u32, array_words: usize) -> Number;
     pub safe fn dwc2_setup_packet_bytes(
         kind: u8,
         recipient: u8,
@@ -219,3 +207,29 @@ unsafe extern "C" {
     pub safe fn dwc2_next_request_id(id: u64) -> u64;
     pub safe fn dwc2_iso_service_frames(start_full_frame: u32, interval: u16, speed: u8) -> ServiceFrames;
 }
+
+#[cfg(not(target_arch = "aarch64"))]
+pub use by_value::*;
+
+#[cfg(not(target_arch = "aarch64"))]
+mod by_value {
+    use super::*;
+
+    unsafe extern "C" {
+        pub fn dwc2_iso_submit(
+            session: *mut u8,
+            session_len: usize,
+            ring: *mut u32,
+            ring_words: usize,
+            lengths: *const u32,
+            packets: usize,
+            transfer: Transfer,
+        ) -> Submitted;
+        pub fn dwc2_data_stages(request: DataRequest, array: *mut u32, array_words: usize) -> DataPlan;
+        pub fn dwc2_build_control_plan(request: ControlRequest, array: *mut u32, array_words: usize) -> ControlPlan;
+        pub fn dwc2_stage_actual_length(stage: Stage, array: *const u32, array_words: usize) -> Number;
+    }
+}
+
+#[cfg(target_arch = "aarch64")]
+pub use crate::port_arm::*;
