@@ -1,14 +1,24 @@
 // Reads iso.rs and non_iso.rs as they stand and writes each, byte for byte, with one `mod` line behind it, by which
 // src/access_*.rs reaches the private items. The folder is DWC2_RUST_SRC, or ../../shared/docs/src beside the repository.
-use std::{env, fs, path::PathBuf};
+use std::{
+    env, fs,
+    path::{Path, PathBuf},
+};
 
 const FILES: [&str; 2] = ["iso", "non_iso"];
 
+// dead where the benchmark's build script takes `lift` from here
+#[allow(dead_code)]
 fn main() {
+    let here = PathBuf::from(env::var("CARGO_MANIFEST_DIR").unwrap());
+    println!("cargo::rerun-if-changed=build.rs");
+    lift(&here, &here.join("src"));
+}
+
+/// `here` is the folder of this file, `access` that of the two access files.
+pub fn lift(here: &Path, access: &Path) {
     println!("cargo::rustc-check-cfg=cfg(lifted)");
     println!("cargo::rerun-if-env-changed=DWC2_RUST_SRC");
-    println!("cargo::rerun-if-changed=build.rs");
-    let here = PathBuf::from(env::var("CARGO_MANIFEST_DIR").unwrap());
     let out = PathBuf::from(env::var("OUT_DIR").unwrap());
     let root = match env::var("DWC2_RUST_SRC") {
         Ok(folder) => PathBuf::from(folder),
@@ -31,7 +41,7 @@ fn main() {
     let mut consts = String::new();
     for (file, bytes) in FILES.iter().zip(&texts) {
         let mut lifted = bytes.clone();
-        let access = here.join(format!("src/access_{file}.rs"));
+        let access = access.join(format!("access_{file}.rs"));
         lifted.extend_from_slice(format!("\n#[path = {access:?}]\npub(crate) mod access;\n").as_bytes());
         let path = out.join(format!("{file}.rs"));
         fs::write(&path, lifted).unwrap();

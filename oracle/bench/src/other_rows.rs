@@ -1,0 +1,249 @@
+//! The rows of planning and of the ring sums.
+
+use crate::port::{self, ARRAY_WORDS};
+use crate::probe::Probe;
+use crate::rows::{Once, Row};
+use lifted::descriptor::EndpointType;
+use lifted::endpoint::TransferRequest;
+use lifted::host::hub::Speed;
+use lifted::rust_plan::{self, Planner, SMALL_ARRAY};
+use lifted::transfer::Direction;
+use lifted::{rust_session, rust_sums};
+use std::hint::black_box;
+
+const BASE: u64 = 0x1000_0000;
+/// bytes of one descriptor at packets of 512
+const CHUNK: u64 = 130_560;
+const MAX_PACKET_SIZE: u16 = 512;
+const DEVICE: u8 = 5;
+const ENDPOINT: u8 = 2;
+
+fn sum_of(words: impl Iterator<Item = u32>) -> u64 {
+    words.fold(0xcbf2_9ce4_8422_2325, |sum, word| (sum ^ u64::from(word)).wrapping_mul(0x100_0000_01b3))
+}
+
+fn rust_plan_once(probe: &mut Probe, planner: &mut Planner, request: TransferRequest) -> u64 {
+    rust_session::set_board(0, BASE, None);
+    let lease = planner.lease();
+    // what was planned is dropped behind the timed stretch: the Rust frees it when the transfer ends
+    let planned = probe.call(|| planner.plan(lease, black_box(request)));
+    if !probe.compares() {
+        return 0;
+    }
+    sum_of(planned.words().into_iter().chain(planned.programs().into_iter().flatten()))
+}
+
+fn data_request(direction: Direction, len: u64) -> port::DataRequest {
+    let direction = u8::from(direction == Direction::In);
+    let (max_packet_size, device, endpoint) = (MAX_PACKET_SIZE, DEVICE, ENDPOINT);
+    port::DataRequest { base: BASE, len, max_packet_size, kind: 2, direction, port_speed: 0, device, endpoint, odd_frame: 0, toggle: 0 }
+}
+
+fn data_stages(request: port::DataRequest, array: &mut [u32]) -> port::DataPlan {
+    // SAFETY: the array is lent with its count
+    unsafe { port::dwc2_data_stages(request, array.as_mut_ptr(), array.len()) }
+}
+
+fn named(direction: Direction) -> &'static str {
+    if direction == Direction::In { "IN" } else { "OUT" }
+}
+
+fn plan_row(descriptors: u64, direction: Direction) -> Row {
+    let len = descriptors * CHUNK;
+    let address = ENDPOINT | u8::from(direction == Direction::In) << 7;
+    let mut planner = Planner::new(EndpointType::Bulk, address, DEVICE, MAX_PACKET_SIZE);
+    let rust: Once = Box::new(move |probe| rust_plan_once(probe, &mut planner, rust_plan::bulk(direction, len)));
+    let mut array = vec![0; ARRAY_WORDS];
+    let port: Once = Box::new(move |probe| {
+        let plan = probe.call(|| data_stages(black_box(data_request(direction, len)), &mut array));
+        if !probe.compares() {
+            return 0;
+        }
+        let programs = plan.stages[..plan.count as usize].iter().flat_map(|s| [s.hcchar, s.hctsiz, s.dma_addr]);
+        sum_of(array[..2 * descriptors as usize].iter().copied().chain(programs))
+    });
+    Row { name: format!("plan {descriptors} {}", named(direction)), rust: Some(rust), port }
+}
+
+/// the setup packet too, which the Rust makes with the plan
+fn control_row(direction: Direction) -> Row {
+    let (len, packet) = (4_096, 64);
+    let mut planner = Planner::new(EndpointType::Control, 0, DEVICE, packet);
+    let rust: Once = Box::new(move |probe| rust_plan_once(probe, &mut planner, rust_plan::control(direction, len)));
+    let mut array = vec![0; ARRAY_WORDS];
+    let port: Once = Box::new(move |probe| {
+        let way = u8::from(direction == Direction::In);
+        let (setup_dma, status_dma) = (SMALL_ARRAY, SMALL_ARRAY);
+        let request =
+            port::ControlRequest { len, setup_dma, data_dma: BASE, status_dma, max_packet_size: packet, direction: way, device: DEVICE };
+        let plan = probe.call(|| {
+            black_box(port::dwc2_setup_packet_bytes(0, 0, way, 6, 0x100, 0, len));
+            // SAFETY: the array is lent with its count
+            unsafe { port::dwc2_build_control_plan(black_box(request), array.as_mut_ptr(), array.len()) }
+        });
+        let programs = [plan.setup, plan.data, plan.status].into_iter().flat_map(|s| [s.hcchar, s.hctsiz, s.dma_addr]);
+        if probe.compares() { sum_of(array[..6].iter().copied().chain(programs)) } else { 0 }
+    });
+    Row { name: format!("plan control of 4,096 bytes {}", named(direction)), rust: Some(rust), port }
+}
+
+/// the bytes that a stage of 256 descriptors moved
+fn moved_row(direction: Direction) -> Row {
+    let len = 256 * CHUNK;
+    let address = ENDPOINT | u8::from(direction == Direction::In) << 7;
+    let mut planner = Planner::new(EndpointType::Bulk, address, DEVICE, MAX_PACKET_SIZE);
+    rust_session::set_board(0, BASE, None);
+    let planned = planner.plan(planner.lease(), rust_plan::bulk(direction, len));
+    let rust: Once = Box::new(move |probe| probe.call(|| planned.moved(black_box(0))) as u64);
+    let mut array = vec![0; ARRAY_WORDS];
+    let stage = data_stages(data_request(direction, len), &mut array).stages[0];
+    let port: Once = Box::new(move |probe| {
+        // SAFETY: the array is lent with its count
+        probe.call(|| unsafe { port::dwc2_stage_actual_length(black_box(stage), array.as_ptr(), array.len()) }).value.into()
+    });
+    Row { name: format!("bytes moved by 256 {}", named(direction)), rust: Some(rust), port }
+}
+
+/// Numbers for a ring sum, on both sides.
+#[derive(Clone, Copy)]
+struct Input {
+    speed: Speed,
+    number: u8,
+    direction: Direction,
+    mult: u8,
+    interval: u16,
+    a: u16,
+    b: u16,
+    frame: u32,
+}
+
+const INPUTS: usize = 256;
+const CALLS: usize = 1_024;
+
+fn inputs() -> Vec<Input> {
+    let mut state = 1u64;
+    let mut draw = |below: u64| {
+        state = state.wrapping_mul(0x5851_f42d_4c95_7f2d).wrapping_add(0x1405_7b7e_f767_814f);
+        (state >> 33) % below
+    };
+    let input = |_| {
+        let (speed, number) = [(Speed::High, 0), (Speed::Full, 1)][draw(2) as usize];
+        let direction = [Direction::Out, Direction::In][draw(2) as usize];
+        let (mult, interval) = (1 + draw(3) as u8, 1 + draw(256) as u16);
+        Input { speed, number, direction, mult, interval, a: draw(256) as u16, b: draw(256) as u16, frame: draw(1 << 14) as u32 }
+    };
+    (0..INPUTS).map(input).collect()
+}
+
+/// a thousand calls in one timed stretch, over the same inputs
+fn many(mut call: impl FnMut(&Input) -> u64 + 'static) -> Once {
+    let inputs = inputs();
+    Box::new(move |probe| {
+        probe.calls_of(CALLS as u64, || (0..CALLS).fold(0, |sum: u64, i| sum.wrapping_mul(31).wrapping_add(call(&inputs[i % INPUTS]))))
+    })
+}
+
+fn sum(name: &str, rust: impl FnMut(&Input) -> u64 + 'static, port: impl FnMut(&Input) -> u64 + 'static) -> Row {
+    Row { name: name.into(), rust: Some(many(rust)), port: many(port) }
+}
+
+fn sums() -> Vec<Row> {
+    vec![
+        sum("iso_ring_size", |i| rust_sums::ring_size(i.speed) as u64, |i| port::dwc2_iso_ring_size(i.number).value.into()),
+        sum("iso_max_xfer_size", |i| rust_sums::max_xfer_size(i.speed) as u64, |i| port::dwc2_iso_max_xfer_size(i.number).value.into()),
+        sum("gcd", |i| rust_sums::gcd(i.a.into(), i.b.into()) as u64, |i| port::dwc2_gcd(i.a, i.b).into()),
+        sum(
+            "iso_max_packets",
+            |i| rust_sums::max_packets(i.interval.into(), i.speed) as u64,
+            |i| port::dwc2_iso_max_packets(i.interval, i.number).value.into(),
+        ),
+        sum(
+            "iso_starting_frame",
+            |i| rust_sums::starting_frame(i.frame, i.speed).into(),
+            |i| port::dwc2_iso_starting_frame(i.frame, i.number).value.into(),
+        ),
+        sum(
+            "frame_to_desc_idx",
+            |i| rust_sums::desc_idx(i.speed, i.frame) as u64,
+            |i| port::dwc2_frame_to_desc_idx(i.number, i.frame).value.into(),
+        ),
+    ]
+}
+
+fn sums_of_rings() -> Vec<Row> {
+    vec![
+        sum(
+            "advance_along_grid",
+            |i| rust_sums::along_grid(i.a.into(), i.b.into(), i.interval.into(), 256) as u64,
+            |i| port::dwc2_advance_along_grid(i.a, i.b, i.interval, 256).into(),
+        ),
+        sum(
+            "iso_schinfo",
+            |i| rust_sums::schinfo(i.speed, i.interval.into()).into(),
+            |i| port::dwc2_iso_schinfo(i.number, i.interval).value.into(),
+        ),
+        sum(
+            "iso_pid",
+            |i| rust_sums::pid(i.speed, i.direction, i.mult).number().into(),
+            |i| port::dwc2_iso_pid(i.number, u8::from(i.direction == Direction::In), i.mult).value.into(),
+        ),
+        sum(
+            "iso_service_frames",
+            |i| rust_sums::service_frames(i.frame, i.interval.into(), i.speed).len() as u64,
+            |i| port::dwc2_iso_service_frames(i.frame, i.interval, i.number).count.into(),
+        ),
+        request_numbers(),
+    ]
+}
+
+/// each side draws on from 1
+fn request_numbers() -> Row {
+    let mut session = rust_session::RustSession::open(ENDPOINT, DEVICE, MAX_PACKET_SIZE);
+    let mut next = 1;
+    let drawn = move |_: &Input| {
+        let id = next;
+        next = port::dwc2_next_request_id(id);
+        id
+    };
+    sum("next request number", move |_| session.draw(), drawn)
+}
+
+/// the answer is looked at, and no byte of it moved: what the caller does with the eight bytes is its own
+fn setup_packets() -> Row {
+    let setup = rust_plan::SETUP;
+    let told = |i: &Input| (i.direction, u8::from(i.direction == Direction::In), u64::from(i.a));
+    let rust = move |i: &Input| {
+        black_box(rust_plan::setup_bytes(black_box(&setup), told(i).0, told(i).2 as usize));
+        0
+    };
+    let port = move |i: &Input| {
+        black_box(port::dwc2_setup_packet_bytes(0, 0, told(i).1, 6, 0x100, 0, told(i).2));
+        0
+    };
+    sum("setup_packet_bytes", rust, port)
+}
+
+fn splits() -> Vec<Row> {
+    let len = |i: &Input| u64::from(i.frame) << 8;
+    vec![
+        sum("packet_count", move |i| rust_plan::packets(len(i) as usize, i.a).into(), move |i| port::dwc2_packet_count(len(i), i.a)),
+        sum(
+            "split_dma_lengths",
+            move |i| rust_plan::split(len(i) as usize, i.a).len() as u64,
+            move |i| port::dwc2_split_dma_lengths(len(i), i.a).count,
+        ),
+        setup_packets(),
+    ]
+}
+
+pub fn rows() -> Vec<Row> {
+    let mut rows = Vec::new();
+    for descriptors in [1, 256, 1_024] {
+        rows.extend([plan_row(descriptors, Direction::In), plan_row(descriptors, Direction::Out)]);
+    }
+    rows.extend([control_row(Direction::In), control_row(Direction::Out), moved_row(Direction::In), moved_row(Direction::Out)]);
+    rows.extend(splits());
+    rows.extend(sums());
+    rows.extend(sums_of_rings());
+    rows
+}
