@@ -46,19 +46,25 @@ pub fn lift(here: &Path, access: &Path) {
         let path = out.join(format!("{file}.rs"));
         fs::write(&path, lifted).unwrap();
         mods.push_str(&format!("#[path = {path:?}]\npub(crate) mod {file};\n"));
-        // where an error with a text is made: which one it is is told by its line
-        let lines: Vec<usize> =
-            String::from_utf8_lossy(bytes).lines().enumerate().filter(|(_, line)| line.contains("anyhow!(")).map(|(i, _)| i + 1).collect();
-        let name = file.to_uppercase();
-        let count = bytes.iter().filter(|b| **b == b'\n').count();
-        let sum = bytes.iter().fold(0xcbf2_9ce4_8422_2325u64, |h, b| (h ^ u64::from(*b)).wrapping_mul(0x100_0000_01b3));
-        if *file == "iso" {
-            consts.push_str(&format!("pub const {name}_ERRORS: &[u32] = &{lines:?};\n"));
-        }
-        consts
-            .push_str(&format!("pub const {name}_SOURCE: &str = \"{file}.rs: {} bytes, {count} lines, fnv64 {sum:016x}\";\n", bytes.len()));
+        consts.push_str(&consts_of(file, bytes));
     }
     fs::write(out.join("channel_mods.rs"), mods).unwrap();
     fs::write(out.join("source_consts.rs"), consts).unwrap();
     println!("cargo::rustc-cfg=lifted");
+}
+
+/// what the crate knows of a file: which file it is, and the lines where iso.rs makes an error with a text, by which that error is told
+fn consts_of(file: &str, bytes: &[u8]) -> String {
+    let mut consts = String::new();
+    let name = file.to_uppercase();
+    if file == "iso" {
+        let text = String::from_utf8_lossy(bytes);
+        let lines: Vec<usize> = text.lines().enumerate().filter(|(_, line)| line.contains("anyhow!(")).map(|(i, _)| i + 1).collect();
+        consts.push_str(&format!("pub const {name}_ERRORS: &[u32] = &{lines:?};\n"));
+    }
+    let count = bytes.iter().filter(|b| **b == b'\n').count();
+    let sum = bytes.iter().fold(0xcbf2_9ce4_8422_2325u64, |h, b| (h ^ u64::from(*b)).wrapping_mul(0x100_0000_01b3));
+    let len = bytes.len();
+    consts.push_str(&format!("pub const {name}_SOURCE: &str = \"{file}.rs: {len} bytes, {count} lines, fnv64 {sum:016x}\";\n"));
+    consts
 }

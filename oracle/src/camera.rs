@@ -107,6 +107,19 @@ impl Drop for Camera {
     }
 }
 
+/// what a first submission left in the registers
+fn started() -> Start {
+    with_board(|b| {
+        assert_eq!(b.hcsplt, Some(0));
+        Start {
+            hcchar: b.hcchar.expect("an enabled channel"),
+            hctsiz: b.hctsiz.expect("a programmed channel"),
+            hcintmsk: b.hcintmsk.expect("a programmed channel"),
+            frames: b.frames.as_ref().expect("a frame list").iter().map(|f| *f as u8).collect(),
+        }
+    })
+}
+
 impl Camera {
     pub fn open(cfg: &Config) -> Camera {
         let info = EndpointInfo {
@@ -178,17 +191,7 @@ impl Camera {
             Err(error) => refusal_of(&error, ending),
         };
         let accepted = matches!(answer, Answer::Accepted(_));
-        let start = (first && accepted).then(|| {
-            with_board(|b| {
-                assert_eq!(b.hcsplt, Some(0));
-                Start {
-                    hcchar: b.hcchar.expect("an enabled channel"),
-                    hctsiz: b.hctsiz.expect("a programmed channel"),
-                    hcintmsk: b.hcintmsk.expect("a programmed channel"),
-                    frames: b.frames.as_ref().expect("a frame list").iter().map(|f| *f as u8).collect(),
-                }
-            })
-        });
+        let start = (first && accepted).then(started);
         if accepted {
             with_board(|b| assert!(b.readings.is_empty() && b.gates.is_empty(), "all readings and gates are used"));
         }

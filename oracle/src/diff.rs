@@ -180,6 +180,18 @@ impl Tally {
     }
 }
 
+/// a run that differs, shrunk and in words
+fn told(cfg: &Config, next: u64, made: Vec<(Call, bool)>) -> String {
+    let short = shrink(cfg, next, made);
+    let (_, difference) = replay(cfg, next, &short).expect("a shrunk run differs");
+    let mut text = format!("{cfg:?}, next number {next}\n");
+    for (i, (call, connected)) in short.iter().enumerate() {
+        text.push_str(&format!("  {i}: {call:?}{}\n", if *connected { "" } else { " (not connected)" }));
+    }
+    text.push_str(&format!("  -> {difference}"));
+    text
+}
+
 /// One random session; a difference comes back shrunk and in words.
 fn one(rng: &mut Rng, tally: &mut Tally, third: Option<&mut dyn Party>) -> Result<(), String> {
     let cfg = config(rng);
@@ -209,16 +221,7 @@ fn one(rng: &mut Rng, tally: &mut Tally, third: Option<&mut dyn Party>) -> Resul
                     on_domain.push(call.clone());
                 }
             }
-            Some(Err(_)) => {
-                let short = shrink(&cfg, next, made);
-                let (_, difference) = replay(&cfg, next, &short).expect("a shrunk run differs");
-                let mut text = format!("{cfg:?}, next number {next}\n");
-                for (i, (call, connected)) in short.iter().enumerate() {
-                    text.push_str(&format!("  {i}: {call:?}{}\n", if *connected { "" } else { " (not connected)" }));
-                }
-                text.push_str(&format!("  -> {difference}"));
-                return Err(text);
-            }
+            Some(Err(_)) => return Err(told(&cfg, next, made)),
         }
     }
     tally.set += u64::from(set_by_hand);

@@ -43,32 +43,60 @@ impl Sums {
         }
         Ok(())
     }
+
+    /// the sums of a speed: the few by direction and mult, every interval, and frame lists
+    fn speed(&mut self, speed: Speed) -> Result<(), String> {
+        self.same(|| format!("ring_size({speed:?})"), model::ring_size(speed), rust::ring_size(speed))?;
+        self.same(|| format!("packet_limit({speed:?})"), model::packet_limit(speed), rust::packet_limit(speed))?;
+        for direction in [Direction::Out, Direction::In] {
+            for mult in 0..=255 {
+                let pids = (model::pid(speed, direction, mult), rust::pid(speed, direction, mult));
+                self.same(|| format!("pid({speed:?}, {direction:?}, {mult})"), pids.0, pids.1)?;
+            }
+        }
+        for interval in 0..=65_535 {
+            self.interval(interval, speed)?;
+        }
+        for interval in 0..600 {
+            for start in 0..64 {
+                let frames = (model::service_frames(start, interval, speed), rust::service_frames(start, interval, speed));
+                self.same(|| format!("service_frames({start}, {interval}, {speed:?})"), frames.0, frames.1)?;
+            }
+        }
+        Ok(())
+    }
+
+    fn grids(&mut self, whole: bool) -> Result<(), String> {
+        for (ring, step) in [(64u16, 1), (256, if whole { 1 } else { 5 })] {
+            for interval in 0..=ring + 2 {
+                for c in (0..ring).step_by(step) {
+                    for t in (0..ring).step_by(step) {
+                        self.grid(c, t, interval, ring)?;
+                    }
+                }
+            }
+        }
+        Ok(())
+    }
+
+    fn drawn(&mut self, next: u64) -> Result<(), String> {
+        self.same(|| format!("drawn({next})"), (next, model::next_number(next)), rust::drawn(next))
+    }
+
+    fn random(&mut self, rng: &mut Rng) -> Result<(), String> {
+        let ring = 1 + rng.below(65_535) as u16;
+        self.grid(rng.word() as u16, rng.word() as u16, rng.word() as u16, ring)?;
+        let (a, b) = (rng.word() as u16 >> rng.below(16), rng.word() as u16 >> rng.below(16));
+        self.same(|| format!("gcd({a}, {b})"), model::gcd(a.into(), b.into()) as u32, rust::gcd(a, b))?;
+        self.drawn(rng.next() >> rng.below(64))
+    }
 }
 
 pub fn sums(seed: u64, whole: bool) -> Result<u64, String> {
     let mut s = Sums { compared: 0 };
     let mut rng = Rng::new(seed);
     for speed in SPEEDS {
-        s.same(|| format!("ring_size({speed:?})"), model::ring_size(speed), rust::ring_size(speed))?;
-        s.same(|| format!("packet_limit({speed:?})"), model::packet_limit(speed), rust::packet_limit(speed))?;
-        for direction in [Direction::Out, Direction::In] {
-            for mult in 0..=255 {
-                s.same(
-                    || format!("pid({speed:?}, {direction:?}, {mult})"),
-                    model::pid(speed, direction, mult),
-                    rust::pid(speed, direction, mult),
-                )?;
-            }
-        }
-        for interval in 0..=65_535 {
-            s.interval(interval, speed)?;
-        }
-        for interval in 0..600 {
-            for start in 0..64 {
-                let frames = (model::service_frames(start, interval, speed), rust::service_frames(start, interval, speed));
-                s.same(|| format!("service_frames({start}, {interval}, {speed:?})"), frames.0, frames.1)?;
-            }
-        }
+        s.speed(speed)?;
     }
     let dense = if whole { 1 << 22 } else { 1 << 18 };
     for raw in 0..dense {
@@ -76,26 +104,13 @@ pub fn sums(seed: u64, whole: bool) -> Result<u64, String> {
         s.frame(u32::MAX - raw)?;
         s.frame(rng.word())?;
     }
-    for (ring, step) in [(64u16, 1), (256, if whole { 1 } else { 5 })] {
-        for interval in 0..=ring + 2 {
-            for c in (0..ring).step_by(step) {
-                for t in (0..ring).step_by(step) {
-                    s.grid(c, t, interval, ring)?;
-                }
-            }
-        }
-    }
+    s.grids(whole)?;
     for _ in 0..dense {
-        let ring = 1 + rng.below(65_535) as u16;
-        s.grid(rng.word() as u16, rng.word() as u16, rng.word() as u16, ring)?;
-        let (a, b) = (rng.word() as u16 >> rng.below(16), rng.word() as u16 >> rng.below(16));
-        s.same(|| format!("gcd({a}, {b})"), model::gcd(a.into(), b.into()) as u32, rust::gcd(a, b))?;
-        let next = rng.next() >> rng.below(64);
-        s.same(|| format!("drawn({next})"), (next, model::next_number(next)), rust::drawn(next))?;
+        s.random(&mut rng)?;
     }
     s.same(|| "gcd(0, 0)".into(), model::gcd(0, 0) as u32, rust::gcd(0, 0))?;
     for next in [0, 1, u64::MAX - 1, u64::MAX] {
-        s.same(|| format!("drawn({next})"), (next, model::next_number(next)), rust::drawn(next))?;
+        s.drawn(next)?;
     }
     Ok(s.compared)
 }

@@ -139,41 +139,55 @@ impl Source {
         lengths
     }
 
-    fn submit(&mut self, rng: &mut Rng, s: &Session) -> Call {
-        let lengths = self.lengths(rng, s);
-        let sum: u64 = lengths.iter().map(|l| u64::from(*l)).sum();
+    /// where a buffer of `sum` bytes begins: up to the last address that fits, off the domain beyond it
+    fn base(&mut self, rng: &mut Rng, sum: u64) -> u64 {
         let top = 4_294_967_295u64.saturating_sub(sum);
-        let mut base = match rng.below(8) {
+        let base = match rng.below(8) {
             0 => 0,
             1 => top,
             _ => u64::from(rng.word()).min(top),
         };
-        if self.off && self.seldom(rng, 16) {
-            base = match rng.below(4) {
-                0 => top + 1,
-                1 => rng.next(),
-                2 => u64::MAX,
-                _ => 4_294_967_295,
-            };
+        if !self.off || !self.seldom(rng, 16) {
+            return base;
         }
-        let mut buffer_len = sum.min(u64::from(u32::MAX)) as u32;
-        if self.seldom(rng, 24) {
-            buffer_len = match rng.below(3) {
-                0 => buffer_len.wrapping_add(1),
-                1 => buffer_len.wrapping_sub(1),
-                _ => rng.word(),
-            };
+        match rng.below(4) {
+            0 => top + 1,
+            1 => rng.next(),
+            2 => u64::MAX,
+            _ => 4_294_967_295,
         }
-        let two_n = 2 * lengths.len() as u32;
-        let words = if self.off && self.seldom(rng, 6) {
-            match rng.below(4) {
-                0 => 0,
-                1 => two_n.saturating_sub(1),
-                _ => rng.below(u64::from(two_n) + 1) as u32,
-            }
-        } else {
-            rng.pick(&[two_n, two_n + 1, u32::MAX])
-        };
+    }
+
+    fn buffer_len(&mut self, rng: &mut Rng, sum: u64) -> u32 {
+        let whole = sum.min(u64::from(u32::MAX)) as u32;
+        if !self.seldom(rng, 24) {
+            return whole;
+        }
+        match rng.below(3) {
+            0 => whole.wrapping_add(1),
+            1 => whole.wrapping_sub(1),
+            _ => rng.word(),
+        }
+    }
+
+    /// how many words are stored before a cut; with `two_n` or more there is none
+    fn words(&mut self, rng: &mut Rng, two_n: u32) -> u32 {
+        if !self.off || !self.seldom(rng, 6) {
+            return rng.pick(&[two_n, two_n + 1, u32::MAX]);
+        }
+        match rng.below(4) {
+            0 => 0,
+            1 => two_n.saturating_sub(1),
+            _ => rng.below(u64::from(two_n) + 1) as u32,
+        }
+    }
+
+    fn submit(&mut self, rng: &mut Rng, s: &Session) -> Call {
+        let lengths = self.lengths(rng, s);
+        let sum: u64 = lengths.iter().map(|l| u64::from(*l)).sum();
+        let base = self.base(rng, sum);
+        let buffer_len = self.buffer_len(rng, sum);
+        let words = self.words(rng, 2 * lengths.len() as u32);
         let transfer = Transfer {
             isochronous: !self.seldom(rng, 40),
             has_buffer: !self.seldom(rng, 40),

@@ -131,11 +131,16 @@ pub fn load(bytes: &[u8]) -> Result<Loaded, u16> {
     loaded(&Bytes(bytes)).ok_or(18)
 }
 
-fn loaded(b: &Bytes) -> Option<Loaded> {
-    if b.0[..3] != *b"DWS" || b.u16(3) != 1 {
-        return None;
+fn flag_named(n: u8) -> Option<bool> {
+    match n {
+        0 => Some(false),
+        1 => Some(true),
+        _ => None,
     }
-    let cfg = Config {
+}
+
+fn config_of(b: &Bytes) -> Option<Config> {
+    Some(Config {
         speed: speed_named(b.u8(5))?,
         direction: direction_named(b.u8(6))?,
         mode: mode_named(b.u8(7))?,
@@ -145,29 +150,27 @@ fn loaded(b: &Bytes) -> Option<Loaded> {
         device: b.u8(13),
         mult: b.u8(14),
         tiny: 0,
-    };
-    let live = match b.u8(15) {
-        0 => false,
-        1 => true,
-        _ => return None,
-    };
+    })
+}
+
+fn entry_of(b: &Bytes, at: usize) -> Option<Entry> {
+    let failure = failure_named(b.u8(at + 14), b.u8(at + 15), b.u32(at + 16))?;
+    Some(Entry { id: b.u64(at), total: b.u32(at + 8), packets: b.u16(at + 12), failure })
+}
+
+fn packet_of(b: &Bytes, at: usize) -> Option<Packet> {
+    Some(Packet { planned: b.u16(at), slot: b.u16(at + 2), actual: b.u16(at + 4), error: flag_named(b.u8(at + 6))? })
+}
+
+fn loaded(b: &Bytes) -> Option<Loaded> {
+    if b.0[..3] != *b"DWS" || b.u16(3) != 1 {
+        return None;
+    }
+    let cfg = config_of(b)?;
+    let live = flag_named(b.u8(15))?;
     let reason = reason_named(b.u8(34), b.u8(35), b.u32(36))?;
-    let mut entries = Vec::with_capacity(MAX_REQUESTS);
-    for i in 0..MAX_REQUESTS {
-        let at = REQUESTS_AT + 20 * i;
-        let failure = failure_named(b.u8(at + 14), b.u8(at + 15), b.u32(at + 16))?;
-        entries.push(Entry { id: b.u64(at), total: b.u32(at + 8), packets: b.u16(at + 12), failure });
-    }
-    let mut packets = Vec::with_capacity(MAX_PACKETS);
-    for i in 0..MAX_PACKETS {
-        let at = PLANS_AT + 7 * i;
-        let error = match b.u8(at + 6) {
-            0 => false,
-            1 => true,
-            _ => return None,
-        };
-        packets.push(Packet { planned: b.u16(at), slot: b.u16(at + 2), actual: b.u16(at + 4), error });
-    }
+    let entries = (0..MAX_REQUESTS).map(|i| entry_of(b, REQUESTS_AT + 20 * i)).collect::<Option<Vec<Entry>>>()?;
+    let packets = (0..MAX_PACKETS).map(|i| packet_of(b, PLANS_AT + 7 * i)).collect::<Option<Vec<Packet>>>()?;
     let (done, count) = (usize::from(b.u16(30)), usize::from(b.u16(32)));
     let used: usize = entries.iter().take(count).map(|e| usize::from(e.packets)).sum();
     if done > count || count > MAX_REQUESTS || used > MAX_PACKETS {
@@ -195,54 +198,68 @@ fn loaded(b: &Bytes) -> Option<Loaded> {
     }))
 }
 
+/// Bytes that numbers are put into, one behind the other.
+struct Put<'a> {
+    bytes: &'a mut [u8],
+    at: usize,
+}
+
+impl Put<'_> {
+    fn number(&mut self, value: impl Into<u64>, width: usize) {
+        self.bytes[self.at..self.at + width].copy_from_slice(&value.into().to_le_bytes()[..width]);
+        self.at += width;
+    }
+
+    /// a reason or an outcome
+    fn cause(&mut self, (tag, fault, word): (u8, u8, u32)) {
+        self.number(tag, 1);
+        self.number(fault, 1);
+        self.number(word, 4);
+    }
+
+    fn head(&mut self, s: &Session) {
+        let cfg = &s.cfg;
+        for byte in b"DWS" {
+            self.number(*byte, 1);
+        }
+        self.number(1u8, 2);
+        self.number(speed_number(cfg.speed), 1);
+        self.number(direction_number(cfg.direction), 1);
+        self.number(mode_number(cfg.mode), 1);
+        self.number(cfg.interval, 2);
+        self.number(cfg.max_packet_size, 2);
+        self.number(cfg.endpoint, 1);
+        self.number(cfg.device, 1);
+        self.number(cfg.mult, 1);
+        self.number(s.live, 1);
+        self.number(s.next, 8);
+        self.number(s.start, 4);
+        self.number(s.cursor, 2);
+        self.number(s.completed.len() as u64, 2);
+        self.number((s.completed.len() + s.pending.len()) as u64, 2);
+        self.cause(reason_numbers(s.reason));
+    }
+}
+
 /// The session's bytes. What stands behind the entries in use is blank where the session does not know it.
 pub fn save(s: &Session, bytes: &mut [u8]) {
-    let mut at = 0;
-    let mut put = |value: u64, width: usize| {
-        bytes[at..at + width].copy_from_slice(&value.to_le_bytes()[..width]);
-        at += width;
-    };
-    let cfg = &s.cfg;
-    for byte in b"DWS" {
-        put((*byte).into(), 1);
-    }
-    put(1, 2);
-    put(speed_number(cfg.speed).into(), 1);
-    put(direction_number(cfg.direction).into(), 1);
-    put(mode_number(cfg.mode).into(), 1);
-    put(cfg.interval.into(), 2);
-    put(cfg.max_packet_size.into(), 2);
-    put(cfg.endpoint.into(), 1);
-    put(cfg.device.into(), 1);
-    put(cfg.mult.into(), 1);
-    put(s.live.into(), 1);
-    put(s.next, 8);
-    put(s.start.into(), 4);
-    put(s.cursor.into(), 2);
-    put(s.completed.len() as u64, 2);
-    put((s.completed.len() + s.pending.len()) as u64, 2);
-    let (tag, fault, word) = reason_numbers(s.reason);
-    put(tag.into(), 1);
-    put(fault.into(), 1);
-    put(word.into(), 4);
+    let mut put = Put { bytes, at: 0 };
+    put.head(s);
     let blank = Behind::default();
     let behind = s.behind.as_ref().unwrap_or(&blank);
     let all = || s.completed.iter().chain(&s.pending);
     let used = all().map(|r| Entry { id: r.id, total: r.total, packets: r.packets.len() as u16, failure: r.failure });
     for e in used.chain(behind.requests.iter().copied()).chain(std::iter::repeat(Entry::default())).take(MAX_REQUESTS) {
-        put(e.id, 8);
-        put(e.total.into(), 4);
-        put(e.packets.into(), 2);
-        let (tag, fault, word) = failure_numbers(e.failure);
-        put(tag.into(), 1);
-        put(fault.into(), 1);
-        put(word.into(), 4);
+        put.number(e.id, 8);
+        put.number(e.total, 4);
+        put.number(e.packets, 2);
+        put.cause(failure_numbers(e.failure));
     }
     let used = all().flat_map(|r| r.packets.iter().copied());
     for p in used.chain(behind.packets.iter().copied()).chain(std::iter::repeat(Packet::default())).take(MAX_PACKETS) {
-        put(p.planned.into(), 2);
-        put(p.slot.into(), 2);
-        put(p.actual.into(), 2);
-        put(p.error.into(), 1);
+        put.number(p.planned, 2);
+        put.number(p.slot, 2);
+        put.number(p.actual, 2);
+        put.number(p.error, 1);
     }
 }

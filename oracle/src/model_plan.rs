@@ -71,6 +71,21 @@ fn blank(number: u16, toggle: bool) -> Plan {
     Plan { number, toggle, stages: Vec::new() }
 }
 
+fn data_hcchar(r: &DataRequest, packet: u16) -> u32 {
+    let hcchar = Hcchar {
+        packet,
+        endpoint: r.endpoint,
+        direction: r.direction,
+        low: r.speed == Speed::Low,
+        kind: if r.kind == DataKind::Bulk { 2 } else { 3 },
+        mult: 1,
+        device: r.device,
+        // "The odd-frame bit of an interrupt stage is an input."
+        odd: r.kind == DataKind::Interrupt && r.odd_frame,
+    };
+    hcchar.word()
+}
+
 pub fn data_plan(r: &DataRequest, array: &mut [u32]) -> Plan {
     let m = u64::from(r.max_packet_size).max(1);
     let (count, chunk, last) = split(r.len, r.max_packet_size);
@@ -86,24 +101,13 @@ pub fn data_plan(r: &DataRequest, array: &mut [u32]) -> Plan {
     }
     let mut lengths = vec![chunk; count as usize - 1];
     lengths.push(last);
-    let hcchar = Hcchar {
-        packet: m as u16,
-        endpoint: r.endpoint,
-        direction: r.direction,
-        low: r.speed == Speed::Low,
-        kind: if r.kind == DataKind::Bulk { 2 } else { 3 },
-        mult: 1,
-        device: r.device,
-        // "The odd-frame bit of an interrupt stage is an input."
-        odd: r.kind == DataKind::Interrupt && r.odd_frame,
-    };
     let mut plan = blank(0, r.toggle);
     let mut address = r.base;
     for (i, group) in lengths.chunks(STAGE_DESCS).enumerate() {
         let bytes: u64 = group.iter().sum();
         let stage = Stage {
             role: Role::Data,
-            hcchar: hcchar.word(),
+            hcchar: data_hcchar(r, m as u16),
             hctsiz: hctsiz(data_pid(plan.toggle), group.len() as u32, 0),
             dma_addr: if slip(Slip::StageOffset) { r.base as u32 } else { address as u32 },
             desc_base: (i * STAGE_DESCS) as u32,
@@ -125,29 +129,36 @@ fn opposite(direction: Direction) -> Direction {
     if direction == Direction::In { Direction::Out } else { Direction::In }
 }
 
-/// The stages of a control transfer, in the order in which they run; the toggle is not used.
-pub fn control_plan(r: &ControlRequest, array: &mut [u32]) -> Plan {
-    // "raised to 1 (control: 8 ..)"
-    let m = u64::from(r.max_packet_size).max(8);
-    let with_data = r.len > 0;
-    // "status is DATA1 and opposite to the data, IN when there is none"
-    let status = match (with_data, slip(Slip::StatusSame)) {
+/// "status is DATA1 and opposite to the data, IN when there is none"
+fn status_direction(r: &ControlRequest) -> Direction {
+    match (r.len > 0, slip(Slip::StatusSame)) {
         (false, _) => Direction::In,
         (true, false) => opposite(r.direction),
         (true, true) => r.direction,
-    };
+    }
+}
+
+fn control_refusal(r: &ControlRequest, m: u64, status: Direction, words: usize) -> Option<u16> {
     // "and likewise for the setup address plus 8 and a used status address plus m; control without data tests no base"
     let beyond = is_beyond(r.setup_dma, 8)
-        || with_data && is_beyond(r.data_dma, rounded(r.len, m, r.direction))
+        || r.len > 0 && is_beyond(r.data_dma, rounded(r.len, m, r.direction))
         || status == Direction::In && is_beyond(r.status_dma, m);
     let tests = [
-        (17, array.len() < MIN_WORDS),
+        (17, words < MIN_WORDS),
         (18, is_bad(0, r.device, r.max_packet_size)),
         (19, r.len > 65_535 && !slip(Slip::ControlUnchecked)),
         (11, beyond && !slip(Slip::AddressNone)),
     ];
-    if let Some((number, _)) = tests.iter().find(|(_, holds)| *holds) {
-        return blank(*number, false);
+    tests.iter().find(|(_, holds)| *holds).map(|(number, _)| *number)
+}
+
+/// The stages of a control transfer, in the order in which they run; the toggle is not used.
+pub fn control_plan(r: &ControlRequest, array: &mut [u32]) -> Plan {
+    // "raised to 1 (control: 8 ..)"
+    let m = u64::from(r.max_packet_size).max(8);
+    let status = status_direction(r);
+    if let Some(number) = control_refusal(r, m, status, array.len()) {
+        return blank(number, false);
     }
     let hcchar = |direction| {
         let low = slip(Slip::LowControl) && r.device == 1;
@@ -168,7 +179,7 @@ pub fn control_plan(r: &ControlRequest, array: &mut [u32]) -> Plan {
         plan.stages.push(stage);
     };
     add(Role::ControlSetup, Direction::Out, Pid::Setup, r.setup_dma, 8);
-    if with_data {
+    if r.len > 0 {
         // "Control data starts at DATA1"
         add(Role::ControlData, r.direction, if slip(Slip::ControlData0) { Pid::Data0 } else { Pid::Data1 }, r.data_dma, r.len);
     }

@@ -92,22 +92,11 @@ fn on_rust(cfg: &Config, calls: &[Call]) -> Vec<u64> {
     left(&s.view(), &ring)
 }
 
-fn rows() -> Vec<Row> {
+fn sums() -> Vec<Row> {
     let (high, full) = (Speed::High, Speed::Full);
     let p3 = [(4, high), (5, high), (4_294_967_295, high), (65_534, full)];
     let p4 = [(31, high), (32, high), (64, full)];
     let p5 = [(5, 16), (2, 63), (3, 63)];
-    let p7 = [0, 130_560, 130_561];
-    let p6 = [
-        submission(8, 8, &[1, 1]),
-        Call::Controller { slot: 10, word: 0 },
-        Call::Controller { slot: 11, word: 0 },
-        submission(0, 71, &[1, 1]),
-    ];
-    let p8 = [submission(16, 16, &[192, 192, 192])];
-    let guarded = on_model(&camera(full, 1, Mode::Guarded), &p6).1;
-    let of_p8 = vec![24, 32, 40, 48, 0x8000_00c0, 0x8000_00c0, 0x8200_00c0];
-    let of_p6 = vec![10, 11, 9, 10, 11, 0x8200_0001, 0, 0x8000_0001, 0x8200_0001];
     vec![
         (
             "P1",
@@ -139,13 +128,28 @@ fn rows() -> Vec<Row> {
             numbers(&p5, |(c, t)| model::grid(c, t, 4, 64)),
             rust!(numbers(&p5, |(c, t)| lifted::sums::grid(c as u16, t as u16, 4, 64))),
         ),
-        (
-            "P6, compatible: slots, cursor, words",
-            of_p6,
-            on_model(&camera(full, 1, Mode::Compatible), &p6).0,
-            rust!(on_rust(&camera(full, 1, Mode::Compatible), &p6)),
-        ),
+    ]
+}
+
+fn overrun() -> Vec<Row> {
+    let calls = [
+        submission(8, 8, &[1, 1]),
+        Call::Controller { slot: 10, word: 0 },
+        Call::Controller { slot: 11, word: 0 },
+        submission(0, 71, &[1, 1]),
+    ];
+    let cfg = camera(Speed::Full, 1, Mode::Compatible);
+    let guarded = on_model(&camera(Speed::Full, 1, Mode::Guarded), &calls).1;
+    let left = vec![10, 11, 9, 10, 11, 0x8200_0001, 0, 0x8000_0001, 0x8200_0001];
+    vec![
+        ("P6, compatible: slots, cursor, words", left, on_model(&cfg, &calls).0, rust!(on_rust(&cfg, &calls))),
         ("P6, guarded", vec![13], vec![if let Answer::Refused(n) = guarded { n.into() } else { 0 }], None),
+    ]
+}
+
+fn plans() -> Vec<Row> {
+    let p7 = [0, 130_560, 130_561];
+    vec![
         (
             "P7",
             vec![0, 130_560, 130_560, 1],
@@ -153,13 +157,18 @@ fn rows() -> Vec<Row> {
             rust!(p7.iter().flat_map(|l| lifted::transfers::split(*l, 512)).collect()),
         ),
         ("P7, stages", vec![1, 2], vec![stages(33_423_360), stages(33_423_361)], None),
-        (
-            "P8: slots, cursor, words",
-            of_p8,
-            on_model(&camera(high, 8, Mode::Compatible), &p8).0,
-            rust!(on_rust(&camera(high, 8, Mode::Compatible), &p8)),
-        ),
     ]
+}
+
+fn camera_at_high_speed() -> Row {
+    let cfg = camera(Speed::High, 8, Mode::Compatible);
+    let calls = [submission(16, 16, &[192, 192, 192])];
+    let left = vec![24, 32, 40, 48, 0x8000_00c0, 0x8000_00c0, 0x8200_00c0];
+    ("P8: slots, cursor, words", left, on_model(&cfg, &calls).0, rust!(on_rust(&cfg, &calls)))
+}
+
+fn rows() -> Vec<Row> {
+    [sums(), overrun(), plans(), vec![camera_at_high_speed()]].concat()
 }
 
 pub fn run() -> Result<(), String> {
