@@ -8,7 +8,10 @@ mod sessions;
 mod sums;
 
 pub use plans::plans;
-pub use script::Script;
+// used beside the lifted Rust only
 #[cfg_attr(not(lifted), allow(unused_imports))]
-pub use sessions::{session, session_of};
+pub use script::Script;
+pub use sessions::session;
+#[cfg_attr(not(lifted), allow(unused_imports))]
+pub use sessions::session_of;
 pub use sums::sums;
