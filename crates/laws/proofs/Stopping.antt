@@ -19,8 +19,8 @@ use Rattle.session.specs.declared.reply.IsoReply.{IsoReply}
 use Rattle.session.specs.Session.{slots, ringWords}
 use Rattle.session.specs.Submit.{Store, stored, storesOf, insertOf, stepOf, accepted, submitWay, answerOf}
 use Rattle.session.specs.Poll.{recovered, recoveredRing}
-use Rattle.session.proofs.Facts.{accept-admitted, accept-gates, accept-if, cut-if, cut-ring, whole-ring, whole-session}
-use Rattle.session.proofs.Ending.{recovery-answers, recovery-idle, recovery-zeroes, recovery-fails, recovery-keeps}
+use Rattle.laws.proofs.Calls.Facts.{accept-admitted, accept-gates, accept-if, cut-if, cut-ring, whole-ring, whole-session}
+use Rattle.laws.proofs.Calls.Ending.{recovery-answers, recovery-idle, recovery-zeroes, recovery-fails, recovery-keeps}
 use Rattle.session.proofs.Laws.Record.{not-bad}
 use Rattle.session.proofs.Laws.Stores.{length-stored, whole-plan}
 use Rattle.session.proofs.Laws.Admitted.{Admitted}

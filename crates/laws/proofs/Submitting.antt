@@ -19,10 +19,10 @@ use Rattle.session.specs.declared.transfer.SubmitWay.the-variants.{Refuse, TooL
 use Rattle.session.specs.Session.{blankRequest, slots, ringWords, cleared, allPackets, pendingPackets}
 use Rattle.session.specs.Poll.{pickWords}
 use Rattle.session.specs.Submit.{Store, stored, insertOf, stepOf, storesOf, plansFrom, pendingPlans, withHead, spent, unplugged, newRequest, accepted, submitWay, sessionAfter, ringAfter, answerOf, submitted, submittedRing}
-use Rattle.session.proofs.Facts.{accept-admitted, unplugged-first}
+use Rattle.laws.proofs.Calls.Facts.{accept-admitted, unplugged-first}
 use Rattle.session.proofs.Laws.Record.{Sound, packets-past}
 use Rattle.session.proofs.Laws.Stores.{length-stored, length-plansFrom}
-use Rattle.session.proofs.Laws.Kept.{spent-sound, unplugged-sound, all-pushed, pending-pushed, accepted-sound}
+use Rattle.laws.proofs.Calls.Kept.{spent-sound, unplugged-sound, all-pushed, pending-pushed, accepted-sound}
 use Rattle.session.proofs.Laws.Admitted.{Admitted}
 use Rattle.session.specs.Reclaim.{requestOf}
 use Rattle.laws.specs.Drawing.{Laid, drawn, slotOf, Among, Absent, Distinct}

@@ -10,31 +10,31 @@ use lib.Dec.{ltb}
 use lib.ListN.{length}
 use lib.Seq.{slice}
 use borrow.Author.Tests.{ltb-true, le-ltb}
 use Rattle.session.specs.declared.types.IsoChannelState.{IsoChannelState}
 use Rattle.session.specs.declared.types.IsoOutcome.{IsoOutcome}
 use Rattle.session.specs.declared.reply.IsoAnswer.the-variants as answer
 use Rattle.session.specs.declared.reply.IsoEvent.{IsoEvent}
 use Rattle.session.specs.declared.reply.IsoReply.{IsoReply}
 use Rattle.session.specs.declared.reply.ReclaimAnswer.{ReclaimAnswer}
 use Rattle.session.specs.declared.reply.ReclaimAnswer.the-variants as reclaim
 use Rattle.session.specs.declared.reply.Reclaimed.{Reclaimed}
 use Rattle.session.specs.Numbers.{reclaimPackets}
 use Rattle.session.specs.Session.{ringWords, packetsOf, allPackets, pendingRequests}
 use Rattle.session.specs.Record.{isBadRecord}
 use Rattle.session.specs.Settle.{oldestFrom}
 use Rattle.session.specs.Submit.{pendingPlans}
 use Rattle.session.specs.Poll.{reply, pickReply, pollWay, polledBy}
 use Rattle.session.specs.Cancel.{requestAt}
 use Rattle.session.specs.Reclaim.{isFound, looked, requestOf, plansBegin, plansEnd, removed, handedAnswer, reclaimReply, pickReclaimed, pickAnswer, lookedAgain, isShort, reclaimed}
-use Rattle.session.proofs.WellFormed.{WellFormed, facts}
-use Rattle.session.proofs.Results.{ResultsKept, results-same, way-results, reply-results}
-use Rattle.session.proofs.Course.{InOrder, order-same, way-order}
+use Rattle.laws.proofs.Calls.WellFormed.{WellFormed, facts}
+use Rattle.laws.proofs.Calls.Results.{ResultsKept, results-same, way-results, reply-results}
+use Rattle.laws.proofs.Calls.Course.{InOrder, order-same, way-order}
 use Rattle.session.proofs.Laws.Record.{Sound, not-bad}
 use Rattle.session.proofs.Laws.Ended.{packets-kept}
-use Rattle.session.proofs.Laws.Places.{NumbersDiffer, differ-kept, place-kept, number-at, place-gone}
+use Rattle.laws.proofs.Calls.Places.{NumbersDiffer, differ-kept, place-kept, number-at, place-gone}
 use Rattle.session.proofs.Laws.Reclaims.{looked-sound, reclaimed-sound}
 use Rattle.session.proofs.Laws.Removed.{removed-completed, removed-completed-plans, removed-pending, removed-packets}
 use Rattle.session.proofs.Laws.Tests.{chosen, second, in-turn, none}
 
 -- ---- what the theorems speak of
 

@@ -10,15 +10,15 @@ use lib.Dec.{eqb}
 use lib.ListN.{length, getD, List·getD-map}
 use lib.Seq.{slice, length-take-le, length-sets}
 use borrow.Author.Tests.{eqb-true, ne-eqb}
 use Rattle.session.specs.declared.types.IsoRequest.{IsoRequest}
 use Rattle.session.specs.declared.types.IsoChannelState.{IsoChannelState}
 use Rattle.session.specs.Session.{blankRequest}
 use Rattle.session.specs.Cancel.{placeOf, requestAt}
 use Rattle.session.specs.Reclaim.{requestOf, removed}
 use Rattle.session.proofs.Laws.Lists.{front-kept, getD-front, closed-parts}
 use Rattle.session.proofs.Laws.Record.{Sound}
 use Rattle.session.proofs.Laws.Ended.{map-slice}
-use Rattle.session.proofs.Laws.Drained.{number}
+use Rattle.laws.proofs.Calls.Drained.{number}
 
 -- ---- in a list of requests
 

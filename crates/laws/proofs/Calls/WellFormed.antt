@@ -8,42 +8,42 @@ use Prim.Native.Nat.{ℕ}
 use native.Mathlib.Omega.{arith}
 use lib.Dec.{ltb}
 use lib.ListN.{length, drop, length-replicate}
 use Rattle.session.specs.declared.types.IsoChannelState.{IsoChannelState}
 use Rattle.session.specs.declared.types.IsoConfig.{IsoConfig}
 use Rattle.session.specs.declared.types.IsoPacketPlan.{IsoPacketPlan}
 use Rattle.session.specs.declared.types.IsoRequest.{IsoRequest}
 use Rattle.session.specs.declared.types.OpenAnswer.the-variants as answer
 use Rattle.session.specs.declared.transfer.IsoTransfer.{IsoTransfer}
 use Rattle.session.specs.declared.transfer.SubmitWay.{SubmitWay}
 use Rattle.session.specs.declared.transfer.SubmitWay.the-variants as way
 use Rattle.session.specs.declared.types.IsoHaltReason.the-variants as reason
 use Rattle.session.specs.declared.types.IsoOutcome.the-variants as outcome
 use Rattle.session.specs.declared.reply.IsoAnswer.the-variants as done
 use Rattle.session.specs.declared.reply.IsoEvent.{IsoEvent}
 use Rattle.session.specs.declared.reply.IsoReply.{IsoReply}
 use Rattle.session.specs.declared.reply.PollWay.{PollWay}
 use Rattle.session.specs.declared.reply.PollWay.the-variants as poll
 use Rattle.session.specs.declared.reply.ReclaimAnswer.{ReclaimAnswer}
 use Rattle.session.specs.declared.reply.ReclaimAnswer.the-variants as reclaim
 use Rattle.session.specs.declared.reply.Reclaimed.{Reclaimed}
 use Rattle.session.specs.Numbers.{submitNumber, answerNumber, reclaimNumber}
 use Rattle.session.specs.Session.{blankRequest, blankPlan, ringWords, hasReason}
 use Rattle.session.specs.Record.{isBadConfig, isBadRecord}
 use Rattle.session.specs.Open.{pickOpen, openAnswer, opened}
 use Rattle.session.specs.Submit.{firstOf, entryChecks, entryRefusal, answerOf, submitWay, submitted}
 use Rattle.session.specs.End.{ended}
 use Rattle.session.specs.Poll.{reply, pickReply, refusedReply, withReason, pollWay, polledBy, polled, recovered, isEmpty, atStart, resetReply}
 use Rattle.session.specs.Cancel.{requestAt, withCancelled, cancelled}
 use Rattle.session.specs.Reclaim.{isFound, looked, requestOf, removed, handedAnswer, reclaimReply, pickReclaimed, pickAnswer, lookedAgain, isShort, reclaimed}
 use Rattle.session.proofs.Laws.Checks.{_and_, one-of, spend-number}
 use Rattle.session.proofs.Laws.Admitted.{Told, told}
 use Rattle.session.proofs.Laws.Tests.{chosen}
 use Rattle.session.proofs.Laws.Record.{Sound, sound, not-bad, idle-sound}
-use Rattle.session.proofs.Laws.Kept.{submitted-sound}
+use Rattle.laws.proofs.Calls.Kept.{submitted-sound}
 use Rattle.session.proofs.Laws.Ended.{recovered-sound, reset-reply-sound, cancelled-sound}
 use Rattle.session.proofs.Laws.Polled.{polled-sound}
 use Rattle.session.proofs.Laws.Polls.{by-way}
 use Rattle.session.proofs.Laws.Reclaims.{reclaimed-sound}
 
 -- ---- what the theorems speak of
 

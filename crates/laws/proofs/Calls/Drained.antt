@@ -3,22 +3,24 @@
 use mathlib.Core.Path.{_≡_, refl, _∙_, sym, ap}
 use mathlib.Core.Bool.{Bool, true, false, _||_}
 use mathlib.Core.List.{List, [], _∷_, map}
+use mathlib.Core.Logic.{_≢_}
 use Prim.Native.Nat.{ℕ, zero, suc, _+_, _-_, _*_, _/_, _≤_, _<_}
 use native.Mathlib.Omega.{arith}
 use lib.Dec.{ltb}
 use lib.ListN.{length, getD, set, List·getD-map}
 use lib.Seq.{length-slice, getD-set-other, map-set-same}
 use borrow.Author.Tests.{ltb-true, ltb-false}
 use Rattle.session.specs.declared.types.IsoPacketPlan.{IsoPacketPlan}
 use Rattle.session.specs.declared.types.IsoRequest.{IsoRequest}
 use Rattle.session.specs.declared.types.IsoChannelState.{IsoChannelState}
 use Rattle.session.specs.Session.{blankRequest, blankPlan}
-use Rattle.session.specs.Settle.{settledPlan, oldest, oldestFrom, oldestTo, oldestPlans, settledPlans, settledRequest, settledSession, slotsCleared, settledRing, isServed, Drained, pickDrained, drain, drained}
+use Rattle.session.specs.Settle.{settledPlan, oldest, oldestFrom, oldestTo, oldestPlans, settledPlans, settledRequest, slotsCleared, Drained, pickDrained}
+use Rattle.session.specs.Settle.{settledSession, settledRing, isServed, drain, drained}
 use Rattle.session.proofs.Laws.Lists.{getD-slice, getD-sets-before}
 use Rattle.session.proofs.Laws.Record.{Sound, packets-next, packets-past, packets-split}
 use Rattle.session.proofs.Laws.Ended.{packets, packets-kept, map-amend}
 use Rattle.session.proofs.Laws.Settled.{oldest-in, settled-sound, drained-past, drained-stop, drained-next}
 use Rattle.session.proofs.Laws.Tests.{chosen}
 
 abbrev pub number : IsoRequest → ℕ
 number r = r .id
@@ -45,6 +47,10 @@ cleared-other (p ∷ ps) ring w h =
 -- ---- one request settled
 
 module _ (s : IsoChannelState) (ring : List ℕ) where
+  -- only the oldest request changes
+  settled-others : (i : ℕ) → i ≢ s .head .done → getD (settledSession s ring .requests) i blankRequest ≡ getD (s .requests) i blankRequest
+  settled-others i other = getD-set-other (s .requests) (s .head .done) i (settledRequest s ring) blankRequest other
+
   settled-numbers : map number (settledSession s ring .requests) ≡ map number (s .requests)
   settled-numbers = map-set-same number (s .requests) (s .head .done) (settledRequest s ring) blankRequest refl
 
@@ -79,6 +85,7 @@ pub record Drains (s : IsoChannelState) (ring : List ℕ) (d : Drained) : Type 0
   pub slots : map slot (d .session .plans) ≡ map slot (s .plans)
   pub more : oldestFrom s ≤ oldestFrom (d .session)
   pub request : (i : ℕ) → i < s .head .done → getD (d .session .requests) i blankRequest ≡ getD (s .requests) i blankRequest
+  pub later : (i : ℕ) → d .session .head .done ≤ i → getD (d .session .requests) i blankRequest ≡ getD (s .requests) i blankRequest
   pub plan : (j : ℕ) → j < oldestFrom s → getD (d .session .plans) j blankPlan ≡ getD (s .plans) j blankPlan
   pub word :
       (w : ℕ) → ((j : ℕ) → oldestFrom s ≤ j → j < oldestFrom (d .session) → slot (getD (s .plans) j blankPlan) ≡ w / 2 → ⊥)
@@ -95,6 +102,7 @@ none s ring g =
       slots = refl;
       more = omega arith;
       request = λ i u. refl;
+      later = λ i u. refl;
       plan = λ j u. refl;
       word = λ w u. refl;
     }
@@ -118,8 +126,8 @@ one-more s ring d g h n =
       packets = n .packets ∙ settled-packets s ring;
       slots = n .slots ∙ settled-slots s ring g h;
       more = omega (arith, n .more, from);
-      request =
-          λ i u. n .request i (omega arith) ∙ getD-set-other (s .requests) (s .head .done) i (settledRequest s ring) blankRequest (omega arith);
+      request = λ i u. n .request i (omega arith) ∙ settled-others s ring i (λ e. omega (arith, e));
+      later = λ i u. n .later i u ∙ settled-others s ring i (λ e. omega (arith, e, n .done));
       plan = λ j u. n .plan j (omega (arith, from)) ∙ getD-sets-before (settledPlans s ring) (s .plans) (oldestFrom s) j blankPlan u;
       word =
           λ w u. n .word w (λ j a b e. u j (omega (arith, a, from)) b (sym (same j) ∙ e))

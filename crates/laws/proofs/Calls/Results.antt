@@ -10,32 +10,32 @@ use lib.Dec.{ltb}
 use lib.ListN.{length, getD}
 use lib.Seq.{getD-set-same, getD-set-other}
 use borrow.Author.Tests.{ltb-true}
 use Rattle.session.specs.declared.types.IsoChannelState.{IsoChannelState}
 use Rattle.session.specs.declared.types.IsoHaltReason.the-variants as reason
 use Rattle.session.specs.declared.types.IsoHead.{IsoHead}
 use Rattle.session.specs.declared.types.IsoOutcome.{IsoOutcome}
 use Rattle.session.specs.declared.types.IsoOutcome.the-variants as outcome
 use Rattle.session.specs.declared.transfer.IsoTransfer.{IsoTransfer}
 use Rattle.session.specs.declared.transfer.SubmitWay.{SubmitWay}
 use Rattle.session.specs.declared.transfer.SubmitWay.the-variants as way
 use Rattle.session.specs.declared.reply.IsoAnswer.the-variants as answer
 use Rattle.session.specs.declared.reply.IsoEvent.{IsoEvent}
 use Rattle.session.specs.declared.reply.IsoReply.{IsoReply}
 use Rattle.session.specs.declared.reply.PollWay.{PollWay}
 use Rattle.session.specs.declared.reply.PollWay.the-variants.{Nothing, End, Halt, Wait, Settle}
 use Rattle.session.specs.Session.{blankRequest, blankPlan, slots, ringWords, allPackets, pendingRequests, hasReason}
 use Rattle.session.specs.Record.{isBadRecord}
 use Rattle.session.specs.Settle.{oldestFrom}
 use Rattle.session.specs.End.{withOutcome, ended}
 use Rattle.session.specs.Submit.{stepOf, insertOf, withHead, spent, unplugged, newRequest, accepted, plansFrom, sessionAfter, submitWay, submitted}
 use Rattle.session.specs.Poll.{reply, pickReply, refusedReply, withReason, pollWay, polledBy, polled, recovered, isEmpty, atStart, resetReply}
 use Rattle.session.specs.Cancel.{requestAt, withCancelled, cancelled}
-use Rattle.session.proofs.WellFormed.{WellFormed, facts}
+use Rattle.laws.proofs.Calls.WellFormed.{WellFormed, facts}
 use Rattle.session.proofs.Laws.Record.{Sound, packets-split}
-use Rattle.session.proofs.Laws.Drained.{drained-leaves}
+use Rattle.laws.proofs.Calls.Drained.{drained-leaves}
 use Rattle.session.proofs.Laws.Lists.{getD-sets-before}
 use Rattle.session.proofs.Laws.Polls.{by-way}
 use Rattle.session.proofs.Laws.Tests.{chosen}
 
 -- ---- what the theorems speak of
 

@@ -9,41 +9,20 @@ use native.Mathlib.Omega.{arith}
 use lib.ListN.{length, getD, drop, replicate, length-replicate, getD-replicate, List·getD-append}
 use lib.Seq.{getD-append-add, getD-drop}
 use borrow.Author.Tests.{le-ltb}
 use Rattle.session.specs.declared.types.IsoChannelState.{IsoChannelState}
-use Rattle.session.specs.declared.types.IsoFatal.the-variants.{Nothing}
 use Rattle.session.specs.declared.types.IsoOutcome.the-variants as outcome
-use Rattle.session.specs.declared.types.IsoRequest.{IsoRequest}
 use Rattle.session.specs.declared.reply.IsoAnswer.the-variants as answer
 use Rattle.session.specs.declared.reply.IsoReply.{IsoReply}
 use Rattle.session.specs.Session.{blankRequest, ringWords, pendingRequests}
 use Rattle.session.specs.Record.{isBadRecord}
 use Rattle.session.specs.End.{withOutcome, ended, endedRing}
-use Rattle.session.specs.Poll.{reply, recovered, recoveredRing}
+use Rattle.session.specs.Poll.{recoveredRing}
+use Rattle.session.specs.Poll.{reply, recovered}
+use Rattle.laws.specs.Ending.{IdleAfter, Disconnected}
 use Rattle.session.proofs.Laws.Lists.{getD-sets-before}
 use Rattle.session.proofs.Laws.Record.{Sound, sound, not-bad}
 use Rattle.session.proofs.Laws.Replies.{lent-done}
 use Rattle.session.proofs.Laws.Ended.{getD-amended, recovered-sound}
-
--- ---- what the theorems speak of
-
--- r is idle: no channel, nothing pending, no reason, cursor and start zero; what it keeps of s is its configuration, number, count and plans
-pub record IdleAfter (s r : IsoChannelState) : Type 0 where
-  pub live : r .head .live ≡ false
-  pub done : r .head .done ≡ r .head .count
-  pub fatal : r .fatal ≡ Nothing
-  pub cursor : r .head .«td_last» ≡ 0
-  pub start : r .head .«start_full_frame» ≡ 0
-  pub number : r .head .«next_request_id» ≡ s .head .«next_request_id»
-  pub count : r .head .count ≡ s .head .count
-  pub cfg : r .cfg ≡ s .cfg
-  pub plans : r .plans ≡ s .plans
-
--- q is the request r, disconnected
-pub record Disconnected (r q : IsoRequest) : Type 0 where
-  pub outcome : q .outcome ≡ outcome.Disconnected
-  pub id : q .id ≡ r .id
-  pub packets : q .packets ≡ r .packets
-  pub length-moved : q .«actual_length» ≡ r .«actual_length»
 
 -- ---- recovery, where the ring is long enough and the record good
 

@@ -14,18 +14,19 @@ use borrow.Author.Tests.{le-ltb}
 use Rattle.words.specs.Words.{isBeyond}
 use Rattle.ring.specs.RingSums.{slotAt, slotsFrom}
 use Rattle.ring.proofs.Steps.{length-slotsFrom, getD-slotsFrom}
 use Rattle.session.specs.declared.types.IsoChannelState.{IsoChannelState}
 use Rattle.session.specs.declared.types.IsoMode.{IsoMode}
 use Rattle.session.specs.declared.types.IsoMode.the-variants.{Compatible, Guarded}
 use Rattle.session.specs.declared.transfer.IsoTransfer.{IsoTransfer}
 use Rattle.session.specs.declared.transfer.SubmitAnswer.the-variants as answer
 use Rattle.session.specs.declared.transfer.SubmitWay.{SubmitWay}
 use Rattle.session.specs.declared.transfer.SubmitWay.the-variants.{Refuse, TooLong, Spend, Early, Cut, Late, Accept}
 use Rattle.session.specs.Session.{blankPlan, slots}
-use Rattle.session.specs.Submit.{stepOf, insertOf, sum, pendingPlans, anyHeld, entryRefusal, tooLong, gateWay, submitWay, sessionAfter, ringAfter, answerOf, startAfter, submitted, submittedRing}
+use Rattle.session.specs.Submit.{pendingPlans}
+use Rattle.session.specs.Submit.{stepOf, insertOf, sum, isClash, entryRefusal, tooLong, gateWay, submitWay, sessionAfter, ringAfter, answerOf, startAfter, submitted, submittedRing}
 use Rattle.session.proofs.Laws.Checks.{entry-number}
 use Rattle.session.proofs.Laws.Admitted.{Clear, Told, told, told-of, Admitted, admitted, clear-if}
-use Rattle.session.proofs.Laws.Guarded.{held-by, held-where, any-held-by, any-held-where, without-last, only-last, last-alone}
+use Rattle.laws.proofs.Calls.Guarded.{held-by, held-where, any-held-by, any-held-where, without-last, only-last, last-alone}
 
 -- ---- what the theorems speak of
 
@@ -60,9 +61,9 @@ pub record SlotHeld (s : IsoChannelState) (t : IsoTransfer) (lengths ring : List
 
 -- ---- what they lean on
 
--- the test of 13 without the mode
+-- the test of 13, as a session in guarded mode makes it
 abbrev testHeld : IsoChannelState → IsoTransfer → List ℕ → List ℕ → Bool
-testHeld s t lengths ring = anyHeld (pendingPlans s) (slotsFrom (slots (s .cfg)) (insertOf s t ring) (stepOf (s .cfg)) 0 (length lengths))
+testHeld s t lengths ring = isClash (inMode Guarded s) t ring (length lengths)
 
 -- it says that a slot is held, and back
 slot-held : (s : IsoChannelState) (t : IsoTransfer) (lengths ring : List ℕ) → testHeld s t lengths ring ≡ true → SlotHeld s t lengths ring

@@ -10,33 +10,33 @@ use native.Mathlib.Omega.{arith}
 use lib.Dec.{ltb}
 use lib.ListN.{length, getD}
 use lib.Seq.{getD-set-same, getD-set-other}
 use Rattle.session.specs.declared.types.IsoChannelState.{IsoChannelState}
 use Rattle.session.specs.declared.types.IsoOutcome.{IsoOutcome}
 use Rattle.session.specs.declared.types.IsoOutcome.the-variants as outcome
 use Rattle.session.specs.declared.transfer.IsoTransfer.{IsoTransfer}
 use Rattle.session.specs.declared.transfer.SubmitAnswer.the-variants as submit
 use Rattle.session.specs.declared.transfer.SubmitWay.{SubmitWay}
 use Rattle.session.specs.declared.transfer.SubmitWay.the-variants as way
 use Rattle.session.specs.declared.reply.IsoAnswer.the-variants as answer
 use Rattle.session.specs.declared.reply.IsoEvent.{IsoEvent}
 use Rattle.session.specs.declared.reply.IsoReply.{IsoReply}
 use Rattle.session.specs.declared.reply.PollWay.{PollWay}
 use Rattle.session.specs.declared.reply.PollWay.the-variants.{Nothing, End, Halt, Wait, Settle}
 use Rattle.session.specs.Session.{blankRequest, blankPlan, slots, ringWords}
 use Rattle.session.specs.Record.{isBadRecord}
 use Rattle.session.specs.Settle.{oldestFrom}
 use Rattle.session.specs.End.{withOutcome, ended}
 use Rattle.session.specs.Submit.{stepOf, insertOf, newRequest, answerOf, sessionAfter, ringAfter, submitWay, submitted, submittedRing}
 use Rattle.session.specs.Poll.{reply, pickReply, refusedReply, pickWords, pollWay, polledBy, polledRingBy, polled, polledRing, recovered, recoveredRing}
 use Rattle.session.specs.Reclaim.{isFound, reclaimedRing}
-use Rattle.session.proofs.WellFormed.{WellFormed, facts, Call, Submit, Poll, Reclaim, Cancel, Reset, Recover}
+use Rattle.laws.proofs.Calls.WellFormed.{WellFormed, facts, Call, Submit, Poll, Reclaim, Cancel, Reset, Recover}
 use Rattle.session.proofs.Laws.Record.{Sound}
 use Rattle.session.proofs.Laws.Admitted.{admitted, told-of}
 use Rattle.session.proofs.Laws.Ended.{packets, map-amend, ended-packets}
 use Rattle.session.proofs.Laws.Stores.{stores-some, first-stores-some}
-use Rattle.session.proofs.Laws.Drained.{number, slot, drained-leaves, drained-none}
+use Rattle.laws.proofs.Calls.Drained.{number, slot, drained-leaves, drained-none}
 use Rattle.session.proofs.Laws.Polls.{by-way}
 use Rattle.session.proofs.Laws.Tests.{chosen}
 
 -- ---- what the theorems speak of
 
@@ -219,7 +219,23 @@ pub poll-order : (s : IsoChannelState) (e : IsoEvent) (ring : List ℕ) → Well
 poll-order s e ring well =
     by-way s e ring (λ (r : IsoChannelState) (now : List ℕ). InOrder s r) (order-same s (facts s well)) (way-order (pollWay s e) s ring (facts s well))
 
--- So does recovery, which completes all.
+-- Those that a poll leaves pending are as they were: it settles the oldest ones and touches no other.
+pub poll-pending :
+    (s : IsoChannelState) (e : IsoEvent) (ring : List ℕ) → WellFormed s → GoesOn (pollWay s e) → (i : ℕ)
+    → polled s e ring .session .head .done ≤ i → getD (polled s e ring .session .requests) i blankRequest ≡ getD (s .requests) i blankRequest
+poll-pending s e ring well h i = by-way s e ring (λ (r : IsoChannelState) (now : List ℕ). AsItWas r) (λ u. refl) (go (pollWay s e) h)
+  where
+    AsItWas : IsoChannelState → Type 0
+    AsItWas r = r .head .done ≤ i → getD (r .requests) i blankRequest ≡ getD (s .requests) i blankRequest
+
+    go : (p : PollWay) → GoesOn p → AsItWas (polledBy p s ring .session)
+    go Nothing u = λ v. refl
+    go (End o) u = absurd u
+    go (Halt r) u = λ v. refl
+    go Wait u = λ v. refl
+    go (Settle bit) u = drained-leaves bit s ring (facts s well) .later i
+
+-- Recovery leaves every request at its place too, and completes all.
 pub recover-order : (s : IsoChannelState) (words : ℕ) → WellFormed s → InOrder s (recovered s words .session)
 recover-order s words well =
     let over = reply answer.Done false false (ended outcome.Disconnected s) in
