@@ -2,41 +2,13 @@
 ghost use mathlib.Core.Path.{_≡_};
 ghost use mathlib.Core.Bool.{false};
 ghost use mathlib.Core.List.{List};
-ghost use Prim.Native.Nat.{ℕ, _+_, _*_, _%_, _≤_, _<_};
-ghost use lib.ListN.{length, getD, set, take};
-ghost use Rattle.words.specs.Words.{isSet, active};
+ghost use Prim.Native.Nat.{ℕ, _+_, _%_, _≤_, _<_};
+ghost use lib.ListN.{length, getD, take};
 ghost use Rattle.ring.specs.RingSums.{slotsFrom};
 ghost use Rattle.session.specs.declared.types.IsoPacketPlan.{IsoPacketPlan};
 ghost use Rattle.session.specs.Submit.{stored, storesFrom, sum, firstLong, isHeld, anyHeld};
 use words::DmaDescriptor;
-
-// The word at `at`, if the ring has it.
-pub(crate) fn put_word(ring: &mut [u32], at: usize, value: u32)
-    ensures { λ _. ⌜ now (ring .exit) ≡ set (now (ring .entry)) at value ⌝ }
-{
-    if at < ring.len() {
-        ring[at] = value;
-    }
-}
-
-// The status word of a slot, 0 where the ring does not have it.
-pub(crate) fn status_at(ring: &[u32], slot: u16) -> u32
-    ensures { λ r. ⌜ r ≡ getD (now (ring .entry)) (2 * slot) 0 ⌝ }
-{
-    let at = 2 * slot as usize;
-    if at < ring.len() {
-        return ring[at];
-    }
-    0
-}
-
-// The controller still owns the slot.
-pub(crate) fn is_active_at(ring: &[u32], slot: u16) -> bool
-    ensures { λ r. ⌜ r ≡ isSet active (getD (now (ring .entry)) (2 * slot) 0) ⌝ }
-{
-    let status = status_at(ring, slot);
-    DmaDescriptor { status, paddr: 0 }.is_active()
-}
+use words::put_word;
 
 pub(crate) fn next_slot(slot: u16, step: u16, slots: u16) -> u16
     requires { ⌜ 0 < slots ⌝ }

@@ -1,10 +1,10 @@
 -- The active bit of the word that the slot has.
 use mathlib.Core.Path.{_∙_, ap}
 use Prim.Native.Nat.{ℕ}
 use Rattle.words.specs.Words.{isSet, active}
 use borrow.Author.Needs.{needs}
-use Rattle.session.proofs.store.is_active_at.Statement.{statement}
-use Rattle.session.proofs.store.is_active_at.Tie as tie
+use Rattle.words.proofs.lent.is_active_at.Statement.{statement}
+use Rattle.words.proofs.lent.is_active_at.Tie as tie
 
 status-at-requires : tie.Need-status-at-requires
 status-at-requires c κs = search needs

@@ -1,11 +1,19 @@
 -- IN moves what was planned without what remains, not below 0.
-use mathlib.Core.Path.{refl}
-use Prim.Native.Nat.{_-_}
+use mathlib.Core.Path.{_≡_, refl, sym, ap, _∙_}
+use Prim.Native.Nat.{ℕ, _-_}
 use native.Mathlib.Omega.{arith}
-use Rattle.session.proofs.Laws.Settled.{moved-in}
 use borrow.Author.Needs.{needs}
-use Rattle.session.proofs.settle.moved_length.Statement.{statement}
-use Rattle.session.proofs.settle.moved_length.Tie as tie
+use Rattle.words.specs.Field.{get}
+use Rattle.words.specs.Words.{isoByteCount, movedLength}
+use Rattle.words.specs.declared.types.Direction.{Direction}
+use Rattle.words.specs.declared.types.Direction.the-variants.{In}
+use Rattle.words.proofs.descriptor.moved_length.Statement.{statement}
+use Rattle.words.proofs.descriptor.moved_length.Tie as tie
+
+moved-in :
+    (d : Direction) (planned status left r : ℕ) → d ≡ In → left ≡ get isoByteCount status → r ≡ planned - left → r ≡ movedLength d planned status
+moved-in d planned status left r e f q =
+    q ∙ ap (λ (n : ℕ). planned - n) f ∙ sym (ap (λ (x : Direction). movedLength x planned status) e)
 
 iso-remaining-requires : tie.Need-iso-remaining-requires
 iso-remaining-requires c κs = search needs

@@ -3,8 +3,8 @@ use mathlib.Core.Path.{sym}
 use native.Mathlib.Omega.{arith}
 use lib.Seq.{set-out}
 use borrow.Author.Needs.{needs}
-use Rattle.session.proofs.store.put_word.Statement.{statement}
-use Rattle.session.proofs.store.put_word.Tie as tie
+use Rattle.words.proofs.lent.put_word.Statement.{statement}
+use Rattle.words.proofs.lent.put_word.Tie as tie
 
 mul-ring : tie.Need-mul-ring
 mul-ring c = search needs

@@ -4,8 +4,8 @@ use mathlib.Core.List.{List}
 use Prim.Native.Nat.{ℕ, _+_, _*_}
 use lib.ListN.{set}
 use borrow.Author.Needs.{needs}
-use Rattle.session.proofs.settle.clear_slot.Statement.{statement}
-use Rattle.session.proofs.settle.clear_slot.Tie as tie
+use Rattle.words.proofs.lent.clear_slot.Statement.{statement}
+use Rattle.words.proofs.lent.clear_slot.Tie as tie
 
 mul-at : tie.Need-mul-at
 mul-at c = search needs

@@ -4,8 +4,8 @@ use Prim.Native.Nat.{_*_, _≤_}
 use native.Mathlib.Omega.{arith}
 use lib.ListN.{length, List·getD-eq-default}
 use borrow.Author.Needs.{needs}
-use Rattle.session.proofs.store.status_at.Statement.{statement}
-use Rattle.session.proofs.store.status_at.Tie as tie
+use Rattle.words.proofs.lent.status_at.Statement.{statement}
+use Rattle.words.proofs.lent.status_at.Tie as tie
 
 mul-at : tie.Need-mul-at
 mul-at c = search needs
