@@ -1,56 +1,13 @@
-// The loops of a submission: its packets into the ring, and the tests that walk them.
+// The tests of a submission that walk its packets.
 ghost use mathlib.Core.Path.{_≡_};
 ghost use mathlib.Core.Bool.{false};
 ghost use mathlib.Core.List.{List};
-ghost use Prim.Native.Nat.{ℕ, _+_, _%_, _≤_, _<_};
-ghost use lib.ListN.{length, getD, take};
+ghost use Prim.Native.Nat.{ℕ, _≤_, _<_};
+ghost use lib.ListN.{length, getD};
 ghost use Rattle.ring.specs.RingSums.{slotsFrom};
 ghost use Rattle.session.specs.declared.types.IsoPacketPlan.{IsoPacketPlan};
-ghost use Rattle.session.specs.Submit.{stored, storesFrom, sum, firstLong, isHeld, anyHeld};
-use words::DmaDescriptor;
-use words::put_word;
-
-pub(crate) fn next_slot(slot: u16, step: u16, slots: u16) -> u16
-    requires { ⌜ 0 < slots ⌝ }
-    ensures { λ r. ⌜ r ≡ (slot + step) % slots ⌝ }
-{
-    ((slot as u32 + step as u32) % slots as u32) as u16
-}
-
-// Stores the packets' words, the address before the status, since the status hands the slot to the controller; at most `words` of
-// them.
-pub(crate) fn store_packets(
-    ring: &mut [u32],
-    slots: u16,
-    insert: u16,
-    step: u16,
-    base: u32,
-    lengths: &[u32],
-    words: u32,
-)
-    requires { ⌜ (0 < slots) × (base + sum (now lengths) ≤ 4294967295) ⌝ }
-    ensures { λ _. ⌜ now (ring .exit) ≡ stored (take words (storesFrom slots insert step 0 base (now (lengths .entry)))) (now (ring .entry)) ⌝ }
-{
-    let mut slot = insert % slots;
-    let mut addr = base;
-    let mut left = words;
-    let mut i: usize = 0;
-    while i < lengths.len() {
-        if left == 0 {
-            return;
-        }
-        let desc = DmaDescriptor::new_iso(addr, lengths[i], i + 1 == lengths.len());
-        put_word(ring, 2 * slot as usize + 1, desc.paddr);
-        if left == 1 {
-            return;
-        }
-        put_word(ring, 2 * slot as usize, desc.status);
-        left -= 2;
-        addr += lengths[i];
-        slot = next_slot(slot, step, slots);
-        i += 1;
-    }
-}
+ghost use Rattle.session.specs.Submit.{sum, firstLong, isHeld, anyHeld};
+use ring::next_slot;
 
 // The number of packets before the first that is longer than the limit.
 pub(crate) fn first_long(limit: u16, lengths: &[u32]) -> usize
