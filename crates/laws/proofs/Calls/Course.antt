@@ -1,6 +1,6 @@
 -- What the calls do to slots and to the order of requests over time: which of them clear slots, and that requests complete in the order of their
--- submission. `cancel` and `reset` are lent no ring; what opening, a session's end and recovery leave of it, specs/ says outright. Each is a fact of
--- the definitions in specs/, and so, by the promises of the calls, of the code. Results.antt and HandedOut.antt go on from here.
+-- submission. `cancel` and `reset` are lent no ring; what opening, a session's end and recovery leave of it, its definitions say outright. Each is a fact of
+-- the session's definitions, and so, by the promises of the calls, of the code. Results.antt and HandedOut.antt go on from here.
 use mathlib.Core.Path.{_≡_, refl, _∙_, sym, ap, subst⁻¹}
 use mathlib.Core.Bool.{Bool, true, false, _||_}
 use mathlib.Core.List.{List, [], map}

@@ -1,5 +1,5 @@
 -- What recovery leaves, for every session and every ring long enough: an idle session that says nothing of the ring, a ring of zeros, and each request
--- that was pending with outcome Disconnected, those completed before as they were. Each is a fact of the definitions in specs/, and so, by the
+-- that was pending with outcome Disconnected, those completed before as they were. Each is a fact of the session's definitions, and so, by the
 -- promise of `recover`, of the call.
 use mathlib.Core.Path.{_≡_, refl, _∙_, sym, ap, subst⁻¹}
 use mathlib.Core.Bool.{false}

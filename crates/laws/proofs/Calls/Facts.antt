@@ -1,5 +1,5 @@
 -- What a submission does, way by way, for every session, transfer, list of lengths and ring: what each refusal leaves, what a cut and a whole
--- submission store, and what no test held means. Each is a fact of the definitions in specs/, and so, by the promise of `submit`, of the call.
+-- submission store, and what no test held means. Each is a fact of the session's definitions, and so, by the promise of `submit`, of the call.
 use mathlib.Core.Path.{_≡_, refl, ap, subst, subst⁻¹}
 use mathlib.Core.List.{List}
 use mathlib.Core.Logic.{_⊎_, ⊎-elim}

@@ -1,5 +1,5 @@
 -- Guarded mode adds refusal 13 and nothing else: where it does not answer 13, it does what compatible mode does; and it answers 13 exactly if no other
--- test holds and a planned slot belongs to a pending request. Each is a fact of the definitions in specs/, and so, by the promise of `submit`, of
+-- test holds and a planned slot belongs to a pending request. Each is a fact of the session's definitions, and so, by the promise of `submit`, of
 -- the call.
 use mathlib.Core.Path.{_≡_, refl, _∙_, sym, ap, subst, subst⁻¹}
 use mathlib.Core.List.{List}

@@ -1,5 +1,5 @@
--- Reclaim hands out each completed request once and frees exactly its packets; the other results are as they were, in order. Each is a fact of the
--- definitions in specs/, and so, by the promise of `reclaim`, of the call.
+-- Reclaim hands out each completed request once and frees exactly its packets; the other results are as they were, in order. Each is a fact of the session's
+-- definitions, and so, by the promise of `reclaim`, of the call.
 use mathlib.Core.Path.{_≡_, _∙_, sym, ap, subst}
 use mathlib.Core.Bool.{Bool, true, false}
 use mathlib.Core.List.{List, _++_}

@@ -1,4 +1,4 @@
--- What reset leaves: the cursor at 0 and all else as it came; refused, everything as it came. Each is a fact of the definitions in specs/, and so, by the
+-- What reset leaves: the cursor at 0 and all else as it came; refused, everything as it came. Each is a fact of the session's definitions, and so, by the
 -- promise of `reset`, of the call.
 use mathlib.Core.Path.{_≡_, refl}
 use mathlib.Core.Bool.{Bool, true, false}

@@ -1,5 +1,5 @@
 -- A completed result never changes again except by cancel: what each call leaves of the completed requests and their plans. For reclaim see
--- HandedOut.antt. Each is a fact of the definitions in specs/, and so, by the promises of the calls, of the code.
+-- HandedOut.antt. Each is a fact of the session's definitions, and so, by the promises of the calls, of the code.
 use mathlib.Core.Path.{_≡_, refl}
 use mathlib.Core.Bool.{Bool, true, false}
 use mathlib.Core.List.{List, map}

@@ -1,5 +1,5 @@
 -- Well-formedness is kept: a session whose record passes the check of refusal 18 passes it after every call, whatever the call is lent and answers. So
--- a caller who starts with an accepted opening never sees 18. Each is a fact of the definitions in specs/, and so, by the promises of the calls, of
+-- a caller who starts with an accepted opening never sees 18. Each is a fact of the session's definitions, and so, by the promises of the calls, of
 -- the code.
 use mathlib.Core.Path.{_≡_, refl, ap, subst⁻¹}
 use mathlib.Core.Bool.{Bool, true, false, cond}
