@@ -1,0 +1,72 @@
+-- The invariant: the numbers keep their count. The measure is how many values are left.
+use mathlib.Core.Path.{_≡_, refl}
+use Prim.Native.Nat.{ℕ, _+_, _-_, _≤_, _<_}
+use native.Mathlib.Omega.{arith}
+use lib.ListN.{length, getD}
+use borrow.Author.Needs.{needs}
+use Rattle.replay.proofs.answers.put_first.Statement.{statement}
+use Rattle.replay.proofs.answers.put_first.Tie as tie
+use Rattle.replay.proofs.answers.put_first.Reads as reads
+use Rattle.replay.proofs.answers.put_first.Lts as lts
+use Rattle.replay.proofs.answers.put.Reads as put-reads
+
+abbrev Inv-loop : tie.InvT-loop
+Inv-loop numbers₀ at values count place₀ left₀ i₀ numbers place left i = length numbers ≡ length numbers₀
+
+abbrev μ-loop : tie.MeasureT-loop
+μ-loop numbers₀ at values count place₀ left₀ i₀ numbers place left i = length values - i
+
+loop-holds : tie.Need-loop-holds Inv-loop μ-loop
+loop-holds c = search needs
+
+same-length : tie.Need-same-length Inv-loop μ-loop
+same-length c = search needs
+
+returns : tie.Need-returns Inv-loop μ-loop
+returns c = search needs
+
+mul-put : tie.Need-mul-put Inv-loop μ-loop
+mul-put c = search needs
+
+shared-slice-read-put : tie.Need-shared-slice-read-put Inv-loop μ-loop
+shared-slice-read-put c = search needs
+
+put-requires : tie.Need-put-requires Inv-loop μ-loop
+put-requires c κs = search needs
+
+sub-left : tie.Need-sub-left Inv-loop μ-loop
+sub-left c = search needs
+
+add-i : tie.Need-add-i Inv-loop μ-loop
+add-i c = search needs
+
+loop-less : tie.Need-loop-less Inv-loop μ-loop
+loop-less c = search needs
+
+loop-again : tie.Need-loop-again Inv-loop μ-loop
+loop-again c = search needs
+
+same-length-2 : tie.Need-same-length-2 Inv-loop μ-loop
+same-length-2 c = search needs
+
+returns-2 : tie.Need-returns-2 Inv-loop μ-loop
+returns-2 c = search needs
+
+pub put-first-spec : {M : Type 1} → statement M
+put-first-spec =
+    tie.close
+    (tie.spec
+    Inv-loop
+    μ-loop
+    loop-holds
+    same-length
+    returns
+    mul-put
+    shared-slice-read-put
+    put-requires
+    sub-left
+    add-i
+    loop-less
+    loop-again
+    same-length-2
+    returns-2)
