@@ -1,15 +1,12 @@
 -- The invariant: all answers passed are the listed ones. The measure is how many are left.
-use mathlib.Core.Path.{_≡_, refl}
-use Prim.Native.Nat.{ℕ, _+_, _-_, _≤_, _<_}
+use mathlib.Core.Path.{_≡_}
+use Prim.Native.Nat.{ℕ, _-_, _≤_, _<_}
 use native.Mathlib.Omega.{arith}
 use borrow.Author.Count.{below-more}
-use lib.ListN.{length, getD}
+use lib.ListN.{getD}
 use borrow.Author.Needs.{needs}
 use Rattle.replay.proofs.answers.first_other.Statement.{statement}
 use Rattle.replay.proofs.answers.first_other.Tie as tie
-use Rattle.replay.proofs.answers.first_other.Reads as reads
-use Rattle.replay.proofs.answers.first_other.Lts as lts
-use Rattle.replay.proofs.answers.nth.Reads as nth-reads
 
 abbrev Inv-loop : tie.InvT-loop
 Inv-loop listed said count i₀ i = (i ≤ count) × ((k : ℕ) → k < i → getD listed k 0 ≡ getD said k 0)

@@ -5,8 +5,6 @@ use lib.ListN.{List·getD-eq-default}
 use borrow.Author.Needs.{needs}
 use Rattle.replay.proofs.answers.nth.Statement.{statement}
 use Rattle.replay.proofs.answers.nth.Tie as tie
-use Rattle.replay.proofs.answers.nth.Reads as reads
-use Rattle.replay.proofs.answers.nth.Lts as lts
 
 mul-result : tie.Need-mul-result
 mul-result c = search needs

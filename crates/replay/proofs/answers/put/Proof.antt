@@ -5,8 +5,6 @@ use lib.Seq.{set-out}
 use borrow.Author.Needs.{needs}
 use Rattle.replay.proofs.answers.put.Statement.{statement}
 use Rattle.replay.proofs.answers.put.Tie as tie
-use Rattle.replay.proofs.answers.put.Reads as reads
-use Rattle.replay.proofs.answers.put.Lts as lts
 
 mul-numbers : tie.Need-mul-numbers
 mul-numbers c = search needs

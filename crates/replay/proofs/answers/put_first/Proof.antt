@@ -1,14 +1,10 @@
 -- The invariant: the numbers keep their count. The measure is how many values are left.
-use mathlib.Core.Path.{_≡_, refl}
-use Prim.Native.Nat.{ℕ, _+_, _-_, _≤_, _<_}
-use native.Mathlib.Omega.{arith}
-use lib.ListN.{length, getD}
+use mathlib.Core.Path.{_≡_}
+use Prim.Native.Nat.{_-_}
+use lib.ListN.{length}
 use borrow.Author.Needs.{needs}
 use Rattle.replay.proofs.answers.put_first.Statement.{statement}
 use Rattle.replay.proofs.answers.put_first.Tie as tie
-use Rattle.replay.proofs.answers.put_first.Reads as reads
-use Rattle.replay.proofs.answers.put_first.Lts as lts
-use Rattle.replay.proofs.answers.put.Reads as put-reads
 
 abbrev Inv-loop : tie.InvT-loop
 Inv-loop numbers₀ at values count place₀ left₀ i₀ numbers place left i = length numbers ≡ length numbers₀

@@ -1,15 +1,10 @@
 -- The invariant: the numbers keep their count. The measure is how many entries are left.
-use mathlib.Core.Path.{_≡_, refl}
-use Prim.Native.Nat.{ℕ, _+_, _-_, _≤_, _<_}
-use native.Mathlib.Omega.{arith}
-use lib.ListN.{length, getD}
+use mathlib.Core.Path.{_≡_}
+use Prim.Native.Nat.{_-_, _≤_}
+use lib.ListN.{length}
 use borrow.Author.Needs.{needs}
 use Rattle.replay.proofs.answers.put_frames.Statement.{statement}
 use Rattle.replay.proofs.answers.put_frames.Tie as tie
-use Rattle.replay.proofs.answers.put_frames.Reads as reads
-use Rattle.replay.proofs.answers.put_frames.Lts as lts
-use Rattle.replay.proofs.answers.byte.Reads as byte-reads
-use Rattle.replay.proofs.answers.put.Reads as put-reads
 
 abbrev Inv-loop : tie.InvT-loop
 Inv-loop numbers₀ at frames count place₀ i₀ numbers place i = (length numbers ≡ length numbers₀) × (i ≤ 64)

@@ -1,14 +1,9 @@
 -- The invariant: the sum is below the prime. The measure is how many bytes are left.
-use mathlib.Core.Path.{_≡_, refl}
-use Prim.Native.Nat.{ℕ, _+_, _-_, _≤_, _<_}
-use native.Mathlib.Omega.{arith}
-use lib.ListN.{length, getD}
+use Prim.Native.Nat.{_-_, _<_}
+use lib.ListN.{length}
 use borrow.Author.Needs.{needs}
 use Rattle.replay.proofs.digest.of_bytes.Statement.{statement}
 use Rattle.replay.proofs.digest.of_bytes.Tie as tie
-use Rattle.replay.proofs.digest.of_bytes.Reads as reads
-use Rattle.replay.proofs.digest.of_bytes.Lts as lts
-use Rattle.replay.proofs.digest.more_byte.Reads as more-byte-reads
 
 abbrev Inv-loop : tie.InvT-loop
 Inv-loop bytes sum₀ i₀ sum i = sum < 140737488355213

@@ -1,16 +1,10 @@
 -- The invariant: the place does not go back, and the numbers keep their count. The measure is what is left of the text.
-use mathlib.Core.Path.{_≡_, refl}
-use Prim.Native.Nat.{ℕ, _+_, _-_, _≤_, _<_}
-use native.Mathlib.Omega.{arith}
-use lib.ListN.{length, getD}
+use mathlib.Core.Path.{_≡_}
+use Prim.Native.Nat.{_-_, _≤_}
+use lib.ListN.{length}
 use borrow.Author.Needs.{needs}
 use Rattle.replay.proofs.lines.read_line.Statement.{statement}
 use Rattle.replay.proofs.lines.read_line.Tie as tie
-use Rattle.replay.proofs.lines.read_line.Reads as reads
-use Rattle.replay.proofs.lines.read_line.Lts as lts
-use Rattle.replay.proofs.figures.scanned.Reads as scanned-reads
-use Rattle.replay.proofs.figures.start.Reads as start-reads
-use Rattle.replay.proofs.lines.line_of.Reads as line-of-reads
 
 abbrev Inv-loop : tie.InvT-loop
 Inv-loop text from numbers₀ scan₀ at₀ numbers scan at = (from ≤ at) × (length numbers ≡ length numbers₀)

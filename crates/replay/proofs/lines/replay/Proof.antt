@@ -1,16 +1,11 @@
 -- The invariant: what is lent keeps its count. The measure is what is left of the text.
-use mathlib.Core.Path.{_≡_, refl}
-use Prim.Native.Nat.{ℕ, _+_, _-_, _≤_, _<_}
+use mathlib.Core.Path.{_≡_}
+use Prim.Native.Nat.{_-_}
 use native.Mathlib.Omega.{arith}
-use lib.ListN.{length, getD}
+use lib.ListN.{length}
 use borrow.Author.Needs.{needs}
 use Rattle.replay.proofs.lines.replay.Statement.{statement}
 use Rattle.replay.proofs.lines.replay.Tie as tie
-use Rattle.replay.proofs.lines.replay.Reads as reads
-use Rattle.replay.proofs.lines.replay.Lts as lts
-use Rattle.replay.proofs.lines.compared.Reads as compared-reads
-use Rattle.replay.proofs.lines.read_line.Reads as read-line-reads
-use Rattle.replay.proofs.tally.nothing.Reads as nothing-reads
 
 abbrev Inv-loop : tie.InvT-loop
 Inv-loop text counts₀ listed₀ said₀ session₀ ring₀ array₀ found₀ at₀ counts listed said session ring array found at = (length counts ≡ length counts₀) × (length listed ≡ 512) × (length said ≡ 512) × (length session ≡ 8488) × (length ring ≡ 512) × (length array ≡ 2048)

@@ -1,14 +1,10 @@
 -- The invariant: the numbers keep their count. The measure is how many stages are left.
-use mathlib.Core.Path.{_≡_, refl}
-use Prim.Native.Nat.{ℕ, _+_, _-_, _≤_, _<_}
-use native.Mathlib.Omega.{arith}
-use lib.ListN.{length, getD}
+use mathlib.Core.Path.{_≡_}
+use Prim.Native.Nat.{_-_}
+use lib.ListN.{length}
 use borrow.Author.Needs.{needs}
 use Rattle.replay.proofs.plans.put_stages.Statement.{statement}
 use Rattle.replay.proofs.plans.put_stages.Tie as tie
-use Rattle.replay.proofs.plans.put_stages.Reads as reads
-use Rattle.replay.proofs.plans.put_stages.Lts as lts
-use Rattle.replay.proofs.plans.put_stage.Reads as put-stage-reads
 
 abbrev Inv-loop : tie.InvT-loop
 Inv-loop said₀ at count stages place₀ i₀ left₀ said place i left = length said ≡ length said₀

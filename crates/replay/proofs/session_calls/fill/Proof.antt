@@ -1,13 +1,10 @@
 -- The invariant: the words keep their count. The measure is how many are left.
-use mathlib.Core.Path.{_≡_, refl}
-use Prim.Native.Nat.{ℕ, _+_, _-_, _≤_, _<_}
-use native.Mathlib.Omega.{arith}
-use lib.ListN.{length, getD}
+use mathlib.Core.Path.{_≡_}
+use Prim.Native.Nat.{_-_}
+use lib.ListN.{length}
 use borrow.Author.Needs.{needs}
 use Rattle.replay.proofs.session_calls.fill.Statement.{statement}
 use Rattle.replay.proofs.session_calls.fill.Tie as tie
-use Rattle.replay.proofs.session_calls.fill.Reads as reads
-use Rattle.replay.proofs.session_calls.fill.Lts as lts
 
 abbrev Inv-loop : tie.InvT-loop
 Inv-loop words₀ word i₀ words i = length words ≡ length words₀

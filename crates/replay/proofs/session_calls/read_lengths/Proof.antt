@@ -1,14 +1,10 @@
 -- The invariant: no more lengths were read than there is room for, and the room stays. The measure is the room left.
-use mathlib.Core.Path.{_≡_, refl}
-use Prim.Native.Nat.{ℕ, _+_, _-_, _≤_, _<_}
-use native.Mathlib.Omega.{arith}
-use lib.ListN.{length, getD}
+use mathlib.Core.Path.{_≡_}
+use Prim.Native.Nat.{_+_, _-_, _≤_}
+use lib.ListN.{length}
 use borrow.Author.Needs.{needs}
 use Rattle.replay.proofs.session_calls.read_lengths.Statement.{statement}
 use Rattle.replay.proofs.session_calls.read_lengths.Tie as tie
-use Rattle.replay.proofs.session_calls.read_lengths.Reads as reads
-use Rattle.replay.proofs.session_calls.read_lengths.Lts as lts
-use Rattle.replay.proofs.answers.word_at.Reads as word-at-reads
 
 abbrev Inv-loop : tie.InvT-loop
 Inv-loop listed inputs lengths₀ at₀ i₀ lengths at i = (i ≤ length lengths₀) × (at ≡ 11 + i) × (length lengths ≡ length lengths₀)

@@ -5,12 +5,6 @@ use lib.Seq.{length-take-le}
 use borrow.Author.Needs.{needs}
 use Rattle.replay.proofs.session_calls.submit.Statement.{statement}
 use Rattle.replay.proofs.session_calls.submit.Tie as tie
-use Rattle.replay.proofs.session_calls.submit.Reads as reads
-use Rattle.replay.proofs.session_calls.submit.Lts as lts
-use Rattle.port.proofs.dwc2_iso_submit.Reads as dwc2-iso-submit-reads
-use Rattle.replay.proofs.session_calls.read_lengths.Reads as read-lengths-reads
-use Rattle.replay.proofs.session_calls.submitted.Reads as submitted-reads
-use Rattle.replay.proofs.session_calls.transfer_of.Reads as transfer-of-reads
 
 slice-aggregate-read-lengths : tie.Need-slice-aggregate-read-lengths
 slice-aggregate-read-lengths c = search needs

@@ -1,16 +1,9 @@
 -- The measure is how many counts are left.
-use mathlib.Core.Path.{_≡_, refl}
-use Prim.Native.Nat.{ℕ, _+_, _-_, _≤_, _<_}
-use native.Mathlib.Omega.{arith}
-use lib.ListN.{length, getD}
+use Prim.Native.Nat.{_-_, _≤_}
+use lib.ListN.{length}
 use borrow.Author.Needs.{needs}
 use Rattle.replay.proofs.tally.calls.Statement.{statement}
 use Rattle.replay.proofs.tally.calls.Tie as tie
-use Rattle.replay.proofs.tally.calls.Reads as reads
-use Rattle.replay.proofs.tally.calls.Lts as lts
-use Rattle.replay.proofs.answers.nth.Reads as nth-reads
-use Rattle.std.proofs.num.wrapping_add_u64.Reads as wrapping-add-u64-reads
-use Rattle.std.proofs.num.wrapping_sub_u64.Reads as wrapping-sub-u64-reads
 
 abbrev Inv-loop : tie.InvT-loop
 Inv-loop counts sum₀ i₀ sum i = i ≤ length counts
