@@ -4,9 +4,11 @@
 //! Every call was put to the Rust and to the model, and both agreed on all that the comparison of session calls and plans looks at.
 //! The answers are the Rust's. The model's, compared with the Rust's in the Rust's own form, are: the sum of a session's bytes, the
 //! chunk of a length that is one chunk, and of what was refused the toggle. A failed request's packets are those it was submitted with.
+//! Sums stand for many numbers: the 2,048 words of the ring lent (of which the session uses 512 or 128) or of a plan's array, the bytes
+//! of a session, the 64 bytes of a frame list, the 255 results lent, the seven numbers of a stage (of one that is not there, zeros).
 //! "store" and "poke" are no calls: the controller's words, into the ring and into the array of a plan.
 
-use crate::diff::{BLANK, Pair, on_domain};
+use crate::diff::{Pair, on_domain};
 use crate::gen_calls::{Source, config};
 use crate::gen_plans::{LIMIT, control_request, data_request, fields, length, packet, speed};
 use crate::layout::{SESSION_BYTES, direction_number, failure_numbers, mode_number, save, speed_number};
@@ -22,13 +24,22 @@ const KINDS: [&str; 25] = [
 ];
 /// 01's column "Rust": 11 is off demand 2's domain, and the Rust gives it only for an address at which something starts
 const REFUSALS: [usize; 14] = [1, 2, 3, 4, 5, 6, 7, 9, 10, 11, 12, 14, 15, 16];
-const RING_WORDS: usize = 512;
+const WORDS: usize = 2_048;
 const RING_BLANK: u32 = 0xdead_beef;
 const ARRAY_BLANK: u32 = 0xa5a5_a5a5;
 
 /// from 1 on, h × 65,537 + x modulo the prime 2^47 − 115, for each half of a word
 fn sum(halves: impl Iterator<Item = u64>) -> u64 {
     halves.fold(1, |h, x| (h * 65_537 + x) % 140_737_488_355_213)
+}
+
+fn sum_longs(words: &[u64]) -> u64 {
+    sum_words(words.iter().flat_map(|w| [*w as u32, (*w >> 32) as u32]))
+}
+
+/// of a frame list, which is 64 bytes long
+fn sum_frames(frames: &[u8]) -> u64 {
+    sum(frames.iter().copied().chain(std::iter::repeat(0)).take(64).map(u64::from))
 }
 
 fn sum_words(words: impl Iterator<Item = u32>) -> u64 {
@@ -97,8 +108,7 @@ fn by_speed(list: &mut List, rng: &mut Rng, of: Speed) -> Result<(), String> {
         if ours != rust {
             return Err(format!("frames {raw} {interval} {of:?}: model {ours:?}, Rust {rust:?}"));
         }
-        let frames: Vec<u64> = std::iter::once(rust.len() as u64).chain(rust.iter().map(|f| (*f).into())).collect();
-        list.line("frames", &[raw.into(), wide, n], &frames);
+        list.line("frames", &[raw.into(), wide, n], &[rust.len() as u64, sum_frames(&rust)]);
     }
     Ok(())
 }
@@ -140,17 +150,21 @@ fn stage_numbers(stage: &Stage) -> [u64; 7] {
     [role, stage.hcchar, stage.hctsiz, stage.dma_addr, stage.desc_base, stage.descs, stage.len].map(u64::from)
 }
 
-/// the stages and the sum of the array after the Rust's plan, where the model's is the same
-fn planned(what: &dyn std::fmt::Debug, plan: &Plan, array: &[u32], rust: &transfers::Transferred) -> Result<Vec<u64>, String> {
+/// the sums of so many stages, those not there behind the others
+fn stage_sums(stages: &[Stage], many: usize) -> Vec<u64> {
+    let blank = std::iter::repeat([0; 7]);
+    stages.iter().map(stage_numbers).chain(blank).take(many).map(|numbers| sum_longs(&numbers)).collect()
+}
+
+/// the Rust's stages, where the model's plan is the same
+fn planned(what: &dyn std::fmt::Debug, plan: &Plan, array: &[u32], rust: &transfers::Transferred) -> Result<Vec<Stage>, String> {
     let stages: Vec<Stage> = rust.stages.iter().map(|(stage, _)| *stage).collect();
     let mut words = rust.words.clone();
     words.resize(array.len(), ARRAY_BLANK);
     if plan.stages != stages || words != array {
         return Err(format!("{what:?}\n  model {:?}\n  Rust  {stages:?}", plan.stages));
     }
-    let mut numbers: Vec<u64> = stages.iter().flat_map(stage_numbers).collect();
-    numbers.push(sum_words(words.into_iter()));
-    Ok(numbers)
+    Ok(stages)
 }
 
 /// the controller's words for a few descriptors, and each stage read back
@@ -203,14 +217,17 @@ fn data(list: &mut List, rng: &mut Rng, r: DataRequest) -> Result<(), String> {
         r.odd_frame.into(),
         r.toggle.into(),
     ];
-    let mut array = vec![ARRAY_BLANK; 2_048];
+    let mut array = vec![ARRAY_BLANK; WORDS];
     let plan = model_plan::data_plan(&r, &mut array);
     if plan.number == 11 && r.base > LIMIT {
         if transfers::data(&r).err() != Some(11) {
             return Err(format!("{r:?}: the Rust does not refuse"));
         }
         list.refusals[11] += 1;
-        list.line("data", &inputs, &[11, r.toggle.into(), 0, sum_words(array.into_iter())]);
+        let mut answers = vec![11, r.toggle.into(), 0];
+        answers.extend(stage_sums(&[], 4));
+        answers.push(sum_words(array.into_iter()));
+        list.line("data", &inputs, &answers);
         return Ok(());
     }
     if plan.number != 0 {
@@ -223,8 +240,10 @@ fn data(list: &mut List, rng: &mut Rng, r: DataRequest) -> Result<(), String> {
         return Err(format!("{r:?}: model {} {}, Rust {moved} {toggle}", r.len, plan.toggle));
     }
     let mut rust = transfers::data(&r).map_err(|n| format!("{r:?}: the Rust refuses as {n}"))?;
-    let mut answers = vec![0, toggle.into(), rust.stages.len() as u64];
-    answers.extend(planned(&r, &plan, &array, &rust)?);
+    let stages = planned(&r, &plan, &array, &rust)?;
+    let mut answers = vec![0, toggle.into(), stages.len() as u64];
+    answers.extend(stage_sums(&stages, 4));
+    answers.push(sum_words(array.iter().copied()));
     list.line("data", &inputs, &answers);
     read_back(list, rng, &plan, &mut array, &mut rust)
 }
@@ -233,20 +252,27 @@ fn control(list: &mut List, rng: &mut Rng, r: ControlRequest) -> Result<(), Stri
     let fields = fields(rng);
     let way = direction_number(r.direction).into();
     let inputs = [r.len, r.setup_dma, r.data_dma, r.status_dma, r.max_packet_size.into(), way, r.device.into()];
-    let mut array = vec![ARRAY_BLANK; 2_048];
+    let mut array = vec![ARRAY_BLANK; WORDS];
     let plan = model_plan::control_plan(&r, &mut array);
     let rust = transfers::control(&r, speed(rng), &fields);
     if plan.number == 11 && r.setup_dma > LIMIT && rust.as_ref().err() == Some(&11) {
         list.refusals[11] += 1;
-        list.line("control", &inputs, &[11, 0, sum_words(array.into_iter())]);
+        let mut answers = vec![11, 0];
+        answers.extend(stage_sums(&[], 3));
+        answers.push(sum_words(array.into_iter()));
+        list.line("control", &inputs, &answers);
         return Ok(());
     }
     if plan.number != 0 {
         return Ok(());
     }
     let mut rust = rust.map_err(|n| format!("{r:?}: the Rust refuses as {n}"))?;
-    let mut answers = vec![0, u64::from(rust.stages.len() == 3)];
-    answers.extend(planned(&r, &plan, &array, &rust)?);
+    let stages = planned(&r, &plan, &array, &rust)?;
+    let (last, others) = stages.split_last().ok_or("no stages")?;
+    let mut answers = vec![0, u64::from(stages.len() == 3)];
+    answers.extend(stage_sums(others, 2));
+    answers.extend(stage_sums(&[*last], 1));
+    answers.push(sum_words(array.iter().copied()));
     list.line("control", &inputs, &answers);
     let bytes = rust.setup.clone().ok_or("no setup bytes")?;
     if model_plan::setup_packet(&fields, r.direction, r.len).ok().as_ref().map(|b| &b[..]) != Some(&bytes) {
@@ -323,7 +349,7 @@ impl Run {
     /// of the ring lent, which is longer than a full-speed one, and of the session's bytes
     fn sums(&self) -> [u64; 2] {
         let mut ring = self.pair.rust_ring.clone();
-        ring.resize(RING_WORDS, RING_BLANK);
+        ring.resize(WORDS, RING_BLANK);
         let mut bytes = vec![0; SESSION_BYTES];
         save(&self.pair.model, &mut bytes);
         [sum_words(ring.into_iter()), sum(bytes.into_iter().map(u64::from))]
@@ -381,10 +407,9 @@ impl Run {
         let mut answers = vec![value, refusal.into(), 0];
         match &reply.start {
             Some(s) => {
-                answers.extend([1, s.hcchar.into(), s.hctsiz.into(), s.hcintmsk.into(), s.frames.len() as u64]);
-                answers.extend(s.frames.iter().map(|f| u64::from(*f)));
+                answers.extend([1, s.hcchar.into(), s.hctsiz.into(), s.hcintmsk.into(), s.frames.len() as u64, sum_frames(&s.frames)]);
             }
-            None => answers.extend([0; 5]),
+            None => answers.extend([0, 0, 0, 0, 0, sum_frames(&[])]),
         }
         answers.extend(self.sums());
         list.line("submit", &inputs, &answers);
@@ -406,8 +431,7 @@ impl Run {
             _ => vec![0; 7],
         };
         answers.extend([reply.taken, reply.halt].map(u64::from));
-        answers.extend(results.iter().take_while(|w| **w != BLANK));
-        answers.push(sum_words(results.iter().flat_map(|w| [*w as u32, (*w >> 32) as u32])));
+        answers.push(sum_longs(results));
         answers.extend(self.sums());
         list.line("reclaim", &inputs, &answers);
     }

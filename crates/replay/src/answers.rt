@@ -1,4 +1,4 @@
-// Runs of numbers: an answer put behind the others, and two runs compared.
+// The numbers of a line, and the judgement on the answers to it.
 ghost use mathlib.Core.Path.{_≡_};
 ghost use Prim.Native.Nat.{ℕ, _≤_, _<_};
 ghost use lib.ListN.{length, getD, set};
@@ -24,54 +24,6 @@ pub(crate) fn put(numbers: &mut [u64], at: usize, value: u64) -> usize
     at
 }
 
-pub(crate) fn put_all(numbers: &mut [u64], at: usize, values: &[u64]) -> usize {
-    let mut place = at;
-    let mut i: usize = 0;
-    while i < values.len() {
-        place = put(numbers, place, values[i]);
-        i += 1;
-    }
-    place
-}
-
-// The first `count` of the values.
-pub(crate) fn put_first(numbers: &mut [u64], at: usize, values: &[u64], count: u32) -> usize {
-    let mut place = at;
-    let mut left = count;
-    let mut i: usize = 0;
-    while i < values.len() {
-        if left == 0 {
-            return place;
-        }
-        place = put(numbers, place, values[i]);
-        left -= 1;
-        i += 1;
-    }
-    place
-}
-
-// The first `count` entries of a frame list.
-pub(crate) fn put_frames(numbers: &mut [u64], at: usize, frames: &[u8; 64], count: u32) -> usize {
-    let mut place = at;
-    let mut i: usize = 0;
-    while i < 64 {
-        if i as u32 >= count {
-            return place;
-        }
-        place = put(numbers, place, byte(frames[i]));
-        i += 1;
-    }
-    place
-}
-
-pub(crate) fn byte(x: u8) -> u64 {
-    x as u64
-}
-
-pub(crate) fn flag(yes: bool) -> u64 {
-    if yes { 1 } else { 0 }
-}
-
 // Numbers of a line as a call takes them.
 pub(crate) fn byte_at(numbers: &[u64], at: usize) -> u8 {
     (nth(numbers, at) % 256) as u8
@@ -85,14 +37,65 @@ pub(crate) fn word_at(numbers: &[u64], at: usize) -> u32 {
     (nth(numbers, at) % 4_294_967_296) as u32
 }
 
-// The place of the first of `count` answers that is not the one listed, or `count` where all are the same.
-pub(crate) fn first_other(listed: &[u64], said: &[u64], count: usize) -> usize
-    ensures within { λ r. ⌜ r ≤ count ⌝ }
+pub(crate) fn flag(yes: bool) -> u64 {
+    if yes { 1 } else { 0 }
+}
+
+// How many numbers a line has, how many of them before its colon, and the place behind it in the text.
+pub(crate) struct Line {
+    pub at: usize,
+    pub count: usize,
+    pub inputs: usize,
+}
+
+// Whether all answers are the listed ones; where not, the place of the first that is another, what is listed, and what was answered.
+pub(crate) struct Verdict {
+    pub same: bool,
+    pub place: usize,
+    pub listed: u64,
+    pub said: u64,
+}
+
+// Of a line with nothing to answer.
+pub(crate) fn agreed() -> Verdict {
+    Verdict {
+        same: true,
+        place: 0,
+        listed: 0,
+        said: 0,
+    }
+}
+
+// The answers listed stand behind the inputs, and are as many as were given.
+pub(crate) fn judge(line: Line, listed: &[u64], said: &[u64]) -> Verdict {
+    let inputs = line.inputs;
+    if inputs > listed.len() {
+        return Verdict {
+            same: false,
+            place: 0,
+            listed: 0,
+            said: 0,
+        };
+    }
+    let answers = &listed[inputs..];
+    let place = first_other(answers, said);
+    let all = std::num::wrapping_add_usize(inputs, said.len()) == line.count;
+    Verdict {
+        same: (place >= said.len()) & all,
+        place,
+        listed: nth(answers, place),
+        said: nth(said, place),
+    }
+}
+
+// The place of the first answer that is not the one listed, or their count where all are the same.
+fn first_other(listed: &[u64], said: &[u64]) -> usize
+    ensures within { λ r. ⌜ r ≤ length (now (said .entry)) ⌝ }
     ensures same { λ r. ⌜ ((k : ℕ) → k < r → getD (now (listed .entry)) k 0 ≡ getD (now (said .entry)) k 0) ⌝ }
-    ensures other { λ r. ⌜ (r < count → getD (now (listed .entry)) r 0 ≡ getD (now (said .entry)) r 0 → ⊥) ⌝ }
+    ensures other { λ r. ⌜ (r < length (now (said .entry)) → getD (now (listed .entry)) r 0 ≡ getD (now (said .entry)) r 0 → ⊥) ⌝ }
 {
     let mut i: usize = 0;
-    while i < count {
+    while i < said.len() {
         if nth(listed, i) != nth(said, i) {
             return i;
         }

@@ -1,25 +1,22 @@
-// The list, line by line: the call is made, and its answers are compared.
+// The list, line by line: the call is made, and its answers are judged.
 ghost use mathlib.Core.Path.{_≡_};
 ghost use Prim.Native.Nat.{_<_};
 ghost use lib.ListN.{length};
+use crate::answers::Line;
+use crate::answers::Verdict;
+use crate::answers::agreed;
 use crate::answers::byte_at;
-use crate::answers::first_other;
+use crate::answers::half_at;
 use crate::answers::nth;
+use crate::answers::word_at;
 use crate::figures::Scan;
 use crate::figures::scanned;
 use crate::figures::start;
+use crate::session_calls::store;
 use crate::tally::Found;
 use crate::tally::bump;
+use crate::tally::noted;
 use crate::tally::nothing;
-use crate::tally::other;
-use crate::tally::same;
-
-// The place behind a line.
-struct Line {
-    at: usize,
-    count: usize,
-    inputs: usize,
-}
 
 fn line_of(s: Scan, at: usize) -> Line
     ensures { λ r. ⌜ r .at ≡ at ⌝ }
@@ -50,77 +47,31 @@ fn read_line(text: &[u8], from: usize, numbers: &mut [u64]) -> Line
 
 pub(crate) fn replay(text: &[u8], counts: &mut [u64]) -> Found {
     let mut listed = [0u64; 512];
-    let mut said = [0u64; 512];
     let mut session = [0u8; 8488];
-    let mut ring = [0u32; 512];
-    let mut array = [0u32; 2048];
+    let mut words = [0u32; 2048];
     let mut found = nothing();
     let mut at: usize = 0;
     while at < text.len() {
         let line = read_line(text, at, &mut listed);
         at = line.at;
-        found = compared(
-            found,
-            line,
-            counts,
-            &listed,
-            &mut said,
-            &mut session,
-            &mut ring,
-            &mut array,
-        );
+        bump(counts, nth(&listed, 0));
+        found = noted(found, made(line, &listed, &mut session, &mut words));
     }
     found
 }
 
-// Makes the call of a line.
-fn compared(
-    found: Found,
-    line: Line,
-    counts: &mut [u64],
-    listed: &[u64],
-    said: &mut [u64],
-    session: &mut [u8],
-    ring: &mut [u32],
-    array: &mut [u32],
-) -> Found {
-    bump(counts, nth(listed, 0));
-    let count = answer(listed, line.inputs, said, session, ring, array);
-    judged(found, line, listed, said, count)
-}
-
-// The answers listed stand behind the inputs, and are as many as were given.
-fn judged(found: Found, line: Line, listed: &[u64], said: &[u64], count: usize) -> Found {
-    let inputs = line.inputs;
-    if inputs > listed.len() {
-        return other(found, 0, 0, 0);
-    }
-    let answers = &listed[inputs..];
-    let place = first_other(answers, said, count);
-    if place < count {
-        return other(found, place, nth(answers, place), nth(said, place));
-    }
-    if std::num::wrapping_add_usize(inputs, count) != line.count {
-        return other(found, count, 0, 0);
-    }
-    same(found)
-}
-
-// How many answers were put, each where its line has it. Kinds 0 to 6 are of the session, 7 to 17 are ring sums.
-fn answer(
-    listed: &[u64],
-    inputs: usize,
-    said: &mut [u64],
-    session: &mut [u8],
-    ring: &mut [u32],
-    array: &mut [u32],
-) -> usize {
+// The words are those of the ring or of a plan's array: in the list all plans come before the first session.
+fn made(line: Line, listed: &[u64], session: &mut [u8], words: &mut [u32]) -> Verdict {
     let kind = byte_at(listed, 0);
-    if kind < 7 {
-        return crate::session_calls::call(kind, listed, inputs, said, session, ring);
+    if (kind == 6) | (kind == 24) {
+        store(words, half_at(listed, 1), word_at(listed, 2));
+        return agreed();
+    }
+    if kind < 6 {
+        return crate::session_calls::call(kind, line, listed, session, words);
     }
     if kind < 18 {
-        return crate::ring_calls::call(kind, listed, said);
+        return crate::ring_calls::call(kind, line, listed);
     }
-    crate::plans::call(kind, listed, said, array)
+    crate::plans::call(kind, line, listed, words)
 }

@@ -1,17 +1,17 @@
 // The planning calls of the list.
-use crate::answers::byte;
+use crate::answers::Line;
+use crate::answers::Verdict;
 use crate::answers::byte_at;
 use crate::answers::flag;
 use crate::answers::half_at;
+use crate::answers::judge;
 use crate::answers::nth;
-use crate::answers::put;
-use crate::answers::put_all;
 use crate::answers::word_at;
+use crate::digest::of_longs;
 use crate::digest::of_words;
 use crate::ring_calls::direction_of;
 use crate::ring_calls::speed_of;
 use crate::session_calls::fill;
-use crate::session_calls::store;
 use plan::ControlRequest;
 use plan::ControlSetup;
 use plan::DataKind;
@@ -26,38 +26,34 @@ use plan::Recipient;
 use plan::RequestType;
 use plan::StageLength;
 
-pub(crate) fn call(kind: u8, listed: &[u64], said: &mut [u64], array: &mut [u32]) -> usize {
+pub(crate) fn call(kind: u8, line: Line, listed: &[u64], array: &mut [u32]) -> Verdict {
     if kind == 18 {
-        return data(listed, said, array);
+        return data(line, listed, array);
     }
     if kind == 19 {
-        return control(listed, said, array);
+        return control(line, listed, array);
     }
     if kind == 20 {
-        return moved(listed, said, array);
+        return moved(line, listed, array);
     }
-    if kind == 24 {
-        store(array, half_at(listed, 1), word_at(listed, 2));
-        return 0;
-    }
-    part(kind, listed, said)
+    part(kind, line, listed)
 }
 
-fn part(kind: u8, listed: &[u64], said: &mut [u64]) -> usize {
+fn part(kind: u8, line: Line, listed: &[u64]) -> Verdict {
     if kind == 21 {
-        return setup(listed, said);
+        return setup(line, listed);
     }
     let len = nth(listed, 1);
     let size = half_at(listed, 2);
     if kind == 22 {
         let split = plan::split_dma_lengths(len, size);
-        return put_all(
-            said,
-            0,
+        return judge(
+            line,
+            listed,
             &[split.count, split.chunk as u64, split.last as u64],
         );
     }
-    put(said, 0, plan::packet_count(len, size))
+    judge(line, listed, &[plan::packet_count(len, size)])
 }
 
 // Document 01's number of an answer.
@@ -94,11 +90,10 @@ fn role_of(n: u64) -> Dwc2StageRole {
     Dwc2StageRole::ControlStatus
 }
 
-fn put_stage(said: &mut [u64], at: usize, stage: Dwc2TransferStage) -> usize {
+// A stage that is not there is all zeros.
+fn of_stage(stage: Dwc2TransferStage) -> u64 {
     let role = stage.role;
-    put_all(
-        said,
-        at,
+    of_longs(
         &[
             role_number(role),
             stage.hcchar as u64,
@@ -134,36 +129,34 @@ fn data_request(listed: &[u64]) -> DataRequest {
 }
 
 // The array was 0xA5 in each byte, and behind the plan it stays so.
-fn data(listed: &[u64], said: &mut [u64], array: &mut [u32]) -> usize {
+fn data(line: Line, listed: &[u64], array: &mut [u32]) -> Verdict {
     fill(array, 0xa5a5_a5a5);
     let done = plan::data_stages(data_request(listed), array);
-    let n = planned(done, said);
-    put(said, n, of_words(array))
+    planned(line, listed, done, of_words(array))
 }
 
-fn planned(done: Dwc2DataPlan, said: &mut [u64]) -> usize {
+fn planned(line: Line, listed: &[u64], done: Dwc2DataPlan, array: u64) -> Verdict {
     let answer = done.answer;
     let toggle = done.toggle;
     let stages = done.stages;
-    let count = done.count;
-    let n = put_all(said, 0, &[refusal(answer), flag(toggle.0), count as u64]);
-    put_stages(said, n, stages, count)
-}
-
-fn put_stages(said: &mut [u64], at: usize, stages: [Dwc2TransferStage; 4], count: u32) -> usize {
-    let mut place = at;
-    let mut i: usize = 0;
-    let mut left = count;
-    while i < 4 {
-        if left == 0 {
-            return place;
-        }
-        let stage = stages[i];
-        place = put_stage(said, place, stage);
-        left -= 1;
-        i += 1;
-    }
-    place
+    let first = stages[0];
+    let second = stages[1];
+    let third = stages[2];
+    let fourth = stages[3];
+    judge(
+        line,
+        listed,
+        &[
+            refusal(answer),
+            flag(toggle.0),
+            done.count as u64,
+            of_stage(first),
+            of_stage(second),
+            of_stage(third),
+            of_stage(fourth),
+            array,
+        ],
+    )
 }
 
 fn control_request(listed: &[u64]) -> ControlRequest {
@@ -178,33 +171,32 @@ fn control_request(listed: &[u64]) -> ControlRequest {
     }
 }
 
-fn control(listed: &[u64], said: &mut [u64], array: &mut [u32]) -> usize {
+fn control(line: Line, listed: &[u64], array: &mut [u32]) -> Verdict {
     fill(array, 0xa5a5_a5a5);
     let done = plan::build_control_plan(control_request(listed), array);
-    let n = controlled(done, said);
-    put(said, n, of_words(array))
+    controlled(line, listed, done, of_words(array))
 }
 
-// Of a plan that was refused no stage is put, and the data stage only where it is run.
-fn controlled(done: Dwc2ControlPlan, said: &mut [u64]) -> usize {
+fn controlled(line: Line, listed: &[u64], done: Dwc2ControlPlan, array: u64) -> Verdict {
     let answer = done.answer;
-    let number = refusal(answer);
-    let n = put_all(said, 0, &[number, flag(done.has_data)]);
-    if number != 0 {
-        return n;
-    }
     let setup = done.setup;
-    let n = put_stage(said, n, setup);
+    let data = done.data;
     let status = done.status;
-    if done.has_data {
-        let data = done.data;
-        let n = put_stage(said, n, data);
-        return put_stage(said, n, status);
-    }
-    put_stage(said, n, status)
+    judge(
+        line,
+        listed,
+        &[
+            refusal(answer),
+            flag(done.has_data),
+            of_stage(setup),
+            of_stage(data),
+            of_stage(status),
+            array,
+        ],
+    )
 }
 
-fn moved(listed: &[u64], said: &mut [u64], array: &[u32]) -> usize {
+fn moved(line: Line, listed: &[u64], array: &[u32]) -> Verdict {
     let stage = Dwc2TransferStage {
         role: role_of(nth(listed, 1)),
         hcchar: word_at(listed, 2),
@@ -216,8 +208,8 @@ fn moved(listed: &[u64], said: &mut [u64], array: &[u32]) -> usize {
     };
     let length = plan::stage_actual_length(stage, array);
     match length {
-        StageLength::Moved(bytes) => put_all(said, 0, &[0, bytes as u64]),
-        StageLength::Refused(answer) => put_all(said, 0, &[refusal(answer), 0]),
+        StageLength::Moved(bytes) => judge(line, listed, &[0, bytes as u64]),
+        StageLength::Refused(answer) => judge(line, listed, &[refusal(answer), 0]),
     }
 }
 
@@ -247,7 +239,7 @@ fn recipient_of(n: u64) -> Recipient {
     Recipient::Other
 }
 
-fn setup(listed: &[u64], said: &mut [u64]) -> usize {
+fn setup(line: Line, listed: &[u64]) -> Verdict {
     let named = ControlSetup {
         request_type: request_type_of(nth(listed, 1)),
         recipient: recipient_of(nth(listed, 2)),
@@ -258,19 +250,23 @@ fn setup(listed: &[u64], said: &mut [u64]) -> usize {
     let packet = plan::setup_packet_bytes(named, direction_of(nth(listed, 3)), nth(listed, 7));
     let answer = packet.answer;
     let bytes = packet.bytes;
-    put_all(
-        said,
-        0,
+    judge(
+        line,
+        listed,
         &[
             refusal(answer),
-            byte(bytes[0]),
-            byte(bytes[1]),
-            byte(bytes[2]),
-            byte(bytes[3]),
-            byte(bytes[4]),
-            byte(bytes[5]),
-            byte(bytes[6]),
-            byte(bytes[7]),
+            wide(bytes[0]),
+            wide(bytes[1]),
+            wide(bytes[2]),
+            wide(bytes[3]),
+            wide(bytes[4]),
+            wide(bytes[5]),
+            wide(bytes[6]),
+            wide(bytes[7]),
         ],
     )
+}
+
+fn wide(x: u8) -> u64 {
+    x as u64
 }

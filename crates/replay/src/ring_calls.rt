@@ -1,10 +1,12 @@
 // The ring sums of the list.
+use crate::answers::Line;
+use crate::answers::Verdict;
 use crate::answers::byte_at;
 use crate::answers::half_at;
+use crate::answers::judge;
 use crate::answers::nth;
-use crate::answers::put;
-use crate::answers::put_frames;
 use crate::answers::word_at;
+use crate::digest::of_bytes;
 use ring::Speed;
 use words::Direction;
 use words::Dwc2Pid;
@@ -37,14 +39,14 @@ fn pid_number(pid: Dwc2Pid) -> u64 {
     }
 }
 
-pub(crate) fn call(kind: u8, listed: &[u64], said: &mut [u64]) -> usize {
+pub(crate) fn call(kind: u8, line: Line, listed: &[u64]) -> Verdict {
     if kind == 15 {
-        return frames(listed, said);
+        return frames(line, listed);
     }
     if kind < 12 {
-        return put(said, 0, by_interval(kind, listed));
+        return judge(line, listed, &[by_interval(kind, listed)]);
     }
-    put(said, 0, by_frame(kind, listed))
+    judge(line, listed, &[by_frame(kind, listed)])
 }
 
 fn by_interval(kind: u8, listed: &[u64]) -> u64 {
@@ -94,11 +96,10 @@ fn pid(listed: &[u64]) -> u64 {
     pid_number(ring::iso_pid(speed, direction, byte_at(listed, 3)))
 }
 
-fn frames(listed: &[u64], said: &mut [u64]) -> usize {
+fn frames(line: Line, listed: &[u64]) -> Verdict {
     let speed = speed_of(nth(listed, 3));
     let list = ring::iso_service_frames(word_at(listed, 1), half_at(listed, 2), speed);
     let count = list.count;
     let entries = list.frames;
-    let n = put(said, 0, count as u64);
-    put_frames(said, n, &entries, count as u32)
+    judge(line, listed, &[count as u64, of_bytes(&entries)])
 }

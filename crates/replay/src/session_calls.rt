@@ -1,15 +1,15 @@
-// The session's calls of the list, through the C interface: the session crosses as bytes, and the ring lent has 512 words at every speed.
+// The session's calls of the list, through the C interface: the session crosses as bytes, and the ring lent has 2,048 words.
 ghost use Prim.Native.Nat.{_≤_};
 ghost use lib.ListN.{length};
+use crate::answers::Line;
+use crate::answers::Verdict;
 use crate::answers::byte_at;
 use crate::answers::half_at;
+use crate::answers::judge;
 use crate::answers::nth;
-use crate::answers::put;
-use crate::answers::put_all;
-use crate::answers::put_first;
-use crate::answers::put_frames;
 use crate::answers::word_at;
 use crate::digest::of_bytes;
+use crate::digest::of_frames;
 use crate::digest::of_longs;
 use crate::digest::of_words;
 use port::PortReclaimed;
@@ -17,53 +17,57 @@ use port::PortReply;
 use port::PortSubmitted;
 use port::PortTransfer;
 
-const CANCEL: u8 = 4;
+const OPEN: u8 = 0;
 
-const RESET: u8 = 5;
+const SUBMIT: u8 = 1;
+
+const POLL: u8 = 2;
+
+const RECLAIM: u8 = 3;
 
 pub(crate) fn call(
     kind: u8,
+    line: Line,
     listed: &[u64],
-    inputs: usize,
-    said: &mut [u64],
     session: &mut [u8],
     ring: &mut [u32],
-) -> usize {
-    if kind == 6 {
-        store(ring, half_at(listed, 1), word_at(listed, 2));
-        return 0;
+) -> Verdict {
+    if kind == OPEN {
+        return open(line, listed, session, ring);
     }
-    let n = made(kind, listed, inputs, said, session, ring);
-    let n = put(said, n, of_words(ring));
-    put(said, n, of_bytes(session))
+    if kind == SUBMIT {
+        return submit(line, listed, session, ring);
+    }
+    if kind == RECLAIM {
+        return reclaim(line, listed, session, ring);
+    }
+    let done = reply(kind, listed, session, ring);
+    replied(line, listed, session, ring, done)
 }
 
-fn made(
-    kind: u8,
-    listed: &[u64],
-    inputs: usize,
-    said: &mut [u64],
-    session: &mut [u8],
-    ring: &mut [u32],
-) -> usize {
-    if kind == 0 {
-        // the ring is not zero before, and stays so behind its words
-        fill(ring, 0xdead_beef);
-        return open(listed, said, session, ring);
+fn reply(kind: u8, listed: &[u64], session: &mut [u8], ring: &mut [u32]) -> PortReply {
+    if kind == POLL {
+        let hcint = word_at(listed, 3);
+        return port::dwc2_iso_poll(session, ring, word_at(listed, 1), word_at(listed, 2), hcint);
     }
-    if kind == 1 {
-        return submit(listed, inputs, said, session, ring);
+    if kind == 4 {
+        return port::dwc2_iso_cancel(session, nth(listed, 1));
     }
-    if kind == 3 {
-        return reclaim(listed, said, session, ring);
-    }
-    if kind == CANCEL {
-        return replied(port::dwc2_iso_cancel(session, nth(listed, 1)), said);
-    }
-    if kind == RESET {
-        return replied(port::dwc2_iso_reset(session), said);
-    }
-    poll(listed, said, session, ring)
+    port::dwc2_iso_reset(session)
+}
+
+fn replied(line: Line, listed: &[u64], session: &[u8], ring: &[u32], r: PortReply) -> Verdict {
+    judge(
+        line,
+        listed,
+        &[
+            r.refusal as u64,
+            r.taken as u64,
+            r.halt as u64,
+            of_words(ring),
+            of_bytes(session),
+        ],
+    )
 }
 
 // The controller's word.
@@ -82,8 +86,19 @@ pub(crate) fn fill(words: &mut [u32], word: u32) {
     }
 }
 
-fn open(listed: &[u64], said: &mut [u64], session: &mut [u8], ring: &mut [u32]) -> usize {
-    let refusal = port::dwc2_iso_open(
+// The ring is not zero before, and stays so behind its words.
+fn open(line: Line, listed: &[u64], session: &mut [u8], ring: &mut [u32]) -> Verdict {
+    fill(ring, 0xdead_beef);
+    let refusal = opened(listed, session, ring);
+    judge(
+        line,
+        listed,
+        &[refusal as u64, of_words(ring), of_bytes(session)],
+    )
+}
+
+fn opened(listed: &[u64], session: &mut [u8], ring: &mut [u32]) -> u32 {
+    port::dwc2_iso_open(
         session,
         ring,
         byte_at(listed, 1),
@@ -94,25 +109,6 @@ fn open(listed: &[u64], said: &mut [u64], session: &mut [u8], ring: &mut [u32]) 
         byte_at(listed, 6),
         byte_at(listed, 7),
         byte_at(listed, 8),
-    );
-    put(said, 0, refusal as u64)
-}
-
-fn replied(reply: PortReply, said: &mut [u64]) -> usize {
-    put_all(
-        said,
-        0,
-        &[reply.refusal as u64, reply.taken as u64, reply.halt as u64],
-    )
-}
-
-fn poll(listed: &[u64], said: &mut [u64], session: &mut [u8], ring: &mut [u32]) -> usize {
-    let reported = word_at(listed, 1);
-    let unplugged = word_at(listed, 2);
-    let hcint = word_at(listed, 3);
-    replied(
-        port::dwc2_iso_poll(session, ring, reported, unplugged, hcint),
-        said,
     )
 }
 
@@ -148,26 +144,24 @@ fn read_lengths(listed: &[u64], inputs: usize, lengths: &mut [u32]) -> usize
     i
 }
 
-fn submit(
-    listed: &[u64],
-    inputs: usize,
-    said: &mut [u64],
-    session: &mut [u8],
-    ring: &mut [u32],
-) -> usize {
+fn submit(line: Line, listed: &[u64], session: &mut [u8], ring: &mut [u32]) -> Verdict {
     let mut lengths = [0u32; 512];
-    let n = read_lengths(listed, inputs, &mut lengths);
-    submitted(
-        port::dwc2_iso_submit(session, ring, &lengths[..n], transfer_of(listed)),
-        said,
-    )
+    let n = read_lengths(listed, line.inputs, &mut lengths);
+    let done = port::dwc2_iso_submit(session, ring, &lengths[..n], transfer_of(listed));
+    submitted(line, listed, session, ring, done)
 }
 
-fn submitted(s: PortSubmitted, said: &mut [u64]) -> usize {
+fn submitted(
+    line: Line,
+    listed: &[u64],
+    session: &[u8],
+    ring: &[u32],
+    s: PortSubmitted,
+) -> Verdict {
     let frames = s.frames;
-    let n = put_all(
-        said,
-        0,
+    judge(
+        line,
+        listed,
         &[
             s.value,
             s.refusal as u64,
@@ -177,49 +171,52 @@ fn submitted(s: PortSubmitted, said: &mut [u64]) -> usize {
             s.hctsiz as u64,
             s.hcintmsk as u64,
             s.frame_count as u64,
+            of_frames(&frames),
+            of_words(ring),
+            of_bytes(session),
         ],
-    );
-    put_frames(said, n, &frames, s.frame_count)
+    )
 }
 
-// The results were 0x5A in each byte. Those of a request that is done are listed, and the sum is over all of them.
-fn reclaim(listed: &[u64], said: &mut [u64], session: &mut [u8], ring: &mut [u32]) -> usize {
+// The results were 0x5A in each byte.
+fn reclaim(line: Line, listed: &[u64], session: &mut [u8], ring: &mut [u32]) -> Verdict {
     let mut results = [0x5a5a_5a5a_5a5a_5a5au64; 255];
-    let id = nth(listed, 1);
-    let reported = word_at(listed, 2);
-    let unplugged = word_at(listed, 3);
-    let hcint = word_at(listed, 4);
-    let done = port::dwc2_iso_reclaim(session, ring, &mut results, id, reported, unplugged, hcint);
-    let n = reclaimed(done, said);
-    let n = put_first(said, n, &results, written(done));
-    put(said, n, of_longs(&results))
+    let done = port::dwc2_iso_reclaim(
+        session,
+        ring,
+        &mut results,
+        nth(listed, 1),
+        word_at(listed, 2),
+        word_at(listed, 3),
+        word_at(listed, 4),
+    );
+    reclaimed(line, listed, session, ring, of_longs(&results), done)
 }
 
-// How many results a reclaim wrote.
-fn written(done: PortReclaimed) -> u32 {
-    if done.completed == 0 {
-        return 0;
-    }
-    if done.outcome == 0 {
-        return done.packets;
-    }
-    0
-}
-
-fn reclaimed(done: PortReclaimed, said: &mut [u64]) -> usize {
-    put_all(
-        said,
-        0,
+fn reclaimed(
+    line: Line,
+    listed: &[u64],
+    session: &[u8],
+    ring: &[u32],
+    results: u64,
+    r: PortReclaimed,
+) -> Verdict {
+    judge(
+        line,
+        listed,
         &[
-            done.refusal as u64,
-            done.completed as u64,
-            done.outcome as u64,
-            done.fault as u64,
-            done.word as u64,
-            done.length as u64,
-            done.packets as u64,
-            done.taken as u64,
-            done.halt as u64,
+            r.refusal as u64,
+            r.completed as u64,
+            r.outcome as u64,
+            r.fault as u64,
+            r.word as u64,
+            r.length as u64,
+            r.packets as u64,
+            r.taken as u64,
+            r.halt as u64,
+            results,
+            of_words(ring),
+            of_bytes(session),
         ],
     )
 }

@@ -1,4 +1,6 @@
 // What was replayed and what differed, as lines.
+use crate::answers::Verdict;
+use crate::answers::flag;
 use crate::answers::nth;
 use crate::answers::put;
 use libc::STDOUT_FILENO;
@@ -25,38 +27,26 @@ pub(crate) fn nothing() -> Found {
     }
 }
 
-pub(crate) fn same(found: Found) -> Found {
-    Found {
-        lines: std::num::wrapping_add_u64(found.lines, 1),
-        differ: found.differ,
-        line: found.line,
-        place: found.place,
-        listed: found.listed,
-        said: found.said,
-    }
-}
-
-// Of several that differ the first is kept.
-pub(crate) fn other(found: Found, place: usize, listed: u64, said: u64) -> Found {
+// Of several lines that differ the first is kept.
+pub(crate) fn noted(found: Found, verdict: Verdict) -> Found {
     let lines = std::num::wrapping_add_u64(found.lines, 1);
-    let differ = std::num::wrapping_add_u64(found.differ, 1);
-    if found.differ == 0 {
+    if verdict.same | (found.differ > 0) {
         return Found {
             lines,
-            differ,
-            line: lines,
-            place,
-            listed,
-            said,
+            differ: std::num::wrapping_add_u64(found.differ, flag(!verdict.same)),
+            line: found.line,
+            place: found.place,
+            listed: found.listed,
+            said: found.said,
         };
     }
     Found {
         lines,
-        differ,
-        line: found.line,
-        place: found.place,
-        listed: found.listed,
-        said: found.said,
+        differ: 1,
+        line: lines,
+        place: verdict.place,
+        listed: verdict.listed,
+        said: verdict.said,
     }
 }
 
@@ -67,45 +57,24 @@ pub(crate) fn bump(counts: &mut [u64], kind: u64) {
     put(counts, at, n);
 }
 
-fn row(name: &[u8], counts: &[u64], kind: usize) {
-    io::write_all(STDOUT_FILENO, name);
-    io::write_all(STDOUT_FILENO, b" ");
-    io::print_decimal(STDOUT_FILENO, nth(counts, kind));
-    io::write_all(STDOUT_FILENO, b"\n");
+// Names with a semicolon behind each, in the order of the kinds' numbers: each on a line with its count.
+fn rows(names: &[u8], counts: &[u64]) {
+    let mut kind: usize = 0;
+    let mut at: usize = 0;
+    while at < names.len() {
+        kind = shown(names[at], counts, kind);
+        at += 1;
+    }
 }
 
-fn of_session(counts: &[u64]) {
-    row(b"open", counts, 0);
-    row(b"submit", counts, 1);
-    row(b"poll", counts, 2);
-    row(b"reclaim", counts, 3);
-    row(b"cancel", counts, 4);
-    row(b"reset", counts, 5);
-    row(b"store into the ring", counts, 6);
-}
-
-fn of_sums(counts: &[u64]) {
-    row(b"ring size", counts, 7);
-    row(b"packet limit", counts, 8);
-    row(b"gcd", counts, 9);
-    row(b"capacity", counts, 10);
-    row(b"starting frame", counts, 11);
-    row(b"slot of a frame", counts, 12);
-    row(b"grid", counts, 13);
-    row(b"SCHINFO", counts, 14);
-    row(b"frame list", counts, 15);
-    row(b"PID", counts, 16);
-    row(b"next number", counts, 17);
-}
-
-fn of_plans(counts: &[u64]) {
-    row(b"data plan", counts, 18);
-    row(b"control plan", counts, 19);
-    row(b"stage read back", counts, 20);
-    row(b"setup bytes", counts, 21);
-    row(b"split", counts, 22);
-    row(b"packets", counts, 23);
-    row(b"store into the array", counts, 24);
+fn shown(byte: u8, counts: &[u64], kind: usize) -> usize {
+    if byte == b';' {
+        part(b" ", nth(counts, kind));
+        io::write_all(STDOUT_FILENO, b"\n");
+        return std::num::wrapping_add_usize(kind, 1);
+    }
+    io::write_all(STDOUT_FILENO, &[byte]);
+    kind
 }
 
 fn part(name: &[u8], n: u64) {
@@ -128,17 +97,22 @@ fn calls(counts: &[u64]) -> u64 {
 }
 
 pub(crate) fn tell(counts: &[u64], found: Found) {
-    of_session(counts);
-    of_sums(counts);
-    of_plans(counts);
+    rows(
+        b"open;submit;poll;reclaim;cancel;reset;store into the ring;ring size;packet limit;gcd;capacity;starting frame;slot of a frame;grid;SCHINFO;frame list;PID;next number;data plan;control plan;stage read back;setup bytes;split;packets;store into the array;",
+        counts,
+    );
     if found.differ > 0 {
-        part(b"first: line ", found.line);
-        part(b", answer ", found.place as u64);
-        part(b", listed ", found.listed);
-        part(b", answered ", found.said);
-        io::write_all(STDOUT_FILENO, b"\n");
+        first(found);
     }
     part(b"", found.differ);
     part(b" of ", calls(counts));
     io::write_all(STDOUT_FILENO, b" calls differ\n");
+}
+
+fn first(found: Found) {
+    part(b"first: line ", found.line);
+    part(b", answer ", found.place as u64);
+    part(b", listed ", found.listed);
+    part(b", answered ", found.said);
+    io::write_all(STDOUT_FILENO, b"\n");
 }

@@ -3,16 +3,16 @@ use mathlib.Core.Path.{_≡_}
 use Prim.Native.Nat.{ℕ, _-_, _≤_, _<_}
 use native.Mathlib.Omega.{arith}
 use borrow.Author.Count.{below-more}
-use lib.ListN.{getD}
+use lib.ListN.{length, getD}
 use borrow.Author.Needs.{needs}
 use Rattle.replay.proofs.answers.first_other.Statement.{statement}
 use Rattle.replay.proofs.answers.first_other.Tie as tie
 
 abbrev Inv-loop : tie.InvT-loop
-Inv-loop listed said count i₀ i = (i ≤ count) × ((k : ℕ) → k < i → getD listed k 0 ≡ getD said k 0)
+Inv-loop listed said i₀ i = (i ≤ length said) × ((k : ℕ) → k < i → getD listed k 0 ≡ getD said k 0)
 
 abbrev μ-loop : tie.MeasureT-loop
-μ-loop listed said count i₀ i = count - i
+μ-loop listed said i₀ i = length said - i
 
 loop-holds : tie.Need-loop-holds Inv-loop μ-loop
 loop-holds c = search needs

@@ -8,10 +8,10 @@ use Rattle.replay.proofs.lines.replay.Statement.{statement}
 use Rattle.replay.proofs.lines.replay.Tie as tie
 
 abbrev Inv-loop : tie.InvT-loop
-Inv-loop text counts₀ listed₀ said₀ session₀ ring₀ array₀ found₀ at₀ counts listed said session ring array found at = (length counts ≡ length counts₀) × (length listed ≡ 512) × (length said ≡ 512) × (length session ≡ 8488) × (length ring ≡ 512) × (length array ≡ 2048)
+Inv-loop text counts₀ listed₀ session₀ words₀ found₀ at₀ counts listed session words found at = (length counts ≡ length counts₀) × (length listed ≡ 512) × (length session ≡ 8488) × (length words ≡ 2048)
 
 abbrev μ-loop : tie.MeasureT-loop
-μ-loop text counts₀ listed₀ said₀ session₀ ring₀ array₀ found₀ at₀ counts listed said session ring array found at = length text - at
+μ-loop text counts₀ listed₀ session₀ words₀ found₀ at₀ counts listed session words found at = length text - at
 
 nothing-requires : tie.Need-nothing-requires Inv-loop μ-loop
 nothing-requires c κs = search needs
@@ -25,23 +25,29 @@ slice-aggregate-read-line c = search needs
 read-line-requires : tie.Need-read-line-requires Inv-loop μ-loop
 read-line-requires c κs = search needs
 
-slice-aggregate-compared : tie.Need-slice-aggregate-compared Inv-loop μ-loop
-slice-aggregate-compared c = search needs
+slice-aggregate-nth : tie.Need-slice-aggregate-nth Inv-loop μ-loop
+slice-aggregate-nth c = search needs
 
-slice-aggregate-compared-2 : tie.Need-slice-aggregate-compared-2 Inv-loop μ-loop
-slice-aggregate-compared-2 c = search needs
+nth-requires : tie.Need-nth-requires Inv-loop μ-loop
+nth-requires c κs = search needs
 
-slice-aggregate-compared-3 : tie.Need-slice-aggregate-compared-3 Inv-loop μ-loop
-slice-aggregate-compared-3 c = search needs
+bump-requires : tie.Need-bump-requires Inv-loop μ-loop
+bump-requires c κs = search needs
 
-slice-aggregate-compared-4 : tie.Need-slice-aggregate-compared-4 Inv-loop μ-loop
-slice-aggregate-compared-4 c = search needs
+slice-aggregate-made : tie.Need-slice-aggregate-made Inv-loop μ-loop
+slice-aggregate-made c = search needs
 
-slice-aggregate-compared-5 : tie.Need-slice-aggregate-compared-5 Inv-loop μ-loop
-slice-aggregate-compared-5 c = search needs
+slice-aggregate-made-2 : tie.Need-slice-aggregate-made-2 Inv-loop μ-loop
+slice-aggregate-made-2 c = search needs
 
-compared-requires : tie.Need-compared-requires Inv-loop μ-loop
-compared-requires c κs = search needs
+slice-aggregate-made-3 : tie.Need-slice-aggregate-made-3 Inv-loop μ-loop
+slice-aggregate-made-3 c = search needs
+
+made-requires : tie.Need-made-requires Inv-loop μ-loop
+made-requires c κs = search needs
+
+noted-requires : tie.Need-noted-requires Inv-loop μ-loop
+noted-requires c κs = search needs
 
 loop-less : tie.Need-loop-less Inv-loop μ-loop
 loop-less c = omega (arith, c .before .before .before .before .before .before .before .before .before .before .before .before .before .before .read-line .ensures (omega arith))
@@ -65,12 +71,14 @@ replay-spec =
     loop-holds
     slice-aggregate-read-line
     read-line-requires
-    slice-aggregate-compared
-    slice-aggregate-compared-2
-    slice-aggregate-compared-3
-    slice-aggregate-compared-4
-    slice-aggregate-compared-5
-    compared-requires
+    slice-aggregate-nth
+    nth-requires
+    bump-requires
+    slice-aggregate-made
+    slice-aggregate-made-2
+    slice-aggregate-made-3
+    made-requires
+    noted-requires
     loop-less
     loop-again
     same-length
