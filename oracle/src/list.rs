@@ -6,6 +6,7 @@
 //! chunk of a length that is one chunk, and of what was refused the toggle. A failed request's packets are those it was submitted with.
 //! Sums stand for many numbers: the 2,048 words of the ring lent (of which the session uses 512 or 128) or of a plan's array, the bytes
 //! of a session, the 64 bytes of a frame list, the 255 results lent, the seven numbers of a stage (of one that is not there, zeros).
+//! The eight setup bytes are one number, the first byte its lowest; an opening answers as a poll does.
 //! "store" and "poke" are no calls: the controller's words, into the ring and into the array of a plan.
 
 use crate::diff::{Pair, on_domain};
@@ -279,8 +280,8 @@ fn control(list: &mut List, rng: &mut Rng, r: ControlRequest) -> Result<(), Stri
         return Err(format!("{r:?} {fields:?}: setup bytes, Rust {bytes:?}"));
     }
     let named = [fields.kind.into(), fields.recipient.into(), way, fields.request.into(), fields.value.into(), fields.index.into(), r.len];
-    let bytes: Vec<u64> = std::iter::once(0).chain(bytes.into_iter().map(u64::from)).collect();
-    list.line("setup", &named, &bytes);
+    let bytes: [u8; 8] = bytes.try_into().map_err(|_| "no eight setup bytes")?;
+    list.line("setup", &named, &[0, u64::from_le_bytes(bytes)]);
     read_back(list, rng, &plan, &mut array, &mut rust)
 }
 
@@ -340,7 +341,7 @@ impl Run {
             cfg.device.into(),
             cfg.mult.into(),
         ];
-        let mut answers = vec![0];
+        let mut answers = vec![0; 3];
         answers.extend(run.sums());
         list.line("open", &inputs, &answers);
         run

@@ -16,7 +16,11 @@ use libc::STDIN_FILENO;
 
 fn main() {
     let mut text = [0u8; 300000];
-    let n = io::read_full(STDIN_FILENO, &mut text);
+    run(&mut text);
+}
+
+fn run(text: &mut [u8]) {
+    let n = io::read_full(STDIN_FILENO, text);
     let mut counts = [0u64; 25];
     let found = lines::replay(&text[..n], &mut counts);
     tally::tell(&counts, found);

@@ -239,34 +239,35 @@ fn recipient_of(n: u64) -> Recipient {
     Recipient::Other
 }
 
-fn setup(line: Line, listed: &[u64]) -> Verdict {
-    let named = ControlSetup {
+fn setup_of(listed: &[u64]) -> ControlSetup {
+    ControlSetup {
         request_type: request_type_of(nth(listed, 1)),
         recipient: recipient_of(nth(listed, 2)),
         request: byte_at(listed, 4),
         value: half_at(listed, 5),
         index: half_at(listed, 6),
-    };
-    let packet = plan::setup_packet_bytes(named, direction_of(nth(listed, 3)), nth(listed, 7));
-    let answer = packet.answer;
-    let bytes = packet.bytes;
-    judge(
-        line,
-        listed,
-        &[
-            refusal(answer),
-            wide(bytes[0]),
-            wide(bytes[1]),
-            wide(bytes[2]),
-            wide(bytes[3]),
-            wide(bytes[4]),
-            wide(bytes[5]),
-            wide(bytes[6]),
-            wide(bytes[7]),
-        ],
-    )
+    }
 }
 
-fn wide(x: u8) -> u64 {
-    x as u64
+fn setup(line: Line, listed: &[u64]) -> Verdict {
+    let direction = direction_of(nth(listed, 3));
+    let packet = plan::setup_packet_bytes(setup_of(listed), direction, nth(listed, 7));
+    let answer = packet.answer;
+    let bytes = packet.bytes;
+    judge(line, listed, &[refusal(answer), number_of(&bytes)])
+}
+
+// Eight bytes as one number, the first byte its lowest.
+fn number_of(bytes: &[u8; 8]) -> u64 {
+    let mut number: u64 = 0;
+    let mut left: usize = 8;
+    while left > 0 {
+        left -= 1;
+        number = longer(number, bytes[left]);
+    }
+    number
+}
+
+fn longer(number: u64, byte: u8) -> u64 {
+    number % 72_057_594_037_927_936 * 256 + byte as u64
 }

@@ -17,13 +17,15 @@ use port::PortReply;
 use port::PortSubmitted;
 use port::PortTransfer;
 
-const OPEN: u8 = 0;
-
 const SUBMIT: u8 = 1;
 
 const POLL: u8 = 2;
 
 const RECLAIM: u8 = 3;
+
+const CANCEL: u8 = 4;
+
+const RESET: u8 = 5;
 
 pub(crate) fn call(
     kind: u8,
@@ -32,9 +34,6 @@ pub(crate) fn call(
     session: &mut [u8],
     ring: &mut [u32],
 ) -> Verdict {
-    if kind == OPEN {
-        return open(line, listed, session, ring);
-    }
     if kind == SUBMIT {
         return submit(line, listed, session, ring);
     }
@@ -50,10 +49,15 @@ fn reply(kind: u8, listed: &[u64], session: &mut [u8], ring: &mut [u32]) -> Port
         let hcint = word_at(listed, 3);
         return port::dwc2_iso_poll(session, ring, word_at(listed, 1), word_at(listed, 2), hcint);
     }
-    if kind == 4 {
+    if kind == CANCEL {
         return port::dwc2_iso_cancel(session, nth(listed, 1));
     }
-    port::dwc2_iso_reset(session)
+    if kind == RESET {
+        return port::dwc2_iso_reset(session);
+    }
+    // the ring is not zero before, and stays so behind its words
+    fill(ring, 0xdead_beef);
+    open(listed, session, ring)
 }
 
 fn replied(line: Line, listed: &[u64], session: &[u8], ring: &[u32], r: PortReply) -> Verdict {
@@ -86,19 +90,8 @@ pub(crate) fn fill(words: &mut [u32], word: u32) {
     }
 }
 
-// The ring is not zero before, and stays so behind its words.
-fn open(line: Line, listed: &[u64], session: &mut [u8], ring: &mut [u32]) -> Verdict {
-    fill(ring, 0xdead_beef);
-    let refusal = opened(listed, session, ring);
-    judge(
-        line,
-        listed,
-        &[refusal as u64, of_words(ring), of_bytes(session)],
-    )
-}
-
-fn opened(listed: &[u64], session: &mut [u8], ring: &mut [u32]) -> u32 {
-    port::dwc2_iso_open(
+fn open(listed: &[u64], session: &mut [u8], ring: &mut [u32]) -> PortReply {
+    let refusal = port::dwc2_iso_open(
         session,
         ring,
         byte_at(listed, 1),
@@ -109,7 +102,12 @@ fn opened(listed: &[u64], session: &mut [u8], ring: &mut [u32]) -> u32 {
         byte_at(listed, 6),
         byte_at(listed, 7),
         byte_at(listed, 8),
-    )
+    );
+    PortReply {
+        refusal,
+        taken: 0,
+        halt: 0,
+    }
 }
 
 fn transfer_of(listed: &[u64]) -> PortTransfer {
