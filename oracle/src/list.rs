@@ -2,6 +2,7 @@
 //!
 //! A line is a call: the number and the name of its kind, what goes in, a colon, what comes out; numbers are hexadecimal in capitals.
 //! Every call was put to the Rust and to the model, and both agreed on all that the comparison of session calls and plans looks at.
+//! All lie on demand 2's domain, but for those that both refuse with 11: there an address begins above 32 bits.
 //! The answers are the Rust's. The model's, compared with the Rust's in the Rust's own form, are: the sum of a session's bytes, the
 //! chunk of a length that is one chunk, and of what was refused the toggle. A failed request's packets are those it was submitted with.
 //! Sums stand for many numbers: the 2,048 words of the ring lent (of which the session uses 512 or 128) or of a plan's array, the bytes

@@ -1,8 +1,8 @@
 // The stored list, replayed with no Rust at hand: 3,031 calls of ring sums, planning and the session, each made once more and all its
 // answers compared with those on its line of the file `stdin`. `oracle list --seed 1` writes that file: its answers are the Rust's
-// (source document 000), and the model of document 01 agreed with the Rust at each of these calls. `cmp` shows whether it is the
-// same list still. The oracle's list.rs says what a line holds; here only capitals and the figures 0 to 9 are digits, so that the
-// names on a line are passed over. Sums stand for the words of a ring or an array and for the bytes of a session.
+// (source document 000), and the model of document 01 agreed with the Rust at each of these calls. `oracle list --seed 1 | cmp - stdin`
+// shows whether it is still the same list. The head of the oracle's list.rs says what a line holds. Digits are 0 to 9 and A to F in
+// capitals, so that the names on a line are passed over.
 mod answers;
 mod digest;
 mod figures;
