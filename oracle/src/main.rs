@@ -12,6 +12,8 @@ mod differences;
 mod gen_calls;
 mod gen_plans;
 mod layout;
+#[cfg(lifted)]
+mod list;
 mod model;
 mod model_plan;
 mod off;
@@ -32,6 +34,7 @@ oracle port [--seed S] [--calls N] [--plans N] [--whole] [--session-only] [--off
 oracle demand3 [--seed S] [--cuts N] [--largest R]           demand 3 by brute force
 oracle worked                                                01's worked numbers P1 to P8, on both sides
 oracle differences [-- DRIVER ARGS..]                        docs/DIFFERENCES.md, run on both sides, and by the port
+oracle list [--seed S]                                       the stored list (crates/replay/stdin)
 oracle slips [--seed S]                                      every small wrong change of the model is seen
 oracle serve [--slip NAME]                                   the model as a driver, on standard input and output
 ";
@@ -128,6 +131,16 @@ fn differences(args: &Args) -> Result<(), String> {
 
 #[cfg(not(lifted))]
 fn differences(_args: &Args) -> Result<(), String> {
+    without_rust()
+}
+
+#[cfg(lifted)]
+fn list(args: &Args) -> Result<(), String> {
+    list::run(args.seed)
+}
+
+#[cfg(not(lifted))]
+fn list(_args: &Args) -> Result<(), String> {
     without_rust()
 }
 
@@ -311,6 +324,7 @@ fn main() -> ExitCode {
         "demand3" => about_demand3(&args),
         "worked" => worked::run(),
         "differences" => differences(&args),
+        "list" => list(&args),
         "slips" => all_slips(&args),
         "serve" => serve(args.slip),
         _ => {
