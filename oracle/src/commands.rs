@@ -53,6 +53,16 @@ pub fn differences(_args: &Args) -> Result<(), String> {
 }
 
 #[cfg(lifted)]
+pub fn list(args: &Args) -> Result<(), String> {
+    crate::list::run(args.seed)
+}
+
+#[cfg(not(lifted))]
+pub fn list(_args: &Args) -> Result<(), String> {
+    without_rust()
+}
+
+#[cfg(lifted)]
 fn three(args: &Args, party: &mut dyn Party) -> Result<(), String> {
     println!("on the domain, the driver, the model and the lifted Rust:");
     diff::session(args.seed, args.calls, Some(party))?.print();

@@ -8,7 +8,7 @@ use lifted::Camera;
 use lifted::calls::*;
 
 /// "none of 8, 11, 13, 17 to 20 given", no cut, no recovery
-fn on_domain(call: &Call, s: &Session, ring: &[u32]) -> bool {
+pub fn on_domain(call: &Call, s: &Session, ring: &[u32]) -> bool {
     match call {
         Call::Recover { .. } => false,
         Call::Submit { .. } => {
@@ -32,7 +32,7 @@ pub struct Pair {
     pub model: Session,
     pub ring: Vec<u32>,
     rust: Camera,
-    rust_ring: Vec<u32>,
+    pub rust_ring: Vec<u32>,
 }
 
 pub const BLANK: u64 = 0x5a5a_5a5a_5a5a_5a5a;
@@ -55,27 +55,32 @@ impl Pair {
         if !on_domain(call, &self.model, &self.ring) {
             return None;
         }
+        Some(self.both(call, connected).map(|(reply, _)| reply.answer))
+    }
+
+    /// what the Rust replied, and its results, where the model did the same
+    pub fn both(&mut self, call: &Call, connected: bool) -> Result<(Reply, [u64; 255]), Difference> {
         let mut ours = [BLANK; 255];
         let mut theirs = [BLANK; 255];
         let mine = comparable(self.model.call(call, &mut self.ring, &mut ours));
         let rust = self.rust.call(call, &mut theirs, connected);
         if mine != rust {
-            return Some(Err(format!("model {mine:?}\n     Rust  {rust:?}")));
+            return Err(format!("model {mine:?}\n     Rust  {rust:?}"));
         }
         if ours != theirs {
             let at = (0..255).find(|i| ours[*i] != theirs[*i]).unwrap();
-            return Some(Err(format!("result {at}: model {:#x}, Rust {:#x}", ours[at], theirs[at])));
+            return Err(format!("result {at}: model {:#x}, Rust {:#x}", ours[at], theirs[at]));
         }
         self.rust.ring(&mut self.rust_ring);
         if self.ring != self.rust_ring {
             let at = (0..self.ring.len()).find(|i| self.ring[*i] != self.rust_ring[*i]).unwrap();
-            return Some(Err(format!("ring word {at}: model {:#010x}, Rust {:#010x}", self.ring[at], self.rust_ring[at])));
+            return Err(format!("ring word {at}: model {:#010x}, Rust {:#010x}", self.ring[at], self.rust_ring[at]));
         }
         let (view, rust_view) = (self.model.view(), self.rust.view());
         if view != rust_view {
-            return Some(Err(format!("session:\n     model {view:?}\n     Rust  {rust_view:?}")));
+            return Err(format!("session:\n     model {view:?}\n     Rust  {rust_view:?}"));
         }
-        Some(Ok(mine.answer))
+        Ok((rust, theirs))
     }
 }
 

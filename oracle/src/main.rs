@@ -15,6 +15,8 @@ mod faults;
 mod gen_calls;
 mod gen_plans;
 mod layout;
+#[cfg(lifted)]
+mod list;
 mod model;
 mod model_plan;
 mod off;
@@ -33,6 +35,7 @@ oracle port [--seed S] [--calls N] [--plans N] [--whole] [--session-only] [--off
 oracle demand3 [--seed S] [--cuts N] [--largest R]           demand 3 by brute force
 oracle worked                                                01's worked numbers P1 to P8, on both sides
 oracle differences [-- DRIVER ARGS..]                        docs/DIFFERENCES.md, run on both sides, and by the port
+oracle list [--seed S]                                       the stored list (crates/replay/stdin)
 oracle slips [--seed S]                                      every small wrong change of the model is seen
 oracle serve [--slip NAME]                                   the model as a driver, on standard input and output
 ";
@@ -50,6 +53,7 @@ fn main() -> ExitCode {
         "demand3" => faults::about_demand3(&args),
         "worked" => worked::run(),
         "differences" => commands::differences(&args),
+        "list" => commands::list(&args),
         "slips" => faults::all_slips(&args),
         "serve" => commands::serve(args.slip),
         _ => {

@@ -5,7 +5,7 @@ use Prim.Native.Nat.{ℕ, zero, suc, _+_, _*_, _≤_, _<_}
 use native.Mathlib.Omega.{arith}
 use lib.ListN.{length, getD, set, take, drop, length-set}
 use lib.Seq.{set-comm, getD-set-same, getD-set-other, drop-set-lt}
-use Rattle.session.specs.Submit.{Store, stored, storesFrom}
+use Rattle.ring.specs.Stores.{Store, stored, storesFrom}
 use Rattle.laws.specs.Drawing.{Laid, blankLaid, drawn, wordsOf, slotOf, wordAt, Holds, plannedFrom, Among, Absent, Distinct}
 use Rattle.laws.proofs.Lists.{absent-head, absent-tail, absent-cons, absent-none, absent-take, distinct-head, distinct-tail}
 

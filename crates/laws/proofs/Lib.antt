@@ -1,4 +1,5 @@
--- Demand 3: the laws of drawings and of a run's steps, and the theorem.
+-- What the calls of a session do, for the reader; and demand 3: the laws of drawings and of a run's steps, and the theorem.
+pub mod Calls
 pub mod Controller
 pub mod Drawn
 pub mod Ended

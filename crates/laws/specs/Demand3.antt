@@ -15,11 +15,12 @@ use Rattle.session.specs.declared.transfer.SubmitAnswer.the-variants.{Accepted}
 use Rattle.session.specs.declared.reply.IsoAnswer.the-variants.{Done}
 use Rattle.session.specs.declared.reply.IsoReply.{IsoReply}
 use Rattle.session.specs.Session.{slots, ringWords}
-use Rattle.session.specs.Submit.{insertOf, stepOf, pendingPlans, stored, submitted, submittedRing}
+use Rattle.ring.specs.Stores.{stored}
+use Rattle.session.specs.Submit.{insertOf, stepOf, pendingPlans, submitted, submittedRing}
 use Rattle.session.specs.Poll.{recovered, recoveredRing}
-use Rattle.session.proofs.Ending.{IdleAfter, Disconnected}
 use Rattle.session.specs.Reclaim.{requestOf}
 use Rattle.laws.specs.Drawing.{Laid, blankLaid, wordsOf, slotOf, wordAt, Holds, Among, Absent}
+use Rattle.laws.specs.Ending.{IdleAfter, Disconnected}
 use Rattle.laws.specs.Run.{State, Touch, touchedBy, planned, GuardedRun, reached}
 
 -- ---- an accepted submission, stopped

@@ -5,7 +5,7 @@ use Prim.Native.Nat.{ℕ, suc, _+_, _*_, _<_}
 use lib.ListN.{length, getD, set}
 use Rattle.words.specs.Words.{isoStatus}
 use Rattle.ring.specs.RingSums.{slotAt}
-use Rattle.session.specs.Submit.{Store, isLast}
+use Rattle.ring.specs.Stores.{Store, isLast}
 
 pub record Laid : Type 0 where
   pub slot : ℕ

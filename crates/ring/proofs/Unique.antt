@@ -1,12 +1,15 @@
 -- Each public function's promise leaves one answer: two that keep it, at the same arguments, are equal. Each line is over the function's own
 -- contract, so it fails where the promise is weakened.
+use mathlib.Core.List.{List}
 use mathlib.Core.Path.{refl}
-use Rattle.words.proofs.Unique.{Unique, equal}
+use Prim.Native.Nat.{ℕ}
+use Rattle.words.proofs.Unique.{Unique, equal, equal-lent}
 use Rattle.ring.proofs.frames
 use Rattle.ring.proofs.grid
 use Rattle.ring.proofs.pid
 use Rattle.ring.proofs.request
 use Rattle.ring.proofs.speed
+use Rattle.ring.proofs.store
 
 pub iso-ring-size-unique : Unique 0 speed.iso_ring_size.Kinds.ps speed.iso_ring_size.Kinds.r speed.iso_ring_size.Reads.Post
 iso-ring-size-unique κs a x y u v = equal refl
@@ -40,3 +43,9 @@ iso-pid-unique κs a x y u v = equal refl
 
 pub next-request-id-unique : Unique 0 request.next_request_id.Kinds.ps request.next_request_id.Kinds.r request.next_request_id.Reads.Post
 next-request-id-unique κs a x y u v = equal refl
+
+pub next-slot-unique : Unique 0 store.next_slot.Kinds.ps store.next_slot.Kinds.r store.next_slot.Reads.Post
+next-slot-unique κs a x y u v = equal refl
+
+pub store-packets-unique : Unique 2 store.store_packets.Kinds.ps store.store_packets.Kinds.r store.store_packets.Reads.Post
+store-packets-unique κs a x y u v = equal-lent (λ (words : List ℕ). (words, (tt, (tt, (tt, (tt, (tt, (tt, tt))))))))

@@ -1,2 +1,3 @@
 pub mod Gcd
 pub mod RingSums
+pub mod Stores

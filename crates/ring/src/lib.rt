@@ -1,9 +1,10 @@
-// The sums of the descriptor ring: document 01, "Ring sums". Every function answers for every input, and none has a `requires`.
+// The sums of the descriptor ring, and the packets of a submission stored into it: document 01, "Ring sums" and "Submit". Every function answers for every input, and none has a `requires`.
 mod frames;
 mod grid;
 mod pid;
 mod request;
 mod speed;
+mod store;
 
 pub use frames::IsoServiceFrames;
 pub use frames::frame_to_desc_idx;
@@ -18,3 +19,5 @@ pub use request::next_request_id;
 pub use speed::Speed;
 pub use speed::iso_max_xfer_size;
 pub use speed::iso_ring_size;
+pub use store::next_slot;
+pub use store::store_packets;

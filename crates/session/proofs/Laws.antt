@@ -1,13 +1,9 @@
 pub mod Admitted
 pub mod Checks
-pub mod Drained
 pub mod Ended
-pub mod Guarded
 pub mod Handed
-pub mod Kept
 pub mod Lent
 pub mod Lists
-pub mod Places
 pub mod Polled
 pub mod Polls
 pub mod Reclaims

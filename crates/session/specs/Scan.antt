@@ -19,7 +19,8 @@ use Rattle.session.specs.declared.transfer.SubmitWay.{SubmitWay}
 use Rattle.session.specs.declared.transfer.SubmitWay.the-variants.{Refuse, TooLong, Spend, Early, Cut, Late, Accept}
 use Rattle.session.specs.Session.{slots, ringWords, cleared, allPackets, pendingPackets}
 use Rattle.session.specs.Record.{isBadRecord}
-use Rattle.session.specs.Submit.{stepOf, startAt, tailSlot, isHeld, pendingPlans, stored, storesFrom, spent, unplugged}
+use Rattle.ring.specs.Stores.{stored, storesFrom}
+use Rattle.session.specs.Submit.{stepOf, startAt, tailSlot, isHeld, pendingPlans, spent, unplugged}
 
 -- a session by its parts, and one of which only the configuration and the numbers are read
 abbrev pub whole : IsoConfig → IsoHead → IsoFatal → List IsoRequest → List IsoPacketPlan → IsoChannelState

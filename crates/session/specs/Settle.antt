@@ -5,10 +5,8 @@ use mathlib.Core.List.{List, [], _∷_, map}
 use Prim.Native.Nat.{ℕ, zero, suc, _+_, _-_, _*_}
 use lib.ListN.{getD, set}
 use lib.Seq.{slice, sets}
-use Rattle.words.specs.Field.{get}
-use Rattle.words.specs.Words.{isSet, active, isoByteCount, isPacketError}
+use Rattle.words.specs.Words.{isSet, active, isPacketError, movedLength}
 use Rattle.words.specs.declared.types.Direction.{Direction}
-use Rattle.words.specs.declared.types.Direction.the-variants.{In, Out}
 use Rattle.session.specs.declared.types.IsoOutcome.the-variants.{Done}
 use Rattle.session.specs.declared.types.IsoRequest.{IsoRequest}
 use Rattle.session.specs.declared.types.IsoPacketPlan.{IsoPacketPlan}
@@ -17,11 +15,6 @@ use Rattle.session.specs.declared.types.TransferStatus.the-variants.{Com
 use Rattle.session.specs.declared.types.IsoHead.{IsoHead}
 use Rattle.session.specs.declared.types.IsoChannelState.{IsoChannelState}
 use Rattle.session.specs.Session.{blankRequest, blankPlan, packetsOf}
-
--- "IN length is planned minus remaining, not below 0; OUT is planned."
-abbrev pub movedLength : Direction → ℕ → ℕ → ℕ
-movedLength In planned status = planned - get isoByteCount status
-movedLength Out planned status = planned
 
 abbrev pub statusOf : Bool → TransferStatus
 statusOf true = Error

@@ -6,10 +6,11 @@ use Prim.Native.Nat.{ℕ, suc, _+_, _-_, _*_, max}
 use lib.Dec.{eqb, ltb}
 use lib.ListN.{length, getD, set, take}
 use lib.Seq.{sets, slice}
-use Rattle.words.specs.Words.{isoStatus, isSet, active, hccharWord, hctsizWord, isoHcintmsk, isBeyond}
+use Rattle.words.specs.Words.{isSet, active, hccharWord, hctsizWord, isoHcintmsk, isBeyond}
 use Rattle.words.specs.declared.types.Dwc2EpType.the-variants.{Isochronous}
 use Rattle.ring.specs.declared.speed.Speed.{Speed}
 use Rattle.ring.specs.declared.speed.Speed.the-variants.{High, Full, Low}
+use Rattle.ring.specs.Stores.{Store, stored, storesFrom}
 use Rattle.ring.specs.RingSums.{packetLimit, startingFrame, frameSlot, gridSlot, slotAt, slotsFrom, schinfo, pidOf, serviceFrames, frameTable, nextNumber}
 use Rattle.session.specs.declared.types.IsoMode.{IsoMode}
 use Rattle.session.specs.declared.types.IsoMode.the-variants.{Compatible, Guarded}
@@ -59,27 +60,6 @@ tailSlot s = getD (s .plans) (allPackets s - 1) blankPlan .«desc_index»
 
 abbrev pub insertOf : IsoChannelState → IsoTransfer → List ℕ → ℕ
 insertOf s t ring = insertAt (s .cfg) (s .head) t (tailSlot s) ring
-
--- a word to store, and words stored one after the other
-pub record Store : Type 0 where
-  pub word : ℕ
-  pub value : ℕ
-
-abbrev pub stored : List Store → List ℕ → List ℕ
-stored [] ring = ring
-stored (x ∷ xs) ring = stored xs (set ring (x .word) (x .value))
-
-abbrev pub isLast : List ℕ → Bool
-isLast [] = true
-isLast (l ∷ ls) = false
-
--- "Packet i goes to (insert + i × interval) mod R, the address word before the status word." The packets from number i on, of these lengths
-abbrev pub storesFrom : ℕ → ℕ → ℕ → ℕ → ℕ → List ℕ → List Store
-storesFrom R insert step i addr [] = []
-storesFrom R insert step i addr (l ∷ ls) =
-    record { word = 2 * slotAt R insert step i + 1; value = addr }
-    ∷ record { word = 2 * slotAt R insert step i; value = isoStatus l (isLast ls) }
-    ∷ storesFrom R insert step (suc i) (addr + l) ls
 
 abbrev pub storesOf : IsoChannelState → IsoTransfer → List ℕ → List ℕ → List Store
 storesOf s t lengths ring = storesFrom (slots (s .cfg)) (insertOf s t ring) (stepOf (s .cfg)) 0 (t .base) lengths

@@ -4,7 +4,6 @@ ghost use Prim.Native.Nat.{_≤_, _<_};
 ghost use Rattle.words.specs.Words.{active};
 ghost use Rattle.session.specs.Session.{slots};
 ghost use Rattle.session.specs.Submit.{stepOf, startAt, cursorAt, targetAt, insertAt};
-use crate::store::is_active_at;
 use crate::transfer::IsoTransfer;
 use crate::types::IsoConfig;
 use crate::types::IsoHead;
@@ -12,6 +11,7 @@ use ring::advance_along_grid;
 use ring::frame_to_desc_idx;
 use ring::iso_ring_size;
 use ring::iso_starting_frame;
+use words::is_active_at;
 
 pub(crate) fn slots_of(cfg: IsoConfig) -> u16
     ensures { λ r. ⌜ (r ≡ slots cfg) × (0 < r) × (r ≤ 256) ⌝ }

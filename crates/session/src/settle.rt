@@ -2,15 +2,11 @@
 ghost use mathlib.Core.Path.{_≡_};
 ghost use mathlib.Core.Bool.{false};
 ghost use mathlib.Core.List.{map};
-ghost use Prim.Native.Nat.{_+_, _*_, _≤_, _<_};
-ghost use lib.ListN.{set};
+ghost use Prim.Native.Nat.{_≤_, _<_};
 ghost use lib.Seq.{slice, sets};
 ghost use Rattle.words.specs.Words.{isPacketError};
 ghost use Rattle.session.specs.Record.{isBadRecord};
-ghost use Rattle.session.specs.Settle.{movedLength, statusOf, settledPlan, oldestFrom, oldestTo, movedTotal, slotsCleared, settledSession, settledRing, isServed, drained};
-use crate::store::is_active_at;
-use crate::store::put_word;
-use crate::store::status_at;
+ghost use Rattle.session.specs.Settle.{statusOf, settledPlan, oldestFrom, oldestTo, movedTotal, slotsCleared, settledSession, settledRing, isServed, drained};
 use crate::tables::packets_of;
 use crate::tables::wide;
 use crate::types::IsoChannelState;
@@ -20,22 +16,10 @@ use crate::types::IsoRequest;
 use crate::types::TransferStatus;
 use words::Direction;
 use words::DmaDescriptor;
-
-// The bytes moved: IN what was planned without what remains, OUT what was planned.
-fn moved_length(direction: Direction, planned: u16, status: u32) -> u16
-    ensures { λ r. ⌜ r ≡ movedLength direction planned status ⌝ }
-{
-    let left = DmaDescriptor { status, paddr: 0 }.iso_remaining();
-    match direction {
-        Direction::In => {
-            if planned as u32 <= left {
-                return 0;
-            }
-            planned - left as u16
-        }
-        Direction::Out => planned,
-    }
-}
+use words::clear_slot;
+use words::is_active_at;
+use words::moved_length;
+use words::status_at;
 
 fn status_of(status: u32) -> TransferStatus
     ensures { λ r. ⌜ r ≡ statusOf (isPacketError status) ⌝ }
@@ -101,14 +85,6 @@ fn moved_total(plans: [IsoPacketPlan; 1024], from: u32, to: u32) -> u32
         i += 1;
     }
     sum
-}
-
-fn clear_slot(ring: &mut [u32], slot: u16)
-    ensures { λ _. ⌜ now (ring .exit) ≡ set (set (now (ring .entry)) (2 * slot) 0) (2 * slot + 1) 0 ⌝ }
-{
-    let at = 2 * slot as usize;
-    put_word(ring, at, 0);
-    put_word(ring, at + 1, 0)
 }
 
 // Both words of the slots of the plans from `from` to `to` become zero.

@@ -1,84 +1,13 @@
-// The loops of a submission: its packets into the ring, and the tests that walk them.
+// The tests of a submission that walk its packets.
 ghost use mathlib.Core.Path.{_≡_};
 ghost use mathlib.Core.Bool.{false};
 ghost use mathlib.Core.List.{List};
-ghost use Prim.Native.Nat.{ℕ, _+_, _*_, _%_, _≤_, _<_};
-ghost use lib.ListN.{length, getD, set, take};
-ghost use Rattle.words.specs.Words.{isSet, active};
+ghost use Prim.Native.Nat.{ℕ, _≤_, _<_};
+ghost use lib.ListN.{length, getD};
 ghost use Rattle.ring.specs.RingSums.{slotsFrom};
 ghost use Rattle.session.specs.declared.types.IsoPacketPlan.{IsoPacketPlan};
-ghost use Rattle.session.specs.Submit.{stored, storesFrom, sum, firstLong, isHeld, anyHeld};
-use words::DmaDescriptor;
-
-// The word at `at`, if the ring has it.
-pub(crate) fn put_word(ring: &mut [u32], at: usize, value: u32)
-    ensures { λ _. ⌜ now (ring .exit) ≡ set (now (ring .entry)) at value ⌝ }
-{
-    if at < ring.len() {
-        ring[at] = value;
-    }
-}
-
-// The status word of a slot, 0 where the ring does not have it.
-pub(crate) fn status_at(ring: &[u32], slot: u16) -> u32
-    ensures { λ r. ⌜ r ≡ getD (now (ring .entry)) (2 * slot) 0 ⌝ }
-{
-    let at = 2 * slot as usize;
-    if at < ring.len() {
-        return ring[at];
-    }
-    0
-}
-
-// The controller still owns the slot.
-pub(crate) fn is_active_at(ring: &[u32], slot: u16) -> bool
-    ensures { λ r. ⌜ r ≡ isSet active (getD (now (ring .entry)) (2 * slot) 0) ⌝ }
-{
-    let status = status_at(ring, slot);
-    DmaDescriptor { status, paddr: 0 }.is_active()
-}
-
-pub(crate) fn next_slot(slot: u16, step: u16, slots: u16) -> u16
-    requires { ⌜ 0 < slots ⌝ }
-    ensures { λ r. ⌜ r ≡ (slot + step) % slots ⌝ }
-{
-    ((slot as u32 + step as u32) % slots as u32) as u16
-}
-
-// Stores the packets' words, the address before the status, since the status hands the slot to the controller; at most `words` of
-// them.
-pub(crate) fn store_packets(
-    ring: &mut [u32],
-    slots: u16,
-    insert: u16,
-    step: u16,
-    base: u32,
-    lengths: &[u32],
-    words: u32,
-)
-    requires { ⌜ (0 < slots) × (base + sum (now lengths) ≤ 4294967295) ⌝ }
-    ensures { λ _. ⌜ now (ring .exit) ≡ stored (take words (storesFrom slots insert step 0 base (now (lengths .entry)))) (now (ring .entry)) ⌝ }
-{
-    let mut slot = insert % slots;
-    let mut addr = base;
-    let mut left = words;
-    let mut i: usize = 0;
-    while i < lengths.len() {
-        if left == 0 {
-            return;
-        }
-        let desc = DmaDescriptor::new_iso(addr, lengths[i], i + 1 == lengths.len());
-        put_word(ring, 2 * slot as usize + 1, desc.paddr);
-        if left == 1 {
-            return;
-        }
-        put_word(ring, 2 * slot as usize, desc.status);
-        left -= 2;
-        addr += lengths[i];
-        slot = next_slot(slot, step, slots);
-        i += 1;
-    }
-}
+ghost use Rattle.session.specs.Submit.{sum, firstLong, isHeld, anyHeld};
+use ring::next_slot;
 
 // The number of packets before the first that is longer than the limit.
 pub(crate) fn first_long(limit: u16, lengths: &[u32]) -> usize

@@ -9,15 +9,14 @@ ghost use lib.ListN.{length, take};
 ghost use Rattle.session.specs.declared.transfer.SubmitWay.the-variants.{Accept};
 ghost use Rattle.session.specs.Session.{slots, ringWords};
 ghost use Rattle.session.specs.Scan.{only, isGate, added, headAfter, ringBy};
-ghost use Rattle.session.specs.Submit.{sum, stepOf, stored, storesFrom, spent, unplugged, newRequest, startWords, noStart, answerOf, submitted, submittedRing};
+ghost use Rattle.ring.specs.Stores.{stored, storesFrom};
+ghost use Rattle.session.specs.Submit.{sum, stepOf, spent, unplugged, newRequest, startWords, noStart, answerOf, submitted, submittedRing};
 use crate::open::clear_ring;
 use crate::open::ring_words;
 use crate::place::insert_of;
 use crate::place::slots_of;
 use crate::place::start_of;
 use crate::place::step_of;
-use crate::store::next_slot;
-use crate::store::store_packets;
 use crate::transfer::IsoChannelStart;
 use crate::transfer::IsoTransfer;
 use crate::transfer::SubmitAnswer;
@@ -36,6 +35,8 @@ use ring::iso_pid;
 use ring::iso_schinfo;
 use ring::iso_service_frames;
 use ring::next_request_id;
+use ring::next_slot;
+use ring::store_packets;
 use words::Dwc2EpType;
 
 fn no_start() -> IsoChannelStart

@@ -11,6 +11,7 @@ use Rattle.words.proofs.channel
 use Rattle.words.proofs.descriptor
 use Rattle.words.proofs.descriptor.DmaDescriptor
 use Rattle.words.proofs.interrupt
+use Rattle.words.proofs.lent
 
 -- a promise fixes the result, and what lies behind each reference at the exit
 abbrev pub Unique : (n : ℕ) (ps : List (PK n)) (r : RK n) → Out n ps r → Type 0
@@ -23,6 +24,10 @@ Unique n ps r Post =
 -- a promise that is an equation of the result
 pub equal : {A L : Type 0} {x y e : A} {u v : L} → u ≡ v → x ≡ e → y ≡ e → (x ≡ y) × (u ≡ v)
 equal l p q = (p ∙ sym q, l)
+
+-- one of what a lent slice holds at the exit, where there is no result
+pub equal-lent : {L : Type 0} {x y : Unit {0}} {l m n : List ℕ} (at : List ℕ → L) → m ≡ l → n ≡ l → (x ≡ y) × (at m ≡ at n)
+equal-lent at p q = (refl, ap at (p ∙ sym q))
 
 -- one of the result and of what one, two or three lent slices hold at the exit; `at` puts them in the places of their arguments
 pub equal-both :
@@ -56,6 +61,9 @@ hctsiz-ddma-unique κs a x y u v = equal refl
 
 pub initial-len-unique : Unique 0 descriptor.initial_len.Kinds.ps descriptor.initial_len.Kinds.r descriptor.initial_len.Reads.Post
 initial-len-unique κs a x y u v = equal refl
+
+pub moved-length-unique : Unique 0 descriptor.moved_length.Kinds.ps descriptor.moved_length.Kinds.r descriptor.moved_length.Reads.Post
+moved-length-unique κs a x y u v = equal refl
 
 pub new-iso-unique : Unique 0 DmaDescriptor.new_iso.Kinds.ps DmaDescriptor.new_iso.Kinds.r DmaDescriptor.new_iso.Reads.Post
 new-iso-unique κs a x y u v = equal refl
@@ -92,3 +100,15 @@ hcint-fault-unique κs a x y u v = equal refl
 
 pub iso-hcintmsk-unique : Unique 0 interrupt.iso_hcintmsk.Kinds.ps interrupt.iso_hcintmsk.Kinds.r interrupt.iso_hcintmsk.Reads.Post
 iso-hcintmsk-unique κs a x y u v = equal refl
+
+pub put-word-unique : Unique 1 lent.put_word.Kinds.ps lent.put_word.Kinds.r lent.put_word.Reads.Post
+put-word-unique κs a x y u v = equal-lent (λ (words : List ℕ). (words, (tt, (tt, tt))))
+
+pub status-at-unique : Unique 1 lent.status_at.Kinds.ps lent.status_at.Kinds.r lent.status_at.Reads.Post
+status-at-unique κs a x y u v = equal refl
+
+pub is-active-at-unique : Unique 1 lent.is_active_at.Kinds.ps lent.is_active_at.Kinds.r lent.is_active_at.Reads.Post
+is-active-at-unique κs a x y u v = equal refl
+
+pub clear-slot-unique : Unique 1 lent.clear_slot.Kinds.ps lent.clear_slot.Kinds.r lent.clear_slot.Reads.Post
+clear-slot-unique κs a x y u v = equal-lent (λ (words : List ℕ). (words, (tt, tt)))

@@ -6,6 +6,7 @@ use lib.Dec.{eqb, ltb}
 use Rattle.words.specs.Field.{Field, Entry, bits, bit, _≔_, get, word}
 use Rattle.words.specs.Numbers.{flagOf, directionNumber, epTypeNumber, pidNumber, faultBit}
 use Rattle.words.specs.declared.types.Direction.{Direction}
+use Rattle.words.specs.declared.types.Direction.the-variants.{In, Out}
 use Rattle.words.specs.declared.types.Dwc2EpType.{Dwc2EpType}
 use Rattle.words.specs.declared.types.Dwc2EpType.the-variants.{Control, Isochronous, Bulk, Interrupt}
 use Rattle.words.specs.declared.types.Dwc2Pid.{Dwc2Pid}
@@ -65,6 +66,11 @@ packets b m = max 1 ((b + (max 1 m - 1)) / max 1 m)
 abbrev pub initialLen : ℕ → ℕ → Bool → ℕ
 initialLen len m true = packets len m * max 1 m
 initialLen len m false = len
+
+-- 01, "Poll": "IN length is planned minus remaining, not below 0; OUT is planned."
+abbrev pub movedLength : Direction → ℕ → ℕ → ℕ
+movedLength In planned status = planned - get isoByteCount status
+movedLength Out planned status = planned
 
 -- "Setup is 0x87000008."
 abbrev pub setupEntries : List Entry

@@ -1,10 +1,11 @@
 // A DMA descriptor, two words of which the controller rewrites the first: document 01, "Words".
 ghost use mathlib.Core.Path.{_≡_};
-ghost use Rattle.words.specs.Words.{isoStatus, chainStatus, setupStatus, initialLen, isSet, isPacketError, byteCount, isoByteCount, active};
+ghost use Rattle.words.specs.Words.{isoStatus, chainStatus, setupStatus, initialLen, movedLength, isSet, isPacketError, byteCount, isoByteCount, active};
 ghost use Rattle.words.specs.Field.{get};
 ghost use mathlib.Core.Bool.{true, false};
 use crate::numbers::at_least_one;
 use crate::numbers::flag;
+use crate::types::Direction;
 
 pub struct DmaDescriptor {
     pub status: u32,
@@ -93,6 +94,22 @@ pub fn initial_len(len: u32, mps: u16, is_in: bool) -> u64
         return at_least_one((len as u64 + (m - 1)) / m) * m;
     }
     len as u64
+}
+
+// The bytes that a camera packet moved: IN what was planned without what remains, OUT what was planned.
+pub fn moved_length(direction: Direction, planned: u16, status: u32) -> u16
+    ensures { λ r. ⌜ r ≡ movedLength direction planned status ⌝ }
+{
+    let left = DmaDescriptor { status, paddr: 0 }.iso_remaining();
+    match direction {
+        Direction::In => {
+            if planned as u32 <= left {
+                return 0;
+            }
+            planned - left as u16
+        }
+        Direction::Out => planned,
+    }
 }
 
 fn iso_status(len: u32, last: bool) -> u32

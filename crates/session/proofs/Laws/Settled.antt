@@ -9,8 +9,7 @@ use lib.ListN.{length, getD, set, drop, length-set, length-map}
 use lib.Seq.{slice, sets, length-sets, length-slice, getD-set-same, getD-set-other, take-set-le}
 use borrow.Author.Tests.{ltb-true, ltb-false, eqb-true, eqb-false}
 use Rattle.ring.specs.RingSums.{packetLimit}
-use Rattle.words.specs.Field.{get}
-use Rattle.words.specs.Words.{isoByteCount}
+use Rattle.words.specs.Words.{movedLength}
 use Rattle.words.specs.declared.types.Direction.{Direction}
 use Rattle.words.specs.declared.types.Direction.the-variants.{In, Out}
 use Rattle.session.specs.declared.types.IsoPacketPlan.{IsoPacketPlan}
@@ -18,15 +17,9 @@ use Rattle.session.specs.declared.types.IsoRequest.{IsoRequest}
 use Rattle.session.specs.declared.types.IsoOutcome.the-variants.{Done}
 use Rattle.session.specs.declared.types.IsoChannelState.{IsoChannelState}
 use Rattle.session.specs.Session.{blankRequest, blankPlan, slots, packetsOf, allPackets, pendingPackets}
-use Rattle.session.specs.Settle.{movedLength, settledPlan, oldest, oldestFrom, oldestTo, oldestPlans, settledPlans, movedTotal, settledRequest, oneMore, settledSession, slotsCleared, settledRing, isServed, pickDrained, drain, drained}
+use Rattle.session.specs.Settle.{settledPlan, oldest, oldestFrom, oldestTo, oldestPlans, settledPlans, movedTotal, settledRequest, oneMore, settledSession, slotsCleared, settledRing, isServed, pickDrained, drain, drained}
 use Rattle.session.proofs.Laws.Lists.{slice-next, slice-past, slice-after-set, slice-sets, getD-slice, getD-sets-before, getD-sets-in, getD-sets-after, getD-map-in}
 use Rattle.session.proofs.Laws.Record.{Sound, GoodRequest, GoodPlan, packets-next, packets-split}
-
--- the bytes that IN moved
-pub moved-in :
-    (d : Direction) (planned status left r : ℕ) → d ≡ In → left ≡ get isoByteCount status → r ≡ planned - left → r ≡ movedLength d planned status
-moved-in d planned status left r e f q =
-    q ∙ ap (λ (n : ℕ). planned - n) f ∙ sym (ap (λ (x : Direction). movedLength x planned status) e)
 
 -- the bytes of one plan more, and of none
 pub moved-next :

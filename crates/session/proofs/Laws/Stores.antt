@@ -1,71 +1,45 @@
--- The laws of a submission's loops: one packet and the rest of them, stored into the ring and into the table of plans, counted and looked up.
+-- The laws of a submission's words and loops: one packet and the rest of them, put into the table of plans, counted and looked up.
 -- Each loop's invariant says that what is still to be done gives the goal; a law for each way out of a turn keeps it. Assumes nothing.
 use mathlib.Core.Path.{_≡_, refl, sym, ap, _∙_}
 use mathlib.Core.Bool.{Bool, true, false, _||_, cond, or-true, or-false, or-assoc}
-use mathlib.Core.List.{List, [], _∷_}
+use mathlib.Core.List.{List, [], _∷_, map}
 use mathlib.Core.Logic.{_≢_}
 use Prim.Native.Nat.{ℕ, zero, suc, _+_, _-_, _*_, _%_, _≤_, _<_}
 use native.Mathlib.Nat.{add-zero, zero-add, mul-suc, min-le-left}
 use native.Mathlib.Numerals.{add-one}
 use native.Mathlib.Omega.{arith}
 use lib.Dec.{eqb, ltb}
-use lib.ListN.{length, getD, set, take, drop, length-take, length-drop, length-set, replicate, getD-replicate, drop-of-length-le}
-use lib.Seq.{sets, slice, drop-cons, take-all, take-nil, getD-take, length-take-le, slice-empty, slice-cons, getD-set-same, getD-set-other}
-use borrow.Author.Tests.{lt-ltb, le-ltb, eq-eqb, ne-eqb, ltb-false, eqb-true, eqb-false}
+use lib.ListN.{length, getD, set, take, drop, length-take, replicate, getD-replicate, drop-of-length-le}
+use lib.Seq.{sets, slice, getD-take, length-take-le, slice-empty, slice-cons, getD-set-same, getD-set-other}
+use borrow.Author.Tests.{lt-ltb, le-ltb, ltb-false, eqb-true, eqb-false}
 use Rattle.words.specs.Words.{isoStatus}
-use Rattle.words.specs.declared.descriptor.DmaDescriptor.{DmaDescriptor}
 use Rattle.ring.specs.RingSums.{slotAt, slotsFrom}
-use Rattle.ring.proofs.Steps.{next-slot}
 use Rattle.session.specs.declared.types.IsoPacketPlan.{IsoPacketPlan}
 use Rattle.session.specs.declared.types.TransferStatus.the-variants.{Completed}
 use Rattle.session.specs.Session.{blankPlan}
-use Rattle.session.specs.Submit.{Store, stored, isLast, storesFrom, plansFrom, sum, firstLong, isHeld, anyHeld}
+use Rattle.ring.specs.Stores.{Store, stored, isLast, storesFrom, asWord}
+use Rattle.ring.proofs.Stores.{drop-more, status-fits}
+use Rattle.session.specs.Submit.{plansFrom, sum, firstLong, isHeld, anyHeld}
 use Rattle.session.proofs.Laws.Lists.{set-some}
-
--- ---- lists and slots
-
--- what is left from i on is the element there and what is left from i + 1 on
-pub drop-more : (xs : List ℕ) (i : ℕ) → i < length xs → drop i xs ≡ getD xs i 0 ∷ drop (i + 1) xs
-drop-more xs i h = rw (add-one, drop-cons xs i 0)
-
--- the slot after packet i's is packet i + 1's
-pub slot-more : (R insert step i slot r : ℕ) → slot ≡ slotAt R insert step i → r ≡ (slot + step) % R → r ≡ slotAt R insert step (i + 1)
-slot-more R insert step i slot r e f = f ∙ ap (λ (x : ℕ). (x + step) % R) e ∙ next-slot R insert step i ∙ ap (slotAt R insert step) (sym (add-one i))
-
--- a packet is the last one just where its number and one is the count
-pub last-flag : (xs : List ℕ) (a b : ℕ) → length xs ≡ b - a → a ≤ b → eqb a b ≡ isLast xs
-last-flag [] a b e h = eq-eqb a b (omega arith)
-last-flag (x ∷ xs) a b e h = ne-eqb a b (λ q. omega arith)
 
 -- ---- the words of a submission
 
--- words stored leave the ring as long as it was
-pub length-stored : (xs : List Store) (ring : List ℕ) → length (stored xs ring) ≡ length ring
-length-stored [] ring = refl
-length-stored (x ∷ xs) ring = length-stored xs (set ring (x .word) (x .value)) ∙ length-set ring (x .word) (x .value)
+abbrev put : ℕ → ℕ → Store
+put word value = record { word = word; value = value }
 
-module _ (R insert step : ℕ) where
-  -- a submission stores two words for each packet
-  pub length-storesFrom : (i addr : ℕ) (lengths : List ℕ) → length (storesFrom R insert step i addr lengths) ≡ 2 * length lengths
-  length-storesFrom i addr [] = refl
-  length-storesFrom i addr (l ∷ ls) = omega (arith, length-storesFrom (suc i) (addr + l) ls)
-
-  -- the words of packet i and those of the packets after it
-  pub stores-more : (i addr : ℕ) (lengths : List ℕ) → i < length lengths
-      → storesFrom R insert step i addr (drop i lengths)
-      ≡ record { word = 2 * slotAt R insert step i + 1; value = addr }
-      ∷ record { word = 2 * slotAt R insert step i; value = isoStatus (getD lengths i 0) (eqb (i + 1) (length lengths)) }
-      ∷ storesFrom R insert step (i + 1) (addr + getD lengths i 0) (drop (i + 1) lengths)
-  stores-more i addr lengths h =
-      let flag = last-flag (drop (i + 1) lengths) (i + 1) (length lengths) (length-drop (i + 1) lengths) (omega arith) in
-      rw (drop-more lengths i h, flag, add-one i)
-
-  -- with as many words as the packets have, a submission is the whole plan
-  pub whole-plan : (i addr k : ℕ) (lengths ring : List ℕ) → 2 * length lengths ≤ k
-      → stored (take k (storesFrom R insert step i addr lengths)) ring ≡ stored (storesFrom R insert step i addr lengths) ring
-  whole-plan i addr k lengths ring h =
-      let all : length (storesFrom R insert step i addr lengths) ≤ k = omega (arith, length-storesFrom i addr lengths) in
-      ap (λ (xs : List Store). stored xs ring) (take-all k (storesFrom R insert step i addr lengths) all)
+-- where the addresses fit 32 bits, none wraps
+pub none-wraps :
+    (R insert step i addr : ℕ) (lengths : List ℕ) → addr + sum lengths ≤ 4_294_967_295
+    → map asWord (storesFrom R insert step i addr lengths) ≡ storesFrom R insert step i addr lengths
+none-wraps R insert step i addr [] h = refl
+none-wraps R insert step i addr (l ∷ ls) h =
+    let at = slotAt R insert step i in
+    let low : addr % 4_294_967_296 ≡ addr = omega arith in
+    let after = storesFrom R insert step (suc i) (addr + l) ls in
+    let status = isoStatus l (isLast ls) in
+    ap (λ (v : ℕ). put (2 * at + 1) v ∷ put (2 * at) (status % 4_294_967_296) ∷ map asWord after) low
+    ∙ ap (λ (v : ℕ). put (2 * at + 1) addr ∷ put (2 * at) v ∷ map asWord after) (status-fits l (isLast ls))
+    ∙ ap (λ (xs : List Store). put (2 * at + 1) addr ∷ put (2 * at) status ∷ xs) (none-wraps R insert step (suc i) (addr + l) ls (omega arith))
 
 -- the status word of a packet is not 0: its active bit is set
 status-some : (len : ℕ) (last : Bool) → isoStatus len last ≢ 0
@@ -103,32 +77,6 @@ module _ (R insert step : ℕ) where
   first-stores-some k i addr lengths ring slot =
       let xs = storesFrom R insert step i addr lengths in
       clearless-stored (take k xs) ring slot (clearless-take k xs (stores-clearless i addr lengths))
-
--- no word may be stored any more: the ring stays
-pub stored-none : (left : ℕ) (xs : List Store) (ring : List ℕ) → left ≡ 0 → ring ≡ stored (take left xs) ring
-stored-none left xs ring e = rw e
-
-module _ (R insert step i addr : ℕ) (lengths : List ℕ) where
-  -- no packet is left: the ring stays
-  pub stored-end : (left : ℕ) (ring : List ℕ) → length lengths ≤ i → ring ≡ stored (take left (storesFrom R insert step i addr (drop i lengths))) ring
-  stored-end left ring h = rw (drop-of-length-le lengths h, take-nil {A = Store} left)
-
-  module _ (slot : ℕ) (d : DmaDescriptor) (h : i < length lengths) (at : slot ≡ slotAt R insert step i)
-      (made : d ≡ record { status = isoStatus (getD lengths i 0) (eqb (i + 1) (length lengths)); paddr = addr }) where
-    -- one word may be stored: the address of packet i
-    pub stored-one : (left : ℕ) (ring one : List ℕ) → left ≡ 1 → one ≡ set ring (2 * slot + 1) (d .paddr)
-        → one ≡ stored (take left (storesFrom R insert step i addr (drop i lengths))) ring
-    stored-one left ring one e p = rw (p, made, at, e, stores-more R insert step i addr lengths h)
-
-    -- two or more may be: the address and the status of packet i, and what is left of the plan after them
-    pub stored-two : (left : ℕ) (ring one two : List ℕ) → 2 ≤ left → one ≡ set ring (2 * slot + 1) (d .paddr) → two ≡ set one (2 * slot) (d .status)
-        → stored (take (left - 2) (storesFrom R insert step (i + 1) (addr + getD lengths i 0) (drop (i + 1) lengths))) two
-        ≡ stored (take left (storesFrom R insert step i addr (drop i lengths))) ring
-    stored-two zero ring one two l p q = absurd (omega arith)
-    stored-two (suc zero) ring one two l p q = absurd (omega arith)
-    stored-two (suc (suc left)) ring one two l p q =
-        let n : suc (suc left) - 2 ≡ left = omega arith in
-        rw (q, p, made, at, n, stores-more R insert step i addr lengths h)
 
 -- ---- the plans of a submission
 

@@ -22,8 +22,9 @@ use Rattle.session.specs.declared.transfer.SubmitAnswer.{SubmitAnswer}
 use Rattle.session.specs.declared.transfer.Submitted.{Submitted}
 use Rattle.session.specs.Session.{slots, allPackets}
 use Rattle.session.specs.Scan.{whole, only, isGate, added, headAfter, ringBy}
-use Rattle.session.specs.Submit.{stepOf, insertOf, stored, storesFrom, plansFrom, newRequest, startWords, noStart, answerOf, startAfter, sessionAfter, ringAfter, submittedBy}
-use Rattle.session.proofs.Laws.Stores.{whole-plan}
+use Rattle.ring.specs.Stores.{stored, storesFrom}
+use Rattle.session.specs.Submit.{stepOf, insertOf, plansFrom, newRequest, startWords, noStart, answerOf, startAfter, sessionAfter, ringAfter, submittedBy}
+use Rattle.ring.proofs.Stores.{whole-plan}
 
 -- only an accepted submission adds packets
 pub some-added : (way : SubmitWay) (count n : ℕ) → n ≡ added way count → 0 < n → (way ≡ Accept) × (n ≡ count)

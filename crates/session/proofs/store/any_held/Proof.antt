@@ -3,7 +3,7 @@
 use mathlib.Core.Path.{_≡_, sym, ap, _∙_, subst⁻¹}
 use mathlib.Core.Bool.{false}
 use mathlib.Core.List.{List}
-use Prim.Native.Nat.{ℕ, _-_, _≤_, _<_}
+use Prim.Native.Nat.{ℕ, _+_, _-_, _%_, _≤_, _<_}
 use native.Mathlib.Nat.{mod-lt, sub-zero}
 use native.Mathlib.Omega.{arith}
 use lib.ListN.{getD}
@@ -12,7 +12,8 @@ use Rattle.ring.specs.RingSums.{slotAt, slotsFrom}
 use Rattle.ring.proofs.Steps.{first-slot}
 use Rattle.session.specs.declared.types.IsoPacketPlan.{IsoPacketPlan}
 use Rattle.session.specs.Submit.{isHeld, anyHeld}
-use Rattle.session.proofs.Laws.Stores.{slot-more, held-here, held-later, held-end}
+use Rattle.ring.proofs.Stores.{some-slots, slot-more}
+use Rattle.session.proofs.Laws.Stores.{held-here, held-later, held-end}
 use Rattle.session.proofs.store.any_held.Statement.{statement}
 use Rattle.session.proofs.store.any_held.Tie as tie
 
@@ -66,7 +67,7 @@ loop-again c =
     let now = c .before .before .before .loop in
     let below : now .slot < 256 = omega (arith, slot-below ((c .before .before .before))) in (
       omega arith,
-      slot-more (a .slots) (a .insert) (a .step) (now .i) (now .slot) (c .next-slot .result) (now .inv .1) (c .next-slot .ensures),
+      slot-more (a .slots) (a .insert) (a .step) (now .i) (now .slot) (c .next-slot .result) (now .inv .1) (c .next-slot .ensures ∙ ap (λ (R : ℕ). (now .slot + a .step) % R) (some-slots (a .slots) (omega arith))),
       λ ps h. held-later (a .slots) (a .insert) (a .step) (now .i) (a .n) ps (now .slot) (getD (a .t1) (now .slot) false) (omega arith) (now .inv .1) (h (now .slot) below) (c .before .if1 .left)
           ∙ now .inv .2 ps h,
     )

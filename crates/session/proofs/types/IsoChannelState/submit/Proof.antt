@@ -3,7 +3,7 @@
 -- packet's. The measure is how many packets are left.
 use mathlib.Core.Path.{_≡_, refl, _∙_, sym, ap, ap₂, subst⁻¹}
 use mathlib.Core.Logic.{inl, inr, ⊎-elim}
-use Prim.Native.Nat.{ℕ, _+_, _-_, _≤_, _<_}
+use Prim.Native.Nat.{ℕ, _+_, _-_, _%_, _≤_, _<_}
 use native.Mathlib.Omega.{arith}
 use lib.Dec.{T}
 use lib.ListN.{length, getD, set, take, drop, length-map, length-set}
@@ -18,7 +18,8 @@ use Rattle.session.specs.declared.transfer.SubmitWay.the-variants.{Accep
 use Rattle.session.specs.Session.{slots}
 use Rattle.session.specs.Scan.{whole, Walked, isGate}
 use Rattle.session.specs.Submit.{stepOf, insertAt, insertOf, plansFrom, submitWay}
-use Rattle.session.proofs.Laws.Stores.{newPlan, slot-more, plans-next, plans-past}
+use Rattle.ring.proofs.Stores.{some-slots, slot-more}
+use Rattle.session.proofs.Laws.Stores.{newPlan, plans-next, plans-past}
 use Rattle.session.proofs.Laws.Admitted.{Admitted, gate-admitted, Acceptable, acceptable, told-of}
 use Rattle.session.proofs.Laws.Submits.{some-added, Pushed, submitted-by, ring-left}
 use Rattle.session.proofs.Laws.Ways.{answer-by, ring-by}
@@ -132,7 +133,7 @@ loop-again c =
     let step = c .before .before .before .before .before .step-of .result in
     let many : n ≤ length (a .lengths .now) = omega (arith, all-added ((c .before .before .before .before .before .before .before)) (omega arith) .1) in (
       omega arith,
-      slot-more R insert step (now .i) (now .slot) (c .next-slot .result) (now .inv .1) (c .next-slot .ensures),
+      slot-more R insert step (now .i) (now .slot) (c .next-slot .result) (now .inv .1) (c .next-slot .ensures ∙ ap (λ (k : ℕ). (now .slot + step) % k) (some-slots R (omega arith))),
       omega arith,
       length-set (now .self .plans) _ _ ∙ now .inv .3,
       ap (λ (s : IsoChannelState). whole (s .cfg) (s .head) (s .fatal) (s .requests) (set (now .self .plans) (now .to) (newPlan (getD (a .lengths .now) (now .i) 0) (now .slot)))) (now .inv .4),

@@ -1,0 +1,12 @@
+pub mod Course
+pub mod Drained
+pub mod Ending
+pub mod Facts
+pub mod Guarded
+pub mod GuardedMode
+pub mod HandedOut
+pub mod Kept
+pub mod Places
+pub mod Reset
+pub mod Results
+pub mod WellFormed
