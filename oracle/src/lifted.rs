@@ -1,5 +1,5 @@
 //! The Rust's iso.rs and non_iso.rs, compiled as they stand over modelled registers. What they lean on and is not in the
-//! text given stands in shim_*.rs, written from document 01: NOT_COMPARED.md lists it.
+//! text given stands in shim_*.rs, written from document 01: docs/DIFFERENCES.md, "Not compared", lists it.
 
 pub mod calls;
 

@@ -1,5 +1,5 @@
 //! Document 01 once more, in Rust: ring sums, words and the camera session. The sentences in quotation marks are 01's. Where 01 is
-//! silent, docs/DECISIONS.md is followed and named; NOT_COMPARED.md says where that makes agreement with the port no evidence.
+//! silent, docs/DECISIONS.md is followed and named; MODEL.md says where that makes agreement with the port no evidence.
 
 mod cancel;
 mod poll;
