@@ -12,7 +12,7 @@ use Rattle.session.specs.declared.types.IsoChannelState.{IsoChannelState}
 use Rattle.session.specs.declared.reply.IsoAnswer.the-variants as answer
 use Rattle.session.specs.declared.reply.IsoReply.{IsoReply}
 use Rattle.session.specs.Session.{blankRequest, ringWords, allPackets, pendingPackets}
-use Rattle.session.specs.Submit.{pendingPlans}
+use Rattle.session.specs.Way.{pendingPlans}
 use Rattle.session.specs.End.{withOutcome, endedRequests, ended, endedRing}
 use Rattle.session.specs.Poll.{reply, recovered, recoveredRing}
 use Rattle.session.proofs.Laws.Record.{Sound, not-bad, packets-past}

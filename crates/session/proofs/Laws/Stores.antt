@@ -19,7 +19,8 @@ use Rattle.session.specs.declared.types.TransferStatus.the-variants.{Com
 use Rattle.session.specs.Session.{blankPlan}
 use Rattle.ring.specs.Stores.{Store, stored, isLast, storesFrom, asWord}
 use Rattle.ring.proofs.Stores.{drop-more, status-fits}
-use Rattle.session.specs.Submit.{plansFrom, sum, firstLong, isHeld, anyHeld}
+use Rattle.session.specs.Place.{plansFrom}
+use Rattle.session.specs.Way.{sum, firstLong, isHeld, anyHeld}
 use Rattle.session.proofs.Laws.Lists.{set-some}
 
 -- ---- the words of a submission

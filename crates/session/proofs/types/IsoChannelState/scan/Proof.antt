@@ -18,7 +18,7 @@ use Rattle.session.specs.declared.types.IsoChannelState.{IsoChannelState
 use Rattle.session.specs.declared.types.IsoPacketPlan.{IsoPacketPlan}
 use Rattle.session.specs.Session.{blankRequest, blankPlan, slots, room, packetsOf, allPackets, pendingPackets, hasReason}
 use Rattle.session.specs.Record.{isBadConfig, isBadCounts, anyBadRequest, isBadSums, anyBadPlan, isBadRecord}
-use Rattle.session.specs.Submit.{isHeld}
+use Rattle.session.specs.Way.{isHeld}
 use Rattle.session.proofs.Laws.Record.{ring-few, packets-next, packets-past, packets-split, pending-next, request-here, request-next, request-past, plan-here, plan-next, plan-past, good-request, good-plan, bad-found}
 use Rattle.session.proofs.Laws.Stores.{marks-first, marks-all, mark-set, mark-pending, mark-done}
 use Rattle.words.proofs.Laws.Tests.{neither}
