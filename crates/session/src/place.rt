@@ -1,7 +1,6 @@
 // Where the packets of a submission go: document 01, "Submit".
 ghost use mathlib.Core.Path.{_≡_};
 ghost use Prim.Native.Nat.{_≤_, _<_};
-ghost use Rattle.words.specs.Words.{active};
 ghost use Rattle.session.specs.Session.{slots};
 ghost use Rattle.session.specs.Place.{stepOf, startAt, cursorAt, targetAt, insertAt};
 use crate::transfer::IsoTransfer;

@@ -33,7 +33,8 @@ use Rattle.session.specs.Submit.{withHead, spent, unplugged, newRequest, accept
 use Rattle.session.specs.Poll.{reply, pickReply, refusedReply, withReason, pollWay, polledBy, polled, recovered, isEmpty, atStart, resetReply}
 use Rattle.session.specs.Cancel.{requestAt, withCancelled, cancelled}
 use Rattle.laws.proofs.Calls.WellFormed.{WellFormed, facts}
-use Rattle.session.proofs.Laws.Record.{Sound, packets-split}
+use Rattle.session.proofs.Laws.Sums.{packets-split}
+use Rattle.session.proofs.Laws.Record.{Sound}
 use Rattle.laws.proofs.Calls.Drained.{drained-leaves}
 use Rattle.session.proofs.Laws.Lists.{getD-sets-before}
 use Rattle.session.proofs.Laws.Polls.{by-way}

@@ -9,7 +9,8 @@ use Rattle.session.specs.Session.{ringWords, room, allPackets, pendingPa
 use Rattle.session.specs.Record.{isBadRecord}
 use Rattle.session.specs.Scan.{whole}
 use Rattle.session.specs.Way.{isOver}
-use Rattle.session.proofs.Laws.Record.{good-sums, room-few}
+use Rattle.session.proofs.Laws.Sums.{room-few}
+use Rattle.session.proofs.Laws.Record.{good-sums}
 use Rattle.words.proofs.Laws.Limits.{rest-test}
 use Rattle.session.proofs.Laws.Ways.{full-test, entry-equal, entry-short, entry-bad, entry-rest, not-over}
 use borrow.Author.Needs.{needs}

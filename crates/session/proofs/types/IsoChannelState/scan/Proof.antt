@@ -19,8 +19,10 @@ use Rattle.session.specs.declared.types.IsoPacketPlan.{IsoPacketPlan}
 use Rattle.session.specs.Session.{blankRequest, blankPlan, slots, room, packetsOf, allPackets, pendingPackets, hasReason}
 use Rattle.session.specs.Record.{isBadConfig, isBadCounts, anyBadRequest, isBadSums, anyBadPlan, isBadRecord}
 use Rattle.session.specs.Way.{isHeld}
-use Rattle.session.proofs.Laws.Record.{ring-few, packets-next, packets-past, packets-split, pending-next, request-here, request-next, request-past, plan-here, plan-next, plan-past, good-request, good-plan, bad-found}
-use Rattle.session.proofs.Laws.Stores.{marks-first, marks-all, mark-set, mark-pending, mark-done}
+use Rattle.session.proofs.Laws.Sums.{ring-few, packets-next, packets-past, packets-split, pending-next}
+use Rattle.session.proofs.Laws.Scans.{request-here, request-next, request-past, plan-here, plan-next, plan-past, bad-found}
+use Rattle.session.proofs.Laws.Record.{good-request, good-plan}
+use Rattle.session.proofs.Laws.Held.{marks-first, marks-all, mark-set, mark-pending, mark-done}
 use Rattle.words.proofs.Laws.Tests.{neither}
 use Rattle.session.proofs.types.IsoChannelState.scan.Statement.{statement}
 use Rattle.session.proofs.types.IsoChannelState.scan.Tie as tie
