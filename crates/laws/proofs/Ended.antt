@@ -12,10 +12,11 @@ use Rattle.session.specs.declared.types.IsoChannelState.{IsoChannelState}
 use Rattle.session.specs.declared.reply.IsoAnswer.the-variants as answer
 use Rattle.session.specs.declared.reply.IsoReply.{IsoReply}
 use Rattle.session.specs.Session.{blankRequest, ringWords, allPackets, pendingPackets}
-use Rattle.session.specs.Submit.{pendingPlans}
+use Rattle.session.specs.Way.{pendingPlans}
 use Rattle.session.specs.End.{withOutcome, endedRequests, ended, endedRing}
 use Rattle.session.specs.Poll.{reply, recovered, recoveredRing}
-use Rattle.session.proofs.Laws.Record.{Sound, not-bad, packets-past}
+use Rattle.session.proofs.Laws.Sums.{packets-past}
+use Rattle.session.proofs.Laws.Record.{Sound, not-bad}
 use Rattle.session.proofs.Laws.Lists.{slice-past}
 use Rattle.session.proofs.Laws.Replies.{lent-done}
 use Rattle.session.proofs.Laws.Ended.{map-amend, ended-sound}

@@ -8,8 +8,9 @@ use lib.Seq.{length-slice}
 use Rattle.session.specs.declared.types.IsoPacketPlan.{IsoPacketPlan}
 use Rattle.session.specs.declared.types.IsoChannelState.{IsoChannelState}
 use Rattle.session.specs.Session.{blankPlan, slots, ringWords, allPackets, pendingPackets}
-use Rattle.session.specs.Submit.{pendingPlans}
-use Rattle.session.proofs.Laws.Record.{Sound, packets-split}
+use Rattle.session.specs.Way.{pendingPlans}
+use Rattle.session.proofs.Laws.Sums.{packets-split}
+use Rattle.session.proofs.Laws.Record.{Sound}
 use Rattle.session.proofs.Laws.Lists.{getD-slice}
 use Rattle.laws.specs.Drawing.{Laid, blankLaid, slotOf, Holds, Absent}
 use Rattle.laws.specs.Demand3.{slotOfPlan}

@@ -19,7 +19,7 @@ use Rattle.session.specs.declared.reply.IsoAnswer.the-variants as answer
 use Rattle.session.specs.declared.reply.IsoReply.{IsoReply}
 use Rattle.session.specs.Session.{blankRequest, ringWords, packetsOf, allPackets, pendingPackets, hasReason}
 use Rattle.session.specs.Record.{isBadRecord}
-use Rattle.session.specs.Submit.{pendingPlans}
+use Rattle.session.specs.Way.{pendingPlans}
 use Rattle.session.specs.End.{withOutcome}
 use Rattle.session.specs.Poll.{reply, pickReply, pickWords, refusedReply, withReason, isEmpty, atStart, resetReply}
 use Rattle.session.specs.Cancel.{requestAt, withCancelled, cancelled}

@@ -14,7 +14,8 @@ use Rattle.session.specs.declared.types.IsoMode.the-variants.{Guarded}
 use Rattle.session.specs.declared.types.IsoChannelState.{IsoChannelState}
 use Rattle.session.specs.declared.transfer.IsoTransfer.{IsoTransfer}
 use Rattle.session.specs.Session.{blankPlan, slots}
-use Rattle.session.specs.Submit.{insertOf, stepOf, plansFrom, isGuarded, anyHeld, pendingPlans}
+use Rattle.session.specs.Place.{insertOf, stepOf, plansFrom}
+use Rattle.session.specs.Way.{isGuarded, anyHeld, pendingPlans}
 use Rattle.laws.proofs.Calls.Guarded.{held-where, any-held-where}
 use Rattle.session.proofs.Laws.Admitted.{Admitted}
 use Rattle.laws.specs.Drawing.{Laid, blankLaid, slotOf, plannedFrom, Absent, Distinct}

@@ -9,9 +9,9 @@ use lib.Seq.{slice, sets, set-getD, set-set, set-comm, drop-at, drop-drop, lengt
 use Rattle.session.specs.declared.types.IsoPacketPlan.{IsoPacketPlan}
 use Rattle.session.specs.declared.types.IsoChannelState.{IsoChannelState}
 use Rattle.session.specs.Session.{blankRequest, ringWords, packetsOf, allPackets, pendingPackets}
-use Rattle.session.specs.Submit.{pendingPlans}
+use Rattle.session.specs.Way.{pendingPlans}
 use Rattle.session.specs.Settle.{Drained, settledPlan, oldest, oldestFrom, oldestTo, oldestPlans, settledPlans, settledRequest, settledSession, slotsCleared, settledRing, isServed, pickDrained, drain}
-use Rattle.session.proofs.Laws.Record.{packets-next, packets-split}
+use Rattle.session.proofs.Laws.Sums.{packets-next, packets-split}
 use Rattle.session.proofs.Laws.Lists.{slice-after-set, slice-split}
 use Rattle.session.proofs.Laws.Settled.{oldest-in, all-settled, settled-sound}
 use Rattle.laws.specs.Drawing.{Laid, drawn, slotOf, Distinct}

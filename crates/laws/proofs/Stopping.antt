@@ -18,7 +18,9 @@ use Rattle.session.specs.declared.transfer.SubmitWay.the-variants.{Refuse, TooL
 use Rattle.session.specs.declared.reply.IsoReply.{IsoReply}
 use Rattle.session.specs.Session.{slots, ringWords}
 use Rattle.ring.specs.Stores.{Store, stored}
-use Rattle.session.specs.Submit.{storesOf, insertOf, stepOf, accepted, submitWay, answerOf}
+use Rattle.session.specs.Place.{storesOf, insertOf, stepOf}
+use Rattle.session.specs.Way.{submitWay}
+use Rattle.session.specs.Submit.{answerOf}
 use Rattle.session.specs.Poll.{recovered, recoveredRing}
 use Rattle.laws.proofs.Calls.Facts.{accept-admitted, accept-gates, accept-if, cut-if, cut-ring, whole-ring, whole-session}
 use Rattle.laws.proofs.Calls.Ending.{recovery-answers, recovery-idle, recovery-zeroes, recovery-fails, recovery-keeps}

@@ -19,9 +19,12 @@ use Rattle.session.specs.declared.transfer.SubmitWay.the-variants.{Refuse, TooL
 use Rattle.session.specs.Session.{blankRequest, slots, ringWords, cleared, allPackets, pendingPackets}
 use Rattle.session.specs.Poll.{pickWords}
 use Rattle.ring.specs.Stores.{Store, stored}
-use Rattle.session.specs.Submit.{insertOf, stepOf, storesOf, plansFrom, pendingPlans, withHead, spent, unplugged, newRequest, accepted, submitWay, sessionAfter, ringAfter, answerOf, submitted, submittedRing}
+use Rattle.session.specs.Place.{insertOf, stepOf, storesOf, plansFrom}
+use Rattle.session.specs.Way.{pendingPlans, submitWay}
+use Rattle.session.specs.Submit.{withHead, spent, unplugged, newRequest, accepted, sessionAfter, ringAfter, answerOf, submitted, submittedRing}
 use Rattle.laws.proofs.Calls.Facts.{accept-admitted, unplugged-first}
-use Rattle.session.proofs.Laws.Record.{Sound, packets-past}
+use Rattle.session.proofs.Laws.Sums.{packets-past}
+use Rattle.session.proofs.Laws.Record.{Sound}
 use Rattle.ring.proofs.Stores.{length-stored}
 use Rattle.session.proofs.Laws.Stores.{length-plansFrom}
 use Rattle.laws.proofs.Calls.Kept.{spent-sound, unplugged-sound, all-pushed, pending-pushed, accepted-sound}

@@ -16,7 +16,9 @@ use Rattle.session.specs.declared.reply.IsoAnswer.the-variants.{Done}
 use Rattle.session.specs.declared.reply.IsoReply.{IsoReply}
 use Rattle.session.specs.Session.{slots, ringWords}
 use Rattle.ring.specs.Stores.{stored}
-use Rattle.session.specs.Submit.{insertOf, stepOf, pendingPlans, submitted, submittedRing}
+use Rattle.session.specs.Place.{insertOf, stepOf}
+use Rattle.session.specs.Way.{pendingPlans}
+use Rattle.session.specs.Submit.{submitted, submittedRing}
 use Rattle.session.specs.Poll.{recovered, recoveredRing}
 use Rattle.session.specs.Reclaim.{requestOf}
 use Rattle.laws.specs.Drawing.{Laid, blankLaid, wordsOf, slotOf, wordAt, Holds, Among, Absent}

@@ -13,7 +13,8 @@ use Rattle.session.specs.declared.types.IsoRequest.{IsoRequest}
 use Rattle.session.specs.declared.types.IsoChannelState.{IsoChannelState}
 use Rattle.session.specs.declared.transfer.IsoTransfer.{IsoTransfer}
 use Rattle.session.specs.Session.{blankRequest, blankPlan}
-use Rattle.session.specs.Submit.{newRequest, plansFrom}
+use Rattle.session.specs.Place.{plansFrom}
+use Rattle.session.specs.Submit.{newRequest}
 use Rattle.laws.specs.Drawing.{Laid, drawn, plannedFrom}
 use Rattle.laws.specs.Run.{State, Step, Submit, Controller}
 

@@ -7,7 +7,7 @@ use lib.ListN.{replicate}
 use Rattle.session.specs.declared.types.IsoMode.the-variants.{Guarded}
 use Rattle.session.specs.declared.types.IsoChannelState.{IsoChannelState}
 use Rattle.session.specs.Session.{ringWords}
-use Rattle.session.specs.Submit.{pendingPlans}
+use Rattle.session.specs.Way.{pendingPlans}
 use Rattle.session.proofs.Laws.Record.{Sound}
 use Rattle.session.specs.Reclaim.{requestOf}
 use Rattle.laws.specs.Drawing.{Laid, drawn, slotOf, Among, Distinct}

@@ -18,7 +18,8 @@ use Rattle.session.specs.declared.transfer.SubmitAnswer.the-variants as answer
 use Rattle.session.specs.declared.reply.IsoEvent.{IsoEvent}
 use Rattle.session.specs.Session.{slots, pendingPackets}
 use Rattle.session.specs.Open.{opened, openedRing}
-use Rattle.session.specs.Submit.{insertOf, stepOf, submitted, submittedRing}
+use Rattle.session.specs.Place.{insertOf, stepOf}
+use Rattle.session.specs.Submit.{submitted, submittedRing}
 use Rattle.session.specs.Poll.{pickWords, polled, polledRing, recovered, recoveredRing, resetReply}
 use Rattle.session.specs.Cancel.{cancelled}
 use Rattle.session.specs.Reclaim.{reclaimed, reclaimedRing}

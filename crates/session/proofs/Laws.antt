@@ -2,6 +2,7 @@ pub mod Admitted
 pub mod Checks
 pub mod Ended
 pub mod Handed
+pub mod Held
 pub mod Lent
 pub mod Lists
 pub mod Polled
@@ -10,8 +11,10 @@ pub mod Reclaims
 pub mod Record
 pub mod Removed
 pub mod Replies
+pub mod Scans
 pub mod Settled
 pub mod Stores
 pub mod Submits
+pub mod Sums
 pub mod Tests
 pub mod Ways

@@ -2,6 +2,7 @@ pub mod Cancel
 pub mod End
 pub mod Numbers
 pub mod Open
+pub mod Place
 pub mod Poll
 pub mod Reclaim
 pub mod Record
@@ -9,3 +10,4 @@ pub mod Scan
 pub mod Session
 pub mod Settle
 pub mod Submit
+pub mod Way

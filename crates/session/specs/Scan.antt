@@ -20,7 +20,9 @@ use Rattle.session.specs.declared.transfer.SubmitWay.the-variants.{Refus
 use Rattle.session.specs.Session.{slots, ringWords, cleared, allPackets, pendingPackets}
 use Rattle.session.specs.Record.{isBadRecord}
 use Rattle.ring.specs.Stores.{stored, storesFrom}
-use Rattle.session.specs.Submit.{stepOf, startAt, tailSlot, isHeld, pendingPlans, spent, unplugged}
+use Rattle.session.specs.Place.{stepOf, startAt, tailSlot}
+use Rattle.session.specs.Way.{isHeld, pendingPlans}
+use Rattle.session.specs.Submit.{spent, unplugged}
 
 -- a session by its parts, and one of which only the configuration and the numbers are read
 abbrev pub whole : IsoConfig → IsoHead → IsoFatal → List IsoRequest → List IsoPacketPlan → IsoChannelState

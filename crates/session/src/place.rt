@@ -1,9 +1,8 @@
 // Where the packets of a submission go: document 01, "Submit".
 ghost use mathlib.Core.Path.{_≡_};
 ghost use Prim.Native.Nat.{_≤_, _<_};
-ghost use Rattle.words.specs.Words.{active};
 ghost use Rattle.session.specs.Session.{slots};
-ghost use Rattle.session.specs.Submit.{stepOf, startAt, cursorAt, targetAt, insertAt};
+ghost use Rattle.session.specs.Place.{stepOf, startAt, cursorAt, targetAt, insertAt};
 use crate::transfer::IsoTransfer;
 use crate::types::IsoConfig;
 use crate::types::IsoHead;

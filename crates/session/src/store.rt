@@ -6,7 +6,7 @@ ghost use Prim.Native.Nat.{ℕ, _≤_, _<_};
 ghost use lib.ListN.{length, getD};
 ghost use Rattle.ring.specs.RingSums.{slotsFrom};
 ghost use Rattle.session.specs.declared.types.IsoPacketPlan.{IsoPacketPlan};
-ghost use Rattle.session.specs.Submit.{sum, firstLong, isHeld, anyHeld};
+ghost use Rattle.session.specs.Way.{sum, firstLong, isHeld, anyHeld};
 use ring::next_slot;
 
 // The number of packets before the first that is longer than the limit.

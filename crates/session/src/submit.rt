@@ -10,7 +10,9 @@ ghost use Rattle.session.specs.declared.transfer.SubmitWay.the-variants.
 ghost use Rattle.session.specs.Session.{slots, ringWords};
 ghost use Rattle.session.specs.Scan.{only, isGate, added, headAfter, ringBy};
 ghost use Rattle.ring.specs.Stores.{stored, storesFrom};
-ghost use Rattle.session.specs.Submit.{sum, stepOf, spent, unplugged, newRequest, startWords, noStart, answerOf, submitted, submittedRing};
+ghost use Rattle.session.specs.Place.{stepOf};
+ghost use Rattle.session.specs.Way.{sum};
+ghost use Rattle.session.specs.Submit.{spent, unplugged, newRequest, startWords, noStart, answerOf, submitted, submittedRing};
 use crate::open::clear_ring;
 use crate::open::ring_words;
 use crate::place::insert_of;

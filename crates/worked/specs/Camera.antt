@@ -7,7 +7,8 @@ use Rattle.words.specs.declared.types.Direction.the-variants.{In}
 use Rattle.ring.specs.declared.speed.Speed.{Speed}
 use Rattle.ring.specs.declared.speed.Speed.the-variants.{Full}
 use Rattle.session.specs.Session.{blankRequest, blankPlan}
-use Rattle.session.specs.Submit.{newRequest, plansFrom}
+use Rattle.session.specs.Place.{plansFrom}
+use Rattle.session.specs.Submit.{newRequest}
 use Rattle.session.specs.declared.types.IsoConfig.{IsoConfig}
 use Rattle.session.specs.declared.types.IsoMode.{IsoMode}
 use Rattle.session.specs.declared.types.IsoFatal.the-variants.{Nothing}

@@ -26,7 +26,9 @@ use Rattle.session.specs.Session.{blankRequest, blankPlan, slots, ringWords}
 use Rattle.session.specs.Record.{isBadRecord}
 use Rattle.session.specs.Settle.{oldestFrom}
 use Rattle.session.specs.End.{withOutcome, ended}
-use Rattle.session.specs.Submit.{stepOf, insertOf, newRequest, answerOf, sessionAfter, ringAfter, submitWay, submitted, submittedRing}
+use Rattle.session.specs.Place.{stepOf, insertOf}
+use Rattle.session.specs.Way.{submitWay}
+use Rattle.session.specs.Submit.{newRequest, answerOf, sessionAfter, ringAfter, submitted, submittedRing}
 use Rattle.session.specs.Poll.{reply, pickReply, refusedReply, pickWords, pollWay, polledBy, polledRingBy, polled, polledRing, recovered, recoveredRing}
 use Rattle.session.specs.Reclaim.{isFound, reclaimedRing}
 use Rattle.laws.proofs.Calls.WellFormed.{WellFormed, facts, Call, Submit, Poll, Reclaim, Cancel, Reset, Recover}

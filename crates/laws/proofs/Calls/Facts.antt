@@ -14,7 +14,9 @@ use Rattle.session.specs.declared.transfer.SubmitWay.{SubmitWay}
 use Rattle.session.specs.declared.transfer.SubmitWay.the-variants.{Refuse, TooLong, Spend, Early, Cut, Late, Accept}
 use Rattle.session.specs.Session.{ringWords, cleared}
 use Rattle.ring.specs.Stores.{stored}
-use Rattle.session.specs.Submit.{storesOf, tooLong, submitWay, withHead, spent, unplugged, accepted, sessionAfter, ringAfter, answerOf, submitted, submittedRing}
+use Rattle.session.specs.Place.{storesOf}
+use Rattle.session.specs.Way.{tooLong, submitWay}
+use Rattle.session.specs.Submit.{withHead, spent, unplugged, accepted, sessionAfter, ringAfter, answerOf, submitted, submittedRing}
 use Rattle.session.proofs.Laws.Checks.{EntryNumber, SpendNumber, entry-number, spend-number, first-is-long, before-is-short}
 use Rattle.session.proofs.Laws.Admitted.{told-of, Admitted, admitted, clear-if, accepts, cuts}
 

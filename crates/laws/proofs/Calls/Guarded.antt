@@ -12,7 +12,7 @@ use Rattle.session.specs.declared.types.IsoPacketPlan.{IsoPacketPlan}
 use Rattle.session.specs.declared.transfer.SubmitWay.{SubmitWay}
 use Rattle.session.specs.declared.transfer.SubmitWay.the-variants.{Spend}
 use Rattle.session.specs.Session.{blankPlan}
-use Rattle.session.specs.Submit.{isHeld, anyHeld, spendNumber, pickWay}
+use Rattle.session.specs.Way.{isHeld, anyHeld, spendNumber, pickWay}
 
 -- of two tests one holds, the first or the second
 one-side : (a b : Bool) → (a || b) ≡ true → (a ≡ true) ⊎ (b ≡ true)

@@ -22,8 +22,10 @@ use Rattle.session.specs.declared.transfer.SubmitAnswer.the-variants as answer
 use Rattle.session.specs.declared.transfer.SubmitWay.{SubmitWay}
 use Rattle.session.specs.declared.transfer.SubmitWay.the-variants.{Refuse, TooLong, Spend, Early, Cut, Late, Accept}
 use Rattle.session.specs.Session.{blankPlan, slots}
-use Rattle.session.specs.Submit.{pendingPlans}
-use Rattle.session.specs.Submit.{stepOf, insertOf, sum, isClash, entryRefusal, tooLong, gateWay, submitWay, sessionAfter, ringAfter, answerOf, startAfter, submitted, submittedRing}
+use Rattle.session.specs.Way.{pendingPlans}
+use Rattle.session.specs.Place.{stepOf, insertOf}
+use Rattle.session.specs.Way.{sum, isClash, entryRefusal, tooLong, gateWay, submitWay}
+use Rattle.session.specs.Submit.{sessionAfter, ringAfter, answerOf, startAfter, submitted, submittedRing}
 use Rattle.session.proofs.Laws.Checks.{entry-number}
 use Rattle.session.proofs.Laws.Admitted.{Clear, Told, told, told-of, Admitted, admitted, clear-if}
 use Rattle.laws.proofs.Calls.Guarded.{held-by, held-where, any-held-by, any-held-where, without-last, only-last, last-alone}

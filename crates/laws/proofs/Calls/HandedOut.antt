@@ -22,7 +22,7 @@ use Rattle.session.specs.Numbers.{reclaimPackets}
 use Rattle.session.specs.Session.{ringWords, packetsOf, allPackets, pendingRequests}
 use Rattle.session.specs.Record.{isBadRecord}
 use Rattle.session.specs.Settle.{oldestFrom}
-use Rattle.session.specs.Submit.{pendingPlans}
+use Rattle.session.specs.Way.{pendingPlans}
 use Rattle.session.specs.Poll.{reply, pickReply, pollWay, polledBy}
 use Rattle.session.specs.Cancel.{requestAt}
 use Rattle.session.specs.Reclaim.{isFound, looked, requestOf, plansBegin, plansEnd, removed, handedAnswer, reclaimReply, pickReclaimed, pickAnswer, lookedAgain, isShort, reclaimed}

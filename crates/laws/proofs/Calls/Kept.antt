@@ -18,8 +18,11 @@ use Rattle.session.specs.declared.transfer.IsoTransfer.{IsoTransfer}
 use Rattle.session.specs.declared.transfer.SubmitWay.{SubmitWay}
 use Rattle.session.specs.declared.transfer.SubmitWay.the-variants.{Refuse, TooLong, Spend, Early, Cut, Late, Accept}
 use Rattle.session.specs.Session.{blankRequest, blankPlan, slots, packetsOf, allPackets, pendingPackets}
-use Rattle.session.specs.Submit.{submitWay, withHead, spent, unplugged, newRequest, accepted, insertOf, stepOf, plansFrom, sessionAfter, submitted}
-use Rattle.session.proofs.Laws.Record.{Sound, GoodRequest, GoodPlan, packets-append, room-few, renewed-sound}
+use Rattle.session.specs.Place.{insertOf, stepOf, plansFrom}
+use Rattle.session.specs.Way.{submitWay}
+use Rattle.session.specs.Submit.{withHead, spent, unplugged, newRequest, accepted, sessionAfter, submitted}
+use Rattle.session.proofs.Laws.Sums.{packets-append, room-few}
+use Rattle.session.proofs.Laws.Record.{Sound, GoodRequest, GoodPlan, renewed-sound}
 use Rattle.session.proofs.Laws.Stores.{newPlan, length-plansFrom, getD-plansFrom}
 use Rattle.session.proofs.Laws.Admitted.{Admitted, admitted, Told, told}
 use Rattle.session.proofs.Laws.Lists.{slice-pushed, getD-sets-before, getD-sets-in}

@@ -27,11 +27,14 @@ use Rattle.session.specs.Session.{blankRequest, blankPlan, slots, ringWords, al
 use Rattle.session.specs.Record.{isBadRecord}
 use Rattle.session.specs.Settle.{oldestFrom}
 use Rattle.session.specs.End.{withOutcome, ended}
-use Rattle.session.specs.Submit.{stepOf, insertOf, withHead, spent, unplugged, newRequest, accepted, plansFrom, sessionAfter, submitWay, submitted}
+use Rattle.session.specs.Place.{stepOf, insertOf, plansFrom}
+use Rattle.session.specs.Way.{submitWay}
+use Rattle.session.specs.Submit.{withHead, spent, unplugged, newRequest, accepted, sessionAfter, submitted}
 use Rattle.session.specs.Poll.{reply, pickReply, refusedReply, withReason, pollWay, polledBy, polled, recovered, isEmpty, atStart, resetReply}
 use Rattle.session.specs.Cancel.{requestAt, withCancelled, cancelled}
 use Rattle.laws.proofs.Calls.WellFormed.{WellFormed, facts}
-use Rattle.session.proofs.Laws.Record.{Sound, packets-split}
+use Rattle.session.proofs.Laws.Sums.{packets-split}
+use Rattle.session.proofs.Laws.Record.{Sound}
 use Rattle.laws.proofs.Calls.Drained.{drained-leaves}
 use Rattle.session.proofs.Laws.Lists.{getD-sets-before}
 use Rattle.session.proofs.Laws.Polls.{by-way}

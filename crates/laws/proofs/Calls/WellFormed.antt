@@ -30,7 +30,8 @@ use Rattle.session.specs.Numbers.{submitNumber, answerNumber, reclaimNumber}
 use Rattle.session.specs.Session.{blankRequest, blankPlan, ringWords, hasReason}
 use Rattle.session.specs.Record.{isBadConfig, isBadRecord}
 use Rattle.session.specs.Open.{pickOpen, openAnswer, opened}
-use Rattle.session.specs.Submit.{firstOf, entryChecks, entryRefusal, answerOf, submitWay, submitted}
+use Rattle.session.specs.Way.{firstOf, entryChecks, entryRefusal, submitWay}
+use Rattle.session.specs.Submit.{answerOf, submitted}
 use Rattle.session.specs.End.{ended}
 use Rattle.session.specs.Poll.{reply, pickReply, refusedReply, withReason, pollWay, polledBy, polled, recovered, isEmpty, atStart, resetReply}
 use Rattle.session.specs.Cancel.{requestAt, withCancelled, cancelled}

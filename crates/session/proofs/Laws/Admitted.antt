@@ -18,8 +18,9 @@ use Rattle.session.specs.declared.transfer.SubmitWay.the-variants.{Refus
 use Rattle.session.specs.Session.{ringWords, room, allPackets, pendingPackets, hasReason}
 use Rattle.session.specs.Record.{isBadRecord}
 use Rattle.session.specs.Scan.{isGate}
-use Rattle.session.specs.Submit.{isLow, sum, isClash, isOver, entryChecks, entryRefusal, spendChecks, tooLong, spendRefusal, pickWay, submitWay}
-use Rattle.session.proofs.Laws.Record.{room-few, no-reason}
+use Rattle.session.specs.Way.{isLow, sum, isClash, isOver, entryChecks, entryRefusal, spendChecks, tooLong, spendRefusal, pickWay, submitWay}
+use Rattle.session.proofs.Laws.Sums.{room-few}
+use Rattle.session.proofs.Laws.Record.{no-reason}
 use Rattle.session.proofs.Laws.Stores.{none-long}
 use Rattle.words.proofs.Laws.Tests.{neither, not-both}
 use Rattle.session.proofs.Laws.Tests.{none}

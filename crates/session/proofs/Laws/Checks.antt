@@ -10,7 +10,7 @@ use lib.ListN.{length, getD}
 use borrow.Author.Tests.{ltb-true, ltb-false, le-ltb}
 use Rattle.session.specs.declared.types.IsoChannelState.{IsoChannelState}
 use Rattle.session.specs.declared.transfer.IsoTransfer.{IsoTransfer}
-use Rattle.session.specs.Submit.{firstLong, Check, firstOf, entryChecks, entryRefusal, spendChecks, spendRefusal}
+use Rattle.session.specs.Way.{firstLong, Check, firstOf, entryChecks, entryRefusal, spendChecks, spendRefusal}
 
 -- no test of a list holds
 abbrev pub NoneHolds : List Check → Type 0

@@ -21,11 +21,12 @@ use Rattle.session.specs.declared.reply.IsoAnswer.the-variants as answer
 use Rattle.session.specs.declared.reply.IsoReply.{IsoReply}
 use Rattle.session.specs.Session.{blankRequest, ringWords, packetsOf, allPackets, pendingPackets, hasReason}
 use Rattle.session.specs.Record.{isBadRecord}
-use Rattle.session.specs.Submit.{sum}
+use Rattle.session.specs.Way.{sum}
 use Rattle.session.specs.End.{withOutcome, endedRequests, ended}
 use Rattle.session.specs.Poll.{reply, pickReply, refusedReply, withReason, recovered, isEmpty, atStart, resetReply}
 use Rattle.session.specs.Cancel.{requestAt, withCancelled, cancelled}
-use Rattle.session.proofs.Laws.Record.{Sound, GoodRequest, packets-past, renewed-sound}
+use Rattle.session.proofs.Laws.Sums.{packets-past}
+use Rattle.session.proofs.Laws.Record.{Sound, GoodRequest, renewed-sound}
 use Rattle.session.proofs.Laws.Lists.{getD-slice, getD-sets-in, getD-map-in, amend-next, amend-past}
 use Rattle.session.proofs.Laws.Tests.{chosen}
 

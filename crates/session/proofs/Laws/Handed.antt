@@ -12,7 +12,8 @@ use Rattle.session.specs.declared.types.IsoChannelState.{IsoChannelState
 use Rattle.session.specs.Session.{allPackets}
 use Rattle.session.specs.Poll.{pickWords}
 use Rattle.session.specs.Reclaim.{isDone, resultWord, requestOf, plansBegin, plansEnd, closedUp, oneLess, removed, handedResults}
-use Rattle.session.proofs.Laws.Record.{Sound, packets-next, packets-split}
+use Rattle.session.proofs.Laws.Sums.{packets-next, packets-split}
+use Rattle.session.proofs.Laws.Record.{Sound}
 
 -- the plans of a request lie among those in use
 pub plans-in : (s : IsoChannelState) → Sound s → (at : ℕ) → at < s .head .count → plansEnd at s ≤ allPackets s

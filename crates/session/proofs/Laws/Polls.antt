@@ -19,7 +19,7 @@ use Rattle.session.specs.declared.types.IsoChannelState.{IsoChannelState
 use Rattle.session.specs.declared.reply.IsoEvent.{IsoEvent}
 use Rattle.session.specs.declared.reply.IsoReply.{IsoReply}
 use Rattle.session.specs.declared.reply.PollWay.{PollWay}
-use Rattle.session.specs.declared.reply.PollWay.the-variants.{Nothing, End, Halt, Wait, Settle}
+use Rattle.session.specs.declared.reply.PollWay.the-variants.{End, Halt, Wait, Settle}
 use Rattle.session.specs.Session.{ringWords}
 use Rattle.session.specs.Record.{isBadRecord}
 use Rattle.session.specs.Poll.{outcomeOf, pickPoll, wayByReason, wayByFault, pollWay, polledBy, polledRingBy, pickReply, refusedReply, pickWords, polled, polledRing}

@@ -1,121 +1,27 @@
--- Laws of a session's record: what the record check says in plain facts, and the sums over the entries in use.
-use mathlib.Core.Path.{_≡_, refl, _∙_, sym, ap}
-use mathlib.Core.Bool.{Bool, true, false, not, _||_, _&&_, cond}
-use mathlib.Core.List.{List, [], _∷_, _++_}
-use Prim.Native.Nat.{ℕ, zero, suc, _+_, _-_, _≤_, _<_}
-use native.Mathlib.Nat.{zero-add, div-le-self}
+-- Laws of a session's record: what the record check says in plain facts, and that these facts are all that it asks.
+use mathlib.Core.Path.{_≡_, refl, ap}
+use mathlib.Core.Bool.{Bool, false, not, _||_, _&&_}
+use mathlib.Core.List.{List, [], _∷_}
+use Prim.Native.Nat.{ℕ, zero, suc, _≤_, _<_}
 use native.Mathlib.Omega.{arith}
 use lib.Dec.{eqb, leb, ltb}
 use lib.ListN.{length, getD}
 use lib.Seq.{slice}
-use borrow.Author.Tests.{ltb-true, ltb-false, leb-false, eqb-false, le-ltb, lt-leb, ne-eqb}
-use Rattle.ring.specs.RingSums.{ringSize, packetLimit, gridStep}
-use Rattle.ring.specs.declared.speed.Speed.{Speed}
-use Rattle.ring.specs.declared.speed.Speed.the-variants.{High, Full, Low}
-use Rattle.ring.proofs.RingFacts.{ring-size-pos, capacity-more}
+use borrow.Author.Tests.{ltb-false, leb-false, eqb-false, le-ltb, lt-leb, ne-eqb}
+use Rattle.ring.specs.RingSums.{packetLimit}
+use Rattle.ring.proofs.RingFacts.{ring-size-pos}
 use Rattle.session.specs.declared.types.IsoChannelState.{IsoChannelState}
 use Rattle.session.specs.declared.types.IsoConfig.{IsoConfig}
 use Rattle.session.specs.declared.types.IsoFatal.{IsoFatal}
 use Rattle.session.specs.declared.types.IsoFatal.the-variants.{Nothing, Reason}
 use Rattle.session.specs.declared.types.IsoPacketPlan.{IsoPacketPlan}
 use Rattle.session.specs.declared.types.IsoRequest.{IsoRequest}
-use Rattle.session.specs.Session.{blankRequest, blankPlan, slots, room, packetsOf, allPackets, pendingPackets, hasReason, idleSession}
-use Rattle.session.specs.declared.record.RecordScan.{RecordScan}
-use Rattle.session.specs.Scan.{Scanned}
+use Rattle.session.specs.Session.{blankRequest, blankPlan, slots, room, allPackets, pendingPackets, hasReason, idleSession}
 use Rattle.session.specs.Record.{isBadConfig, isBadRequest, anyBadRequest, isBadPlan, anyBadPlan, isBadCounts, isBadSums, isBadState, isBadRecord}
-use Rattle.session.proofs.Laws.Lists.{slice-next, slice-past, slice-split, front-each, front-kept}
+use Rattle.session.proofs.Laws.Lists.{front-each, front-kept}
 use Rattle.words.proofs.Laws.Tests.{neither, not-both}
 use Rattle.session.proofs.Laws.Tests.{none, unless}
-
--- a ring has at most 256 slots, and room is for fewer packets than it has slots
-pub ring-few : (speed : Speed) → ringSize speed ≤ 256
-ring-few High = omega arith
-ring-few Full = omega arith
-ring-few Low = omega arith
-
-pub room-below : (cfg : IsoConfig) → room cfg < slots cfg
-room-below cfg =
-    omega (arith, capacity-more (cfg .interval) (slots cfg) (ring-size-pos (cfg .speed)), div-le-self (slots cfg) (gridStep (cfg .interval) (slots cfg)))
-
-pub room-few : (cfg : IsoConfig) → room cfg ≤ 255
-room-few cfg = omega (arith, room-below cfg, ring-few (cfg .speed))
-
--- the packets of a slice: one request more, none left, two parts
-pub packets-next :
-    (i t : ℕ) (l : List IsoRequest) → i < t → t ≤ length l
-    → packetsOf (slice i t l) ≡ getD l i blankRequest .packets + packetsOf (slice (i + 1) t l)
-packets-next i t l h k = ap packetsOf (slice-next i t l blankRequest h k)
-
-pub packets-past : (i t : ℕ) (l : List IsoRequest) → t ≤ i → packetsOf (slice i t l) ≡ 0
-packets-past i t l h = ap packetsOf (slice-past i t l h)
-
-pub packets-append : (a b : List IsoRequest) → packetsOf (a ++ b) ≡ packetsOf a + packetsOf b
-packets-append [] b = sym (zero-add (packetsOf b))
-packets-append (r ∷ a) b = omega (arith, packets-append a b)
-
-pub packets-split :
-    (done count : ℕ) (l : List IsoRequest) → done ≤ count → count ≤ length l
-    → packetsOf (slice 0 count l) ≡ packetsOf (slice 0 done l) + packetsOf (slice done count l)
-packets-split done count l h k =
-    ap packetsOf (slice-split 0 done count l (omega arith) h k) ∙ packets-append (slice 0 done l) (slice done count l)
-
--- the packets of the pending ones, in a walk from the first request on: before the first pending one nothing is counted
-pub pending-next :
-    (done i t : ℕ) (l : List IsoRequest) → i < t → t ≤ length l
-    → packetsOf (slice (done + (i - done)) t l) ≡ cond (ltb i done) 0 (getD l i blankRequest .packets) + packetsOf (slice (done + ((i + 1) - done)) t l)
-pending-next done i t l h k = go (ltb i done) refl
-  where
-    go : (b : Bool) → ltb i done ≡ b
-        → packetsOf (slice (done + (i - done)) t l) ≡ cond b 0 (getD l i blankRequest .packets) + packetsOf (slice (done + ((i + 1) - done)) t l)
-    go true e =
-        let less : i < done = ltb-true i done e in
-        let same : done + (i - done) ≡ done + ((i + 1) - done) = omega arith in
-        ap (λ (f : ℕ). packetsOf (slice f t l)) same ∙ sym (zero-add (packetsOf (slice (done + ((i + 1) - done)) t l)))
-    go false e =
-        let past : done ≤ i = ltb-false i done e in
-        let here : done + (i - done) ≡ i = omega arith in
-        let next : i + 1 ≡ done + ((i + 1) - done) = omega arith in
-        ap (λ (f : ℕ). packetsOf (slice f t l)) here
-        ∙ packets-next i t l h k
-        ∙ ap (λ (f : ℕ). getD l i blankRequest .packets + packetsOf (slice f t l)) next
-
--- a walk that asks each request: it ends at a bad one, goes on past a good one, and finds none where nothing is left
-pub request-here :
-    (i t : ℕ) (l : List IsoRequest) → i < t → t ≤ length l → isBadRequest (getD l i blankRequest) ≡ true
-    → anyBadRequest (slice i t l) ≡ true
-request-here i t l h k e = ap anyBadRequest (slice-next i t l blankRequest h k) ∙ ap (λ (b : Bool). b || anyBadRequest (slice (i + 1) t l)) e
-
-pub request-next :
-    (i t : ℕ) (l : List IsoRequest) → i < t → t ≤ length l → isBadRequest (getD l i blankRequest) ≡ false
-    → anyBadRequest (slice i t l) ≡ anyBadRequest (slice (i + 1) t l)
-request-next i t l h k e = ap anyBadRequest (slice-next i t l blankRequest h k) ∙ ap (λ (b : Bool). b || anyBadRequest (slice (i + 1) t l)) e
-
-pub request-past : (i t : ℕ) (l : List IsoRequest) → t ≤ i → anyBadRequest (slice i t l) ≡ false
-request-past i t l h = ap anyBadRequest (slice-past i t l h)
-
--- the same for plans
-module _ (limit slots : ℕ) where
-  pub plan-here :
-      (i t : ℕ) (l : List IsoPacketPlan) → i < t → t ≤ length l → isBadPlan limit slots (getD l i blankPlan) ≡ true
-      → anyBadPlan limit slots (slice i t l) ≡ true
-  plan-here i t l h k e =
-      ap (anyBadPlan limit slots) (slice-next i t l blankPlan h k) ∙ ap (λ (b : Bool). b || anyBadPlan limit slots (slice (i + 1) t l)) e
-
-  pub plan-next :
-      (i t : ℕ) (l : List IsoPacketPlan) → i < t → t ≤ length l → isBadPlan limit slots (getD l i blankPlan) ≡ false
-      → anyBadPlan limit slots (slice i t l) ≡ anyBadPlan limit slots (slice (i + 1) t l)
-  plan-next i t l h k e =
-      ap (anyBadPlan limit slots) (slice-next i t l blankPlan h k) ∙ ap (λ (b : Bool). b || anyBadPlan limit slots (slice (i + 1) t l)) e
-
-  pub plan-past : (i t : ℕ) (l : List IsoPacketPlan) → t ≤ i → anyBadPlan limit slots (slice i t l) ≡ false
-  plan-past i t l h = ap (anyBadPlan limit slots) (slice-past i t l h)
-
--- a walk that finds a bad record says only that
-pub bad-found : (s : IsoChannelState) (r : RecordScan) → r .bad ≡ true → isBadRecord s ≡ true → Scanned s r
-bad-found s r e b = record { bad = e ∙ sym b; found = λ g. absurd (both (sym b ∙ g)) }
-  where
-    both : true ≡ false → ⊥
-    both x = let z : _≡_ {A = ℕ} 0 1 = cc in omega arith
+use Rattle.session.proofs.Laws.Sums.{packets-next}
 
 -- what each check says of its entry
 pub record GoodConfig (cfg : IsoConfig) : Type 0 where

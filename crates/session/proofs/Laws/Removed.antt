@@ -10,10 +10,11 @@ use lib.Seq.{slice, length-sets}
 use Rattle.session.specs.declared.types.IsoChannelState.{IsoChannelState}
 use Rattle.session.specs.Session.{blankRequest, blankPlan, slots, packetsOf, pendingRequests, allPackets, pendingPackets}
 use Rattle.session.specs.Settle.{oldestFrom}
-use Rattle.session.specs.Submit.{pendingPlans}
+use Rattle.session.specs.Way.{pendingPlans}
 use Rattle.session.specs.Reclaim.{requestOf, plansBegin, plansEnd, removed}
 use Rattle.session.proofs.Laws.Lists.{closed-front, closed-end, closed-part, closed-each}
-use Rattle.session.proofs.Laws.Record.{Sound, GoodRequest, GoodPlan, packets-next, packets-append, packets-split}
+use Rattle.session.proofs.Laws.Sums.{packets-next, packets-append, packets-split}
+use Rattle.session.proofs.Laws.Record.{Sound, GoodRequest, GoodPlan}
 
 module _ (at : ℕ) (s : IsoChannelState) (g : Sound s) (h : at < s .head .done) where
   abbrev count : ℕ

@@ -19,7 +19,8 @@ use Rattle.session.specs.declared.types.IsoChannelState.{IsoChannelState
 use Rattle.session.specs.Session.{blankRequest, blankPlan, slots, packetsOf, allPackets, pendingPackets}
 use Rattle.session.specs.Settle.{settledPlan, oldest, oldestFrom, oldestTo, oldestPlans, settledPlans, movedTotal, settledRequest, oneMore, settledSession, slotsCleared, settledRing, isServed, pickDrained, drain, drained}
 use Rattle.session.proofs.Laws.Lists.{slice-next, slice-past, slice-after-set, slice-sets, getD-slice, getD-sets-before, getD-sets-in, getD-sets-after, getD-map-in}
-use Rattle.session.proofs.Laws.Record.{Sound, GoodRequest, GoodPlan, packets-next, packets-split}
+use Rattle.session.proofs.Laws.Sums.{packets-next, packets-split}
+use Rattle.session.proofs.Laws.Record.{Sound, GoodRequest, GoodPlan}
 
 -- the bytes of one plan more, and of none
 pub moved-next :

@@ -23,7 +23,8 @@ use Rattle.session.specs.declared.transfer.Submitted.{Submitted}
 use Rattle.session.specs.Session.{slots, allPackets}
 use Rattle.session.specs.Scan.{whole, only, isGate, added, headAfter, ringBy}
 use Rattle.ring.specs.Stores.{stored, storesFrom}
-use Rattle.session.specs.Submit.{stepOf, insertOf, plansFrom, newRequest, startWords, noStart, answerOf, startAfter, sessionAfter, ringAfter, submittedBy}
+use Rattle.session.specs.Place.{stepOf, insertOf, plansFrom}
+use Rattle.session.specs.Submit.{newRequest, startWords, noStart, answerOf, startAfter, sessionAfter, ringAfter, submittedBy}
 use Rattle.ring.proofs.Stores.{whole-plan}
 
 -- only an accepted submission adds packets

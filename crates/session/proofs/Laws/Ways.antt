@@ -13,7 +13,8 @@ use Rattle.session.specs.declared.transfer.SubmitWay.the-variants.{Refus
 use Rattle.session.specs.declared.transfer.Submitted.{Submitted}
 use Rattle.session.specs.declared.transfer.IsoTransfer.{IsoTransfer}
 use Rattle.session.specs.declared.types.IsoChannelState.{IsoChannelState}
-use Rattle.session.specs.Submit.{_⇒_, entryNumber, spendNumber, pickWay, submitWay, submittedBy, submitted, ringAfter, submittedRing}
+use Rattle.session.specs.Way.{_⇒_, entryNumber, spendNumber, pickWay, submitWay}
+use Rattle.session.specs.Submit.{submittedBy, submitted, ringAfter, submittedRing}
 use Rattle.session.proofs.Laws.Checks.{_and_, none-holds}
 
 -- one more than count is above the limit just where count reaches it

@@ -3,7 +3,7 @@ use mathlib.Core.Path.{ap}
 use Prim.Native.Nat.{ℕ, _*_}
 use native.Mathlib.Omega.{arith}
 use borrow.Author.Needs.{needs}
-use Rattle.session.proofs.Laws.Record.{ring-few}
+use Rattle.session.proofs.Laws.Sums.{ring-few}
 use Rattle.session.proofs.open.ring_words.Statement.{statement}
 use Rattle.session.proofs.open.ring_words.Tie as tie
 

@@ -1,5 +1,5 @@
 -- `cursor_of` is its definition: each arm knows whether a channel is live.
-use Rattle.session.specs.Submit.{startAt}
+use Rattle.session.specs.Place.{startAt}
 use Rattle.ring.specs.RingSums.{frameSlot}
 use mathlib.Core.Bool.{Bool, cond}
 use mathlib.Core.Path.{_∙_, sym, ap}

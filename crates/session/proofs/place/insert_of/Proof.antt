@@ -1,5 +1,5 @@
 -- `insert_of` is its definition: each arm knows the test, and the grid has cursor, target and ring by theirs.
-use Rattle.session.specs.Submit.{cursorAt, targetAt}
+use Rattle.session.specs.Place.{cursorAt, targetAt}
 use Rattle.session.specs.Session.{slots}
 use Rattle.ring.specs.RingSums.{gridSlot}
 use Rattle.words.specs.Words.{isSet, active}

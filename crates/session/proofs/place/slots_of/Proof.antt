@@ -1,5 +1,5 @@
 -- `slots_of` is the size of the ring, at least 1 and at most 256.
-use Rattle.session.proofs.Laws.Record.{ring-few}
+use Rattle.session.proofs.Laws.Sums.{ring-few}
 use Rattle.ring.proofs.RingFacts.{ring-size-pos}
 use Prim.Native.Nat.{ℕ, _<_, _≤_}
 use mathlib.Core.Path.{subst⁻¹}

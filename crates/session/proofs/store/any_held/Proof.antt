@@ -11,9 +11,9 @@ use borrow.Author.Needs.{needs}
 use Rattle.ring.specs.RingSums.{slotAt, slotsFrom}
 use Rattle.ring.proofs.Steps.{first-slot}
 use Rattle.session.specs.declared.types.IsoPacketPlan.{IsoPacketPlan}
-use Rattle.session.specs.Submit.{isHeld, anyHeld}
+use Rattle.session.specs.Way.{isHeld, anyHeld}
 use Rattle.ring.proofs.Stores.{some-slots, slot-more}
-use Rattle.session.proofs.Laws.Stores.{held-here, held-later, held-end}
+use Rattle.session.proofs.Laws.Held.{held-here, held-later, held-end}
 use Rattle.session.proofs.store.any_held.Statement.{statement}
 use Rattle.session.proofs.store.any_held.Tie as tie
 

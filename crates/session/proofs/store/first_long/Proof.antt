@@ -5,7 +5,7 @@ use Prim.Native.Nat.{_+_, _-_, _≤_}
 use native.Mathlib.Omega.{arith}
 use lib.ListN.{length, drop}
 use borrow.Author.Needs.{needs}
-use Rattle.session.specs.Submit.{firstLong}
+use Rattle.session.specs.Way.{firstLong}
 use Rattle.session.proofs.Laws.Stores.{long-here, long-later, long-end}
 use Rattle.session.proofs.store.first_long.Statement.{statement}
 use Rattle.session.proofs.store.first_long.Tie as tie

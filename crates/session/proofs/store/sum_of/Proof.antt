@@ -4,7 +4,7 @@ use Prim.Native.Nat.{_+_, _-_, _*_, _≤_}
 use native.Mathlib.Omega.{arith}
 use lib.ListN.{length, drop}
 use borrow.Author.Needs.{needs}
-use Rattle.session.specs.Submit.{sum}
+use Rattle.session.specs.Way.{sum}
 use Rattle.session.proofs.Laws.Stores.{sum-more, sum-end}
 use Rattle.session.proofs.store.sum_of.Statement.{statement}
 use Rattle.session.proofs.store.sum_of.Tie as tie

@@ -6,7 +6,7 @@ use lib.ListN.{take}
 use Rattle.ring.proofs.RingFacts.{ring-size-pos}
 use Rattle.ring.proofs.Stores.{some-slots}
 use Rattle.session.specs.Session.{slots}
-use Rattle.session.specs.Submit.{stepOf}
+use Rattle.session.specs.Place.{stepOf}
 use Rattle.session.proofs.Laws.Stores.{none-wraps}
 use Rattle.ring.specs.Stores.{Store, stored, storesFrom, asWord}
 use borrow.Author.Needs.{needs}

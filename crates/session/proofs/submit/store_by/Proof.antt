@@ -6,7 +6,7 @@ use lib.ListN.{length}
 use Rattle.session.specs.declared.transfer.SubmitWay.{SubmitWay}
 use Rattle.session.specs.Session.{ringWords, cleared}
 use Rattle.session.specs.Scan.{isGate, ringBy}
-use Rattle.session.specs.Submit.{sum}
+use Rattle.session.specs.Way.{sum}
 use borrow.Author.Needs.{needs}
 use Rattle.session.proofs.submit.store_by.Statement.{statement}
 use Rattle.session.proofs.submit.store_by.Tie as tie

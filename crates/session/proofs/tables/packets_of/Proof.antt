@@ -8,7 +8,7 @@ use lib.ListN.{length}
 use lib.Seq.{slice}
 use borrow.Author.Needs.{needs}
 use Rattle.session.specs.Session.{packetsOf}
-use Rattle.session.proofs.Laws.Record.{packets-next, packets-past}
+use Rattle.session.proofs.Laws.Sums.{packets-next, packets-past}
 use Rattle.session.proofs.tables.packets_of.Statement.{statement}
 use Rattle.session.proofs.tables.packets_of.Tie as tie
 

@@ -4,7 +4,8 @@ use mathlib.Core.Bool.{Bool, true, false, _&&_}
 use Prim.Native.Nat.{ℕ}
 use borrow.Author.Tests.{not-true, not-false}
 use Rattle.session.specs.Session.{slots}
-use Rattle.session.specs.Submit.{isGuarded, anyHeld, stepOf}
+use Rattle.session.specs.Place.{stepOf}
+use Rattle.session.specs.Way.{isGuarded, anyHeld}
 use Rattle.ring.specs.RingSums.{slotsFrom}
 use borrow.Author.Needs.{needs}
 use Rattle.session.proofs.way.clash.Statement.{statement}

@@ -8,7 +8,8 @@ use Rattle.words.specs.Words.{isBeyond}
 use Rattle.ring.specs.RingSums.{slotsFrom}
 use Rattle.session.specs.Session.{slots}
 use Rattle.session.specs.Scan.{whole}
-use Rattle.session.specs.Submit.{isGuarded, anyHeld, pendingPlans, insertAt, stepOf}
+use Rattle.session.specs.Place.{insertAt, stepOf}
+use Rattle.session.specs.Way.{isGuarded, anyHeld, pendingPlans}
 use Rattle.session.proofs.Laws.Ways.{spend-equal}
 use borrow.Author.Needs.{needs}
 use Rattle.session.proofs.way.spend_refusal.Statement.{statement}

@@ -8,7 +8,7 @@ use Rattle.session.specs.declared.types.IsoRequest.{IsoRequest}
 use Rattle.session.specs.declared.types.IsoPacketPlan.{IsoPacketPlan}
 use Rattle.session.specs.declared.types.IsoChannelState.{IsoChannelState}
 use Rattle.session.specs.Scan.{whole, Scanned}
-use Rattle.session.specs.Submit.{firstLong, entryRefusal, tooLong, spendRefusal, gateWay}
+use Rattle.session.specs.Way.{firstLong, entryRefusal, tooLong, spendRefusal, gateWay}
 use Rattle.session.proofs.Laws.Admitted.{entered}
 use Rattle.session.proofs.Laws.Ways.{refuse-way, long-way, spend-way, gated-way}
 use borrow.Author.Needs.{needs}

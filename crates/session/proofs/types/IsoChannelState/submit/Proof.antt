@@ -17,7 +17,8 @@ use Rattle.session.specs.declared.transfer.SubmitWay.{SubmitWay}
 use Rattle.session.specs.declared.transfer.SubmitWay.the-variants.{Accept}
 use Rattle.session.specs.Session.{slots}
 use Rattle.session.specs.Scan.{whole, Walked, isGate}
-use Rattle.session.specs.Submit.{stepOf, insertAt, insertOf, plansFrom, submitWay}
+use Rattle.session.specs.Place.{stepOf, insertAt, insertOf, plansFrom}
+use Rattle.session.specs.Way.{submitWay}
 use Rattle.ring.proofs.Stores.{some-slots, slot-more}
 use Rattle.session.proofs.Laws.Stores.{newPlan, plans-next, plans-past}
 use Rattle.session.proofs.Laws.Admitted.{Admitted, gate-admitted, Acceptable, acceptable, told-of}
