@@ -1,0 +1,32 @@
+// The film's first and last words.
+use crate::print::text;
+
+pub(crate) fn opening() {
+    text(
+        b"The film: a camera's ring and a disk's transfers, played by the proved library on
+a simulated USB host controller. Five scenes, no hardware.
+
+Driver and controller share a ring of slots, one slot a packet. A slot has two
+words. Its address is stored first, then its status, whose top bit hands the slot
+to the controller. One character below is one slot:
+
+  .  free
+  a  address stored, status still 0: the controller does not use it yet
+  *  active, stored by this call
+  A  active, stored by an earlier call
+  s  served by the controller, result not collected yet
+  !  held by two packets: written over before its result was collected
+  ^  in the line below: the cursor, where a next packet would follow
+
+",
+    );
+}
+
+pub(crate) fn closing() {
+    text(
+        b"Read next: README.md, what stands where; docs/READING.md, a way through the rules
+and the proofs; include/dwc2_port.h, these calls from C; crates/session/specs, the
+rules that this film keeps, as the prover reads them.
+",
+    );
+}
