@@ -4,19 +4,30 @@ use session::IsoChannelState;
 use session::IsoPacketPlan;
 use session::IsoRequest;
 
-pub(crate) const SLOTS: usize = 256;
+const SLOTS: usize = 256;
 
 // Status bit 31.
 const ACTIVE: u32 = 2_147_483_648;
 
-// How many pending packets hold each slot, two for more.
-pub(crate) fn hold_pending(session: IsoChannelState, cells: &mut [u8]) {
+// The cells of one act, behind those of the acts before it.
+pub(crate) fn see(
+    session: IsoChannelState,
+    act: u32,
+    before: &[u32; 512],
+    ring: &[u32; 512],
+    cells: &mut [u8],
+) {
+    let from = act as usize * SLOTS;
+    if from > cells.len() {
+        return;
+    }
     let head = session.head;
     let requests = session.requests;
     let plans = session.plans;
-    let from = packets_until(requests, head.done);
-    let to = packets_until(requests, head.count);
-    hold(plans, from, to, cells)
+    let oldest = packets_until(requests, head.done);
+    let end = packets_until(requests, head.count);
+    hold(plans, oldest, end, &mut cells[from..]);
+    draw(before, ring, &mut cells[from..]);
 }
 
 // The packets of the first n requests.
@@ -40,6 +51,7 @@ fn wide(x: u16) -> u32
     x as u32
 }
 
+// Counts, for each slot, the plans that hold it: 0, 1, or 2 for more.
 fn hold(plans: [IsoPacketPlan; 1024], from: u32, to: u32, cells: &mut [u8]) {
     let end = to as usize;
     let mut i = from as usize;
@@ -67,18 +79,31 @@ fn one_more(held: u8) -> u8 {
 }
 
 // Each slot's character in the place of its count.
-pub(crate) fn draw(before: &[u32; 512], ring: &[u32; 512], cells: &mut [u8]) {
+fn draw(before: &[u32; 512], ring: &[u32; 512], cells: &mut [u8]) {
     let mut slot: usize = 0;
     while slot < SLOTS {
-        if slot >= cells.len() {
-            return;
-        }
-        let status = ring[2 * slot];
-        let addr = ring[2 * slot + 1];
-        let old = before[2 * slot];
-        cells[slot] = cell(cells[slot], old, status, addr);
+        draw_slot(before, ring, slot, cells);
         slot += 1;
     }
+}
+
+fn draw_slot(before: &[u32; 512], ring: &[u32; 512], slot: usize, cells: &mut [u8]) {
+    if slot >= SLOTS {
+        return;
+    }
+    let old = word_at(before, 2 * slot);
+    let status = word_at(ring, 2 * slot);
+    let addr = word_at(ring, 2 * slot + 1);
+    if slot < cells.len() {
+        cells[slot] = cell(cells[slot], old, status, addr);
+    }
+}
+
+pub(crate) fn word_at(words: &[u32; 512], at: usize) -> u32 {
+    if at < 512 {
+        return words[at];
+    }
+    0
 }
 
 fn cell(held: u8, old: u32, status: u32, addr: u32) -> u8 {
@@ -108,7 +133,7 @@ fn active_cell(same: bool) -> u8 {
 pub(crate) fn first_change(before: &[u32; 512], ring: &[u32; 512]) -> usize {
     let mut at: usize = 0;
     while at < 512 {
-        if before[at] != ring[at] {
+        if word_at(before, at) != word_at(ring, at) {
             return at;
         }
         at += 1;

@@ -10,7 +10,7 @@ use crate::script::Run;
 pub(crate) fn scene() {
     let mut cells = [0u8; CELLS];
     let mut seen = [0u64; NUMBERS];
-    play(Run::Cut, 7, &mut cells, &mut seen);
+    play(Run::Cut, 6, &mut cells, &mut seen);
     title();
     rows(&cells, &seen);
 }
@@ -30,11 +30,11 @@ fn title() {
 
 // The numbers are those of the acts.
 fn rows(cells: &[u8], seen: &[u64]) {
-    row(b"before      ", cells, seen, 2);
-    row(b"cut         ", cells, seen, 3);
-    row(b"recovered   ", cells, seen, 4);
+    row(b"before      ", cells, seen, 1);
+    row(b"cut         ", cells, seen, 2);
+    row(b"recovered   ", cells, seen, 3);
+    answer_line(seen, 4);
+    row(b"again       ", cells, seen, 5);
     answer_line(seen, 5);
-    row(b"again       ", cells, seen, 6);
-    answer_line(seen, 6);
     text(b"\n");
 }

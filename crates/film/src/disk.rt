@@ -73,7 +73,10 @@ fn next(desc: u32) -> u32 {
 
 // The last of so many descriptors.
 fn last(base: u32, descs: u32) -> u32 {
-    if (base >= 1024) | (descs >= 1024) {
+    if base >= 1024 {
+        return 1024;
+    }
+    if descs >= 1024 {
         return 1024;
     }
     if descs == 0 {

@@ -11,8 +11,8 @@ pub(crate) fn scene() {
     let mut old_seen = [0u64; NUMBERS];
     let mut new = [0u8; CELLS];
     let mut new_seen = [0u64; NUMBERS];
-    play(Run::Compatible, 7, &mut old, &mut old_seen);
-    play(Run::Guarded, 7, &mut new, &mut new_seen);
+    play(Run::Compatible, 6, &mut old, &mut old_seen);
+    play(Run::Guarded, 6, &mut new, &mut new_seen);
     title();
     side_by_side(&old, &old_seen, &new, &new_seen);
     moral();
@@ -35,11 +35,11 @@ fn title() {
 
 // The two acts of serving are one row.
 fn side_by_side(old: &[u8], old_seen: &[u64], new: &[u8], new_seen: &[u64]) {
-    pair(b"submit      ", old, old_seen, new, new_seen, 1);
-    pair(b"serve       ", old, old_seen, new, new_seen, 3);
-    pair(b"submit      ", old, old_seen, new, new_seen, 4);
-    pair(b"collect     ", old, old_seen, new, new_seen, 5);
-    pair(b"then        ", old, old_seen, new, new_seen, 6);
+    pair(b"submit      ", old, old_seen, new, new_seen, 0);
+    pair(b"serve       ", old, old_seen, new, new_seen, 2);
+    pair(b"submit      ", old, old_seen, new, new_seen, 3);
+    pair(b"collect     ", old, old_seen, new, new_seen, 4);
+    pair(b"then        ", old, old_seen, new, new_seen, 5);
 }
 
 fn moral() {

@@ -1,14 +1,13 @@
 // A run of acts on one session and one ring, and what is seen after each: the cells and some numbers.
-use crate::cells::draw;
 use crate::cells::first_change;
-use crate::cells::hold_pending;
+use crate::cells::see;
+use crate::cells::word_at;
 use crate::script::Run;
 use crate::script::act_of;
+use crate::script::camera_of;
 use crate::step::Said;
-use crate::step::opened;
-use crate::step::step;
-use ring::Speed;
-use session::IsoMode;
+use crate::step::open;
+use crate::step::perform;
 
 // Eight acts at most, 256 cells and six numbers each.
 pub(crate) const CELLS: usize = 2048;
@@ -28,23 +27,17 @@ pub(crate) const CHANGED: usize = 4;
 
 pub(crate) const WORD: usize = 5;
 
-// No row is printed here: one session is there at a time.
+// So many acts. No row is printed here: one session is there at a time.
 pub(crate) fn play(run: Run, acts: u32, cells: &mut [u8], seen: &mut [u64]) {
     let mut ring = [0u32; 512];
-    let first = opened(Speed::Full, 1, IsoMode::Compatible, &mut ring);
-    let mut session = first.session;
+    let mut session = open(camera_of(run), &mut ring);
     let mut i: u32 = 0;
     while i < acts {
         let before = ring;
-        let done = step(session, act_of(run, i), &mut ring);
+        let done = perform(session, act_of(run, i), &mut ring);
         session = done.session;
         let said = done.said;
-        let from = i as usize * 256;
-        if from > cells.len() {
-            return;
-        }
-        hold_pending(session, &mut cells[from..]);
-        draw(&before, &ring, &mut cells[from..]);
+        see(session, i, &before, &ring, cells);
         note(seen, i as usize, said, session.head.td_last, &before, &ring);
         i += 1;
     }
@@ -64,18 +57,7 @@ fn note(
     put(seen, act, BYTES, said.bytes);
     put(seen, act, CURSOR, cursor as u64);
     put(seen, act, CHANGED, changed as u64);
-    put(seen, act, WORD, word_at(ring, changed));
-}
-
-fn word_at(ring: &[u32; 512], at: usize) -> u64 {
-    if at < 512 {
-        return wide(ring[at]);
-    }
-    0
-}
-
-fn wide(x: u32) -> u64 {
-    x as u64
+    put(seen, act, WORD, word_at(ring, changed) as u64);
 }
 
 fn put(seen: &mut [u64], act: usize, field: usize, value: u64) {

@@ -32,6 +32,9 @@ pub(crate) fn number(n: u64) -> usize
     let mut digits = [0u8; 20];
     let k = io::decimal(n, &mut digits);
     io::write_all(STDOUT_FILENO, &digits[..k]);
+    if k > 20 {
+        return 20;
+    }
     k
 }
 
@@ -40,17 +43,23 @@ pub(crate) fn word(n: u64) {
     io::print_hex(STDOUT_FILENO, n, 8);
 }
 
-// Spaces, from a length to another one of at most 80.
+// Spaces, from a column of a row to another one of at most 80.
 fn spaces(from: usize, to: usize) {
-    let blank = [b' '; 80];
-    if to > 80 {
-        return;
-    }
+    between(
+        b"                                                                                ",
+        from,
+        to,
+    );
+}
+
+fn between(bytes: &[u8], from: usize, to: usize) {
     if from > to {
         return;
     }
-    let n = to - from;
-    io::write_all(STDOUT_FILENO, &blank[..n]);
+    if to > bytes.len() {
+        return;
+    }
+    io::write_all(STDOUT_FILENO, &bytes[from..to]);
 }
 
 // The cells of n slots of an act.
@@ -65,11 +74,7 @@ pub(crate) fn part(cells: &[u8], act: usize, slot: usize, n: usize) {
         return;
     }
     let from = act * SLOTS + slot;
-    let to = from + n;
-    if to > cells.len() {
-        return;
-    }
-    io::write_all(STDOUT_FILENO, &cells[from..to]);
+    between(cells, from, from + n);
 }
 
 // A place in a row of so many slots; one beyond it counts as the last.

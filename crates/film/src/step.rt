@@ -1,12 +1,10 @@
 // The acts on the session. Each gives back the session, and what the call said as numbers, so that nothing is printed where a session
 // is.
-ghost use Prim.Native.Nat.{_≤_};
 use crate::script::Act;
-use ring::Speed;
+use crate::script::Camera;
 use session::IsoChannelState;
 use session::IsoConfig;
 use session::IsoEvent;
-use session::IsoMode;
 use session::IsoOutcome;
 use session::IsoTransfer;
 use session::ReclaimAnswer;
@@ -40,9 +38,8 @@ pub(crate) struct Step {
     pub said: Said,
 }
 
-pub(crate) fn step(session: IsoChannelState, act: Act, ring: &mut [u32]) -> Step {
+pub(crate) fn perform(session: IsoChannelState, act: Act, ring: &mut [u32]) -> Step {
     match act {
-        Act::Open(speed, interval, mode) => opened(speed, interval, mode, ring),
         Act::Submit(reading, packets, words) => submitted(session, reading, packets, words, ring),
         Act::Serve(slot, status) => served(session, slot, status, ring),
         Act::Collect(id) => collected(session, id, ring),
@@ -50,7 +47,7 @@ pub(crate) fn step(session: IsoChannelState, act: Act, ring: &mut [u32]) -> Step
     }
 }
 
-fn nothing() -> Said {
+fn silent() -> Said {
     Said {
         kind: NOTHING,
         number: 0,
@@ -59,11 +56,13 @@ fn nothing() -> Said {
 }
 
 // IN, packets of 192 bytes.
-pub(crate) fn opened(speed: Speed, interval: u16, mode: IsoMode, ring: &mut [u32]) -> Step {
+pub(crate) fn open(camera: Camera, ring: &mut [u32]) -> IsoChannelState {
+    let speed = camera.speed;
+    let mode = camera.mode;
     let config = IsoConfig {
         speed,
         direction: Direction::In,
-        interval,
+        interval: camera.interval,
         endpoint: 1,
         device: 1,
         max_packet_size: 192,
@@ -71,9 +70,7 @@ pub(crate) fn opened(speed: Speed, interval: u16, mode: IsoMode, ring: &mut [u32
         mode,
     };
     let opened = IsoChannelState::open(config, ring);
-    let session = opened.session;
-    let said = nothing();
-    Step { session, said }
+    opened.session
 }
 
 fn submitted(
@@ -83,31 +80,30 @@ fn submitted(
     words: u32,
     ring: &mut [u32],
 ) -> Step {
-    let lengths = [192u32; 4];
-    let n = at_most_four(packets);
-    let request = transfer(reading, n, words);
-    let done = session.submit(request, &lengths[..n], ring);
+    let lengths = up_to(&[192, 192, 192, 192], packets as usize);
+    let request = transfer(reading, packets, words);
+    let done = session.submit(request, lengths, ring);
     let answer = done.answer;
     let session = done.session;
     let said = submit_said(answer);
     Step { session, said }
 }
 
-fn at_most_four(packets: u32) -> usize
-    ensures { λ r. ⌜ r ≤ 4 ⌝ }
-{
-    if packets > 4 {
-        return 4;
+// The first n.
+fn up_to(lengths: &[u32], n: usize) -> &[u32] {
+    let from: usize = 0;
+    if n > lengths.len() {
+        return lengths;
     }
-    packets as usize
+    &lengths[from..n]
 }
 
 // A buffer at 4096, both readings the same, nothing in its way.
-fn transfer(reading: u32, packets: usize, words: u32) -> IsoTransfer {
+fn transfer(reading: u32, packets: u32, words: u32) -> IsoTransfer {
     IsoTransfer {
         isochronous: true,
         has_buffer: true,
-        buffer_len: (packets % 5) as u32 * 192,
+        buffer_len: packets % 5 * 192,
         base: 4096,
         start_reading: reading,
         frame_reading: reading,
@@ -145,12 +141,15 @@ fn submit_said(answer: SubmitAnswer) -> Said {
 
 // The controller's store into a status word.
 fn served(session: IsoChannelState, slot: u16, status: u32, ring: &mut [u32]) -> Step {
-    let at = 2 * slot as usize;
-    if at < ring.len() {
-        ring[at] = status;
-    }
-    let said = nothing();
+    store(ring, 2 * slot as usize, status);
+    let said = silent();
     Step { session, said }
+}
+
+fn store(ring: &mut [u32], at: usize, word: u32) {
+    if at < ring.len() {
+        ring[at] = word;
+    }
 }
 
 // An event without any bit: what was served is settled.
@@ -201,6 +200,6 @@ fn outcome_kind(outcome: IsoOutcome) -> u64 {
 fn recovered(session: IsoChannelState, ring: &mut [u32]) -> Step {
     let done = session.recover(ring);
     let session = done.session;
-    let said = nothing();
+    let said = silent();
     Step { session, said }
 }

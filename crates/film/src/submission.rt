@@ -18,7 +18,7 @@ use crate::step::CUT;
 pub(crate) fn scene() {
     let mut cells = [0u8; CELLS];
     let mut seen = [0u64; NUMBERS];
-    play(Run::WordByWord, 8, &mut cells, &mut seen);
+    play(Run::WordByWord, 7, &mut cells, &mut seen);
     title();
     let mut words: usize = 0;
     while words < 7 {
@@ -43,12 +43,11 @@ words       slots 20 to 51                    last word stored
 
 // The ring after the call that might store so many words.
 fn stored(words: usize, cells: &[u8], seen: &[u64]) {
-    let act = words % 7 + 1;
     number(words as u64);
-    outcome(seen_at(seen, act, KIND));
-    part(cells, act, 20, 32);
+    outcome(seen_at(seen, words, KIND));
+    part(cells, words, 20, 32);
     text(b"  ");
-    last_word(seen_at(seen, act, CHANGED), seen_at(seen, act, WORD));
+    last_word(seen_at(seen, words, CHANGED), seen_at(seen, words, WORD));
 }
 
 fn outcome(kind: u64) {
@@ -82,12 +81,12 @@ fn last_word(changed: u64, value: u64) {
 
 fn whole(cells: &[u8], seen: &[u64]) {
     text(b"\n   The whole ring of 256 slots after it:\n\n");
-    row(b"slots 0     ", cells, seen, 7);
+    row(b"slots 0     ", cells, seen, 6);
     text(b"slots 64    ");
-    part(cells, 7, 64, 64);
+    part(cells, 6, 64, 64);
     text(b"\nslots 128   ");
-    part(cells, 7, 128, 64);
+    part(cells, 6, 128, 64);
     text(b"\nslots 192   ");
-    part(cells, 7, 192, 64);
+    part(cells, 6, 192, 64);
     text(b"\n\n");
 }
