@@ -9,7 +9,9 @@ use crate::step::Said;
 use crate::step::open;
 use crate::step::perform;
 
-// Eight acts at most, 256 cells and six numbers each.
+const ACTS: u32 = 8;
+
+// 256 cells and six numbers for each act.
 pub(crate) const CELLS: usize = 2048;
 
 pub(crate) const NUMBERS: usize = 48;
@@ -27,12 +29,15 @@ pub(crate) const CHANGED: usize = 4;
 
 pub(crate) const WORD: usize = 5;
 
-// So many acts. No row is printed here: one session is there at a time.
+// So many acts, at most eight. No row is printed here: one session is there at a time.
 pub(crate) fn play(run: Run, acts: u32, cells: &mut [u8], seen: &mut [u64]) {
     let mut ring = [0u32; 512];
     let mut session = open(camera_of(run), &mut ring);
     let mut i: u32 = 0;
-    while i < acts {
+    while i < ACTS {
+        if i >= acts {
+            return;
+        }
         let before = ring;
         let done = perform(session, act_of(run, i), &mut ring);
         session = done.session;

@@ -20,11 +20,7 @@ pub(crate) fn scene() {
     let mut seen = [0u64; NUMBERS];
     play(Run::WordByWord, 7, &mut cells, &mut seen);
     title();
-    let mut words: usize = 0;
-    while words < 7 {
-        stored(words, &cells, &seen);
-        words += 1;
-    }
+    rows(&cells, &seen);
     whole(&cells, &seen);
 }
 
@@ -39,6 +35,16 @@ fn title() {
 words       slots 20 to 51                    last word stored
 ",
     );
+}
+
+fn rows(cells: &[u8], seen: &[u64]) {
+    stored(0, cells, seen);
+    stored(1, cells, seen);
+    stored(2, cells, seen);
+    stored(3, cells, seen);
+    stored(4, cells, seen);
+    stored(5, cells, seen);
+    stored(6, cells, seen);
 }
 
 // The ring after the call that might store so many words.

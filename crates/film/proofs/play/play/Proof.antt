@@ -1,83 +1,74 @@
+-- The invariant: the ring, the cells and the numbers seen keep their counts. The measure is how many acts are left.
+use mathlib.Core.Path.{_≡_, refl}
+use Prim.Native.Nat.{_-_}
+use native.Mathlib.Omega.{arith}
+use lib.ListN.{length}
+use borrow.Author.Needs.{needs}
 use Rattle.film.proofs.play.play.Statement.{statement}
 use Rattle.film.proofs.play.play.Tie as tie
-use Rattle.film.proofs.play.play.Reads as reads
-use Rattle.film.proofs.play.play.Lts as lts
-use Rattle.film.proofs.cells.see.Reads as see-reads
-use Rattle.film.proofs.play.note.Reads as note-reads
-use Rattle.film.proofs.script.act_of.Reads as act-of-reads
-use Rattle.film.proofs.script.camera_of.Reads as camera-of-reads
-use Rattle.film.proofs.step.open.Reads as open-reads
-use Rattle.film.proofs.step.perform.Reads as perform-reads
 
 abbrev Inv-loop : tie.InvT-loop
-Inv-loop run acts cells₀ seen₀ ring₀ session₀ i₀ cells seen ring session i = ?
+Inv-loop run acts cells₀ seen₀ ring₀ session₀ i₀ cells seen ring session i = (length cells ≡ length cells₀) × (length seen ≡ length seen₀) × (length ring ≡ 512)
 
 abbrev μ-loop : tie.MeasureT-loop
-μ-loop run acts cells₀ seen₀ ring₀ session₀ i₀ cells seen ring session i = ?
+μ-loop run acts cells₀ seen₀ ring₀ session₀ i₀ cells seen ring session i = 8 - i
 
--- src/play.rt:33:28
 camera-of-requires : tie.Need-camera-of-requires Inv-loop μ-loop
-camera-of-requires c κs = ?
+camera-of-requires c κs = search needs
 
--- src/play.rt:33:44
 slice-aggregate-open : tie.Need-slice-aggregate-open Inv-loop μ-loop
-slice-aggregate-open c = ?
+slice-aggregate-open c = search needs
 
--- src/play.rt:33:9
 open-requires : tie.Need-open-requires Inv-loop μ-loop
-open-requires c κs = ?
+open-requires c κs = search needs
 
--- src/play.rt:35:5
 loop-holds : tie.Need-loop-holds Inv-loop μ-loop
-loop-holds c = ?
+loop-holds c = (refl, refl, omega arith)
 
--- src/play.rt:37:37
-act-of-requires : tie.Need-act-of-requires Inv-loop μ-loop
-act-of-requires c κs = ?
-
--- src/play.rt:37:53
-slice-aggregate-perform : tie.Need-slice-aggregate-perform Inv-loop μ-loop
-slice-aggregate-perform c = ?
-
--- src/play.rt:37:13
-perform-requires : tie.Need-perform-requires Inv-loop μ-loop
-perform-requires c κs = ?
-
--- src/play.rt:40:9
-see-requires : tie.Need-see-requires Inv-loop μ-loop
-see-requires c κs = ?
-
--- src/play.rt:41:20
-cast-note : tie.Need-cast-note Inv-loop μ-loop
-cast-note c = ?
-
--- src/play.rt:41:9
-note-requires : tie.Need-note-requires Inv-loop μ-loop
-note-requires c κs = ?
-
--- src/play.rt:42:9
-add-i : tie.Need-add-i Inv-loop μ-loop
-add-i c = ?
-
--- src/play.rt:35:5
-loop-less : tie.Need-loop-less Inv-loop μ-loop
-loop-less c = ?
-
--- src/play.rt:35:5
-loop-again : tie.Need-loop-again Inv-loop μ-loop
-loop-again c = ?
-
--- src/play.rt:31:1
 same-length : tie.Need-same-length Inv-loop μ-loop
-same-length c = ?
+same-length c = omega arith
 
--- src/play.rt:31:1
 same-length-2 : tie.Need-same-length-2 Inv-loop μ-loop
-same-length-2 c = ?
+same-length-2 c = omega arith
 
--- src/play.rt:31:1
 returns : tie.Need-returns Inv-loop μ-loop
-returns c = ?
+returns c = search needs
+
+act-of-requires : tie.Need-act-of-requires Inv-loop μ-loop
+act-of-requires c κs = search needs
+
+slice-aggregate-perform : tie.Need-slice-aggregate-perform Inv-loop μ-loop
+slice-aggregate-perform c = search needs
+
+perform-requires : tie.Need-perform-requires Inv-loop μ-loop
+perform-requires c κs = search needs
+
+see-requires : tie.Need-see-requires Inv-loop μ-loop
+see-requires c κs = search needs
+
+cast-note : tie.Need-cast-note Inv-loop μ-loop
+cast-note c = omega arith
+
+note-requires : tie.Need-note-requires Inv-loop μ-loop
+note-requires c κs = search needs
+
+add-i : tie.Need-add-i Inv-loop μ-loop
+add-i c = omega arith
+
+loop-less : tie.Need-loop-less Inv-loop μ-loop
+loop-less c = omega arith
+
+loop-again : tie.Need-loop-again Inv-loop μ-loop
+loop-again c = (omega arith, omega arith, omega arith)
+
+same-length-3 : tie.Need-same-length-3 Inv-loop μ-loop
+same-length-3 c = omega arith
+
+same-length-4 : tie.Need-same-length-4 Inv-loop μ-loop
+same-length-4 c = omega arith
+
+returns-2 : tie.Need-returns-2 Inv-loop μ-loop
+returns-2 c = search needs
 
 pub play-spec : {M : Type 1} → statement M
 play-spec =
@@ -89,6 +80,9 @@ play-spec =
     slice-aggregate-open
     open-requires
     loop-holds
+    same-length
+    same-length-2
+    returns
     act-of-requires
     slice-aggregate-perform
     perform-requires
@@ -98,6 +92,6 @@ play-spec =
     add-i
     loop-less
     loop-again
-    same-length
-    same-length-2
-    returns)
+    same-length-3
+    same-length-4
+    returns-2)
