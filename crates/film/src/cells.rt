@@ -9,25 +9,20 @@ const SLOTS: usize = 256;
 // Status bit 31.
 const ACTIVE: u32 = 2_147_483_648;
 
-// The cells of one act, behind those of the acts before it.
+// The cells of an act.
 pub(crate) fn see(
     session: IsoChannelState,
-    act: u32,
     before: &[u32; 512],
     ring: &[u32; 512],
     cells: &mut [u8],
 ) {
-    let from = act as usize * SLOTS;
-    if from > cells.len() {
-        return;
-    }
     let head = session.head;
     let requests = session.requests;
     let plans = session.plans;
     let oldest = packets_until(requests, head.done);
     let end = packets_until(requests, head.count);
-    hold(plans, oldest, end, &mut cells[from..]);
-    draw(before, ring, &mut cells[from..]);
+    hold(plans, oldest, end, cells);
+    draw(before, ring, cells);
 }
 
 // The packets of the first n requests.

@@ -6,6 +6,7 @@ use plan::DataKind;
 use plan::DataRequest;
 use plan::DataToggle;
 use plan::Dwc2DataPlan;
+use plan::Dwc2TransferStage;
 use ring::Speed;
 use words::Direction;
 
@@ -28,22 +29,6 @@ fn request(len: u64, toggle: DataToggle) -> DataRequest {
 }
 
 pub(crate) fn long_write() {
-    long_title();
-    let mut array = [0u32; 2048];
-    let plan = plan::data_stages(request(33_423_361, DataToggle::data0()), &mut array);
-    let stages = plan.stages;
-    let first = stages[0];
-    let second = stages[1];
-    stage(b"stage 1     ", first.len, first.descs);
-    descriptor(b"  first     ", &array, first.desc_base);
-    descriptor(b"  second    ", &array, next(first.desc_base));
-    descriptor(b"  last      ", &array, last(first.desc_base, first.descs));
-    stage(b"stage 2     ", second.len, second.descs);
-    descriptor(b"  first     ", &array, second.desc_base);
-    behind(first.dma_addr, second.dma_addr);
-}
-
-fn long_title() {
     text(
         b"4. A long write in two stages
    33423361 bytes to a disk, packets of 512, buffer at 0x10000000 (document 01,
@@ -54,43 +39,32 @@ fn long_title() {
 
 ",
     );
+    let mut array = [0u32; 2048];
+    let plan = plan::data_stages(request(33_423_361, DataToggle::data0()), &mut array);
+    let stages = plan.stages;
+    stage(b"stage 1     bytes ", stages[0], &array);
+    stage(b"stage 2     bytes ", stages[1], &array);
+    behind(stages[0], stages[1]);
 }
 
-fn stage(label: &[u8], len: u32, descs: u32) {
+// A plan has at most 1,024 descriptors, so the remainders change nothing.
+fn stage(label: &[u8], stage: Dwc2TransferStage, array: &[u32; 2048]) {
+    let base = stage.desc_base % 1024;
+    let more = stage.descs % 1025;
     text(label);
-    number(len as u64);
-    text(b" bytes, ");
-    number(descs as u64);
-    text(b" descriptors\n");
+    number(stage.len as u64);
+    text(b", descriptors ");
+    number(more as u64);
+    text(b"\n  first     ");
+    descriptor(array, base);
+    if more > 1 {
+        text(b"  last      ");
+        descriptor(array, base + more - 1);
+    }
 }
 
-fn next(desc: u32) -> u32 {
-    if desc >= 1024 {
-        return 1024;
-    }
-    desc + 1
-}
-
-// The last of so many descriptors.
-fn last(base: u32, descs: u32) -> u32 {
-    if base >= 1024 {
-        return 1024;
-    }
-    if descs >= 1024 {
-        return 1024;
-    }
-    if descs == 0 {
-        return base;
-    }
-    base + descs - 1
-}
-
-fn descriptor(label: &[u8], array: &[u32; 2048], desc: u32) {
-    if desc >= 1024 {
-        return;
-    }
-    let at = 2 * desc as usize;
-    text(label);
+fn descriptor(array: &[u32; 2048], desc: u32) {
+    let at = 2 * (desc % 1024) as usize;
     text(b"address ");
     word(wide(array[at + 1]));
     text(b"  status ");
@@ -102,27 +76,15 @@ fn wide(x: u32) -> u64 {
     x as u64
 }
 
-fn behind(first: u32, second: u32) {
-    if second < first {
-        return;
+fn behind(first: Dwc2TransferStage, second: Dwc2TransferStage) {
+    if first.dma_addr <= second.dma_addr {
+        text(b"\n   Stage 2 starts ");
+        number((second.dma_addr - first.dma_addr) as u64);
+        text(b" bytes behind stage 1.\n\n");
     }
-    text(b"\n   Stage 2 starts ");
-    number((second - first) as u64);
-    text(b" bytes behind stage 1.\n\n");
 }
 
 pub(crate) fn empty_write() {
-    empty_title();
-    let mut array = [0u32; 2048];
-    let empty = plan::data_stages(request(0, DataToggle::data0()), &mut array);
-    let after = empty.toggle;
-    sent(b"0 bytes     ", 0, pid(empty), after);
-    let next = plan::data_stages(request(512, after), &mut array);
-    sent(b"512 bytes   ", 512, pid(next), next.toggle);
-    text(b"\n");
-}
-
-fn empty_title() {
     text(
         b"5. An empty transfer is one packet
    A write of 0 bytes to a disk and then one of 512, packets of 512. Each packet
@@ -133,29 +95,31 @@ fn empty_title() {
 
 ",
     );
+    let mut array = [0u32; 2048];
+    let empty = plan::data_stages(request(0, DataToggle::data0()), &mut array);
+    sent(b"0 bytes     packets ", 0, empty);
+    let next = plan::data_stages(request(512, empty.toggle), &mut array);
+    sent(b"512 bytes   packets ", 512, next);
+    text(b"\n");
 }
 
-// HCTSIZ, bits 29 and 30, of the first stage.
-fn pid(plan: Dwc2DataPlan) -> u32 {
+// The PID stands in HCTSIZ, bits 29 and 30, and DATA1 is 2.
+fn sent(label: &[u8], len: u64, plan: Dwc2DataPlan) {
     let stages = plan.stages;
     let stage = stages[0];
-    stage.hctsiz / 536_870_912 % 4
-}
-
-fn sent(label: &[u8], len: u64, pid: u32, after: DataToggle) {
     text(label);
     number(plan::packet_count(len, PACKET));
-    text(b" packet, sent as ");
-    data(pid == 2);
+    text(b", sent as ");
+    data(stage.hctsiz / 536_870_912 % 4 == 2);
     text(b", and ");
-    data(after.0);
+    data(plan.toggle.0);
     text(b" is next\n");
 }
 
 fn data(one: bool) {
     if one {
         text(b"DATA1");
-        return;
+    } else {
+        text(b"DATA0");
     }
-    text(b"DATA0");
 }

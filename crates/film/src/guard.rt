@@ -1,24 +1,9 @@
 // Scene 2: document 01's P6, in both modes.
-use crate::play::CELLS;
-use crate::play::NUMBERS;
-use crate::play::play;
 use crate::print::pair;
 use crate::print::text;
-use crate::script::Run;
 
-pub(crate) fn scene() {
-    let mut old = [0u8; CELLS];
-    let mut old_seen = [0u64; NUMBERS];
-    let mut new = [0u8; CELLS];
-    let mut new_seen = [0u64; NUMBERS];
-    play(Run::Compatible, 6, &mut old, &mut old_seen);
-    play(Run::Guarded, 6, &mut new, &mut new_seen);
-    title();
-    side_by_side(&old, &old_seen, &new, &new_seen);
-    moral();
-}
-
-fn title() {
+// The two acts of serving are one row.
+pub(crate) fn scene(cells: &[u8], seen: &[u64]) {
     text(
         b"2. A slot whose result nobody has collected
    Full speed, interval 1 (document 01, P6). Request 1 stands in slots 10 and 11,
@@ -31,18 +16,11 @@ fn title() {
             slots 0 to 31                       slots 0 to 31
 ",
     );
-}
-
-// The two acts of serving are one row.
-fn side_by_side(old: &[u8], old_seen: &[u64], new: &[u8], new_seen: &[u64]) {
-    pair(b"submit      ", old, old_seen, new, new_seen, 0);
-    pair(b"serve       ", old, old_seen, new, new_seen, 2);
-    pair(b"submit      ", old, old_seen, new, new_seen, 3);
-    pair(b"collect     ", old, old_seen, new, new_seen, 4);
-    pair(b"then        ", old, old_seen, new, new_seen, 5);
-}
-
-fn moral() {
+    pair(b"submit      ", cells, seen, 9, 17);
+    pair(b"serve       ", cells, seen, 11, 19);
+    pair(b"submit      ", cells, seen, 12, 20);
+    pair(b"collect     ", cells, seen, 13, 21);
+    pair(b"then        ", cells, seen, 14, 22);
     text(
         b"
    On the left 100 bytes of request 1 are lost, and request 2 is handed out with

@@ -9,14 +9,40 @@ mod print;
 mod script;
 mod step;
 mod submission;
-mod text;
+
+use crate::print::text;
 
 fn main() {
-    text::opening();
-    submission::scene();
-    guard::scene();
-    cut::scene();
+    text(
+        b"The film: a camera's ring and a disk's transfers, played by the proved library on
+a simulated USB host controller. Five scenes, no hardware.
+
+Driver and controller share a ring of slots, one slot a packet. A slot has two
+words. Its address is stored first, then its status, whose top bit hands the slot
+to the controller. One character below is one slot:
+
+  .  free
+  a  address stored, status still 0: the controller does not use it yet
+  *  active, stored by this call
+  A  active, stored by an earlier call
+  s  served by the controller, result not collected yet
+  !  held by two packets: written over before its result was collected
+  ^  in the line below: the cursor, where a next packet would follow
+
+",
+    );
+    let mut cells = [0u8; play::CELLS];
+    let mut seen = [0u64; play::NUMBERS];
+    play::play(&mut cells, &mut seen);
+    submission::scene(&cells, &seen);
+    guard::scene(&cells, &seen);
+    cut::scene(&cells, &seen);
     disk::long_write();
     disk::empty_write();
-    text::closing();
+    text(
+        b"Read next: README.md, what stands where; docs/READING.md, a way through the rules
+and the proofs; include/dwc2_port.h, these calls from C; crates/session/specs, the
+rules that this film keeps, as the prover reads them.
+",
+    );
 }

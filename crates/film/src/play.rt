@@ -1,20 +1,20 @@
-// A run of acts on one session and one ring, and what is seen after each: the cells and some numbers.
+// The acts on one session and one ring, and what is seen after each: the cells and some numbers.
 use crate::cells::first_change;
 use crate::cells::see;
 use crate::cells::word_at;
-use crate::script::Run;
+use crate::script::ACTS;
 use crate::script::act_of;
-use crate::script::camera_of;
 use crate::step::Said;
-use crate::step::open;
+use crate::step::Step;
+use crate::step::opened;
 use crate::step::perform;
-
-const ACTS: u32 = 8;
+use ring::Speed;
+use session::IsoMode;
 
 // 256 cells and six numbers for each act.
-pub(crate) const CELLS: usize = 2048;
+pub(crate) const CELLS: usize = 8192;
 
-pub(crate) const NUMBERS: usize = 48;
+pub(crate) const NUMBERS: usize = 192;
 
 pub(crate) const KIND: usize = 0;
 
@@ -29,26 +29,38 @@ pub(crate) const CHANGED: usize = 4;
 
 pub(crate) const WORD: usize = 5;
 
-// So many acts, at most eight. No row is printed here: one session is there at a time.
-pub(crate) fn play(run: Run, acts: u32, cells: &mut [u8], seen: &mut [u64]) {
+// No row is printed here: one session is there at a time. The first act opens another one.
+pub(crate) fn play(cells: &mut [u8], seen: &mut [u64]) {
     let mut ring = [0u32; 512];
-    let mut session = open(camera_of(run), &mut ring);
+    let mut done = opened(Speed::Full, 1, IsoMode::Compatible, &mut ring);
     let mut i: u32 = 0;
     while i < ACTS {
-        if i >= acts {
-            return;
-        }
         let before = ring;
-        let done = perform(session, act_of(run, i), &mut ring);
-        session = done.session;
-        let said = done.said;
-        see(session, i, &before, &ring, cells);
-        note(seen, i as usize, said, session.head.td_last, &before, &ring);
+        done = perform(done.session, act_of(i), &mut ring);
+        note(done, i, &before, &ring, cells, seen);
         i += 1;
     }
 }
 
 fn note(
+    done: Step,
+    i: u32,
+    before: &[u32; 512],
+    ring: &[u32; 512],
+    cells: &mut [u8],
+    seen: &mut [u64],
+) {
+    let session = done.session;
+    let said = done.said;
+    let act = i as usize;
+    let from = act * 256;
+    numbers(seen, act, said, session.head.td_last, before, ring);
+    if from <= cells.len() {
+        see(session, before, ring, &mut cells[from..]);
+    }
+}
+
+fn numbers(
     seen: &mut [u64],
     act: usize,
     said: Said,
@@ -65,29 +77,18 @@ fn note(
     put(seen, act, WORD, word_at(ring, changed) as u64);
 }
 
+// The remainders bound the place, and change nothing.
 fn put(seen: &mut [u64], act: usize, field: usize, value: u64) {
-    if act >= 8 {
-        return;
-    }
-    if field >= 6 {
-        return;
-    }
-    let at = act * 6 + field;
+    let at = act % 32 * 6 + field % 6;
     if at < seen.len() {
         seen[at] = value;
     }
 }
 
 pub(crate) fn seen_at(seen: &[u64], act: usize, field: usize) -> u64 {
-    if act >= 8 {
-        return 0;
+    let at = act % 32 * 6 + field % 6;
+    if at < seen.len() {
+        return seen[at];
     }
-    if field >= 6 {
-        return 0;
-    }
-    let at = act * 6 + field;
-    if at >= seen.len() {
-        return 0;
-    }
-    seen[at]
+    0
 }

@@ -1,41 +1,22 @@
 // Printing: texts and numbers, rows of cells with the cursor below, and what a call said. A row begins with a label of 12 characters.
-ghost use Prim.Native.Nat.{_≤_};
 use crate::play::BYTES;
 use crate::play::CURSOR;
 use crate::play::KIND;
 use crate::play::NUMBER;
 use crate::play::seen_at;
 use crate::step::ACCEPTED;
-use crate::step::CUT;
 use crate::step::DISCONNECTED;
 use crate::step::DONE;
 use crate::step::NOTHING;
 use crate::step::REFUSED;
 use libc::STDOUT_FILENO;
 
-const SLOTS: usize = 256;
-
-// How many characters a text has, 40 for more.
-pub(crate) fn text(bytes: &[u8]) -> usize
-    ensures { λ r. ⌜ r ≤ 40 ⌝ }
-{
+pub(crate) fn text(bytes: &[u8]) {
     io::write_all(STDOUT_FILENO, bytes);
-    if bytes.len() > 40 {
-        return 40;
-    }
-    bytes.len()
 }
 
-pub(crate) fn number(n: u64) -> usize
-    ensures { λ r. ⌜ r ≤ 20 ⌝ }
-{
-    let mut digits = [0u8; 20];
-    let k = io::decimal(n, &mut digits);
-    io::write_all(STDOUT_FILENO, &digits[..k]);
-    if k > 20 {
-        return 20;
-    }
-    k
+pub(crate) fn number(n: u64) {
+    io::print_decimal(STDOUT_FILENO, n);
 }
 
 pub(crate) fn word(n: u64) {
@@ -62,30 +43,10 @@ fn between(bytes: &[u8], from: usize, to: usize) {
     io::write_all(STDOUT_FILENO, &bytes[from..to]);
 }
 
-// The cells of n slots of an act.
+// The cells of n slots of an act, at most 64. The remainders bound the place, and change nothing.
 pub(crate) fn part(cells: &[u8], act: usize, slot: usize, n: usize) {
-    if act >= 8 {
-        return;
-    }
-    if slot > SLOTS {
-        return;
-    }
-    if n > SLOTS {
-        return;
-    }
-    let from = act * SLOTS + slot;
-    between(cells, from, from + n);
-}
-
-// A place in a row of so many slots; one beyond it counts as the last.
-fn place(cursor: u64, slots: usize) -> usize
-    ensures { λ r. ⌜ r ≤ slots ⌝ }
-{
-    let slots = slots as u64;
-    if cursor > slots {
-        return slots as usize;
-    }
-    cursor as usize
+    let from = act % 32 * 256 + slot % 256;
+    between(cells, from, from + n % 65);
 }
 
 // The first 64 slots, and the cursor.
@@ -93,78 +54,63 @@ pub(crate) fn row(label: &[u8], cells: &[u8], seen: &[u64], act: usize) {
     text(label);
     part(cells, act, 0, 64);
     text(b"\n");
-    let cursor = place(seen_at(seen, act, CURSOR), 64);
-    spaces(0, 12 + cursor);
+    let cursor = seen_at(seen, act, CURSOR) % 64;
+    spaces(0, 12 + cursor as usize);
     text(b"^\n");
 }
 
-// The first 32 slots of two runs, side by side, and what was said in each.
-pub(crate) fn pair(
-    label: &[u8],
-    left: &[u8],
-    left_seen: &[u64],
-    right: &[u8],
-    right_seen: &[u64],
-    act: usize,
-) {
+// The first 32 slots after two acts, side by side, and what was said in each.
+pub(crate) fn pair(label: &[u8], cells: &[u8], seen: &[u64], left: usize, right: usize) {
     text(label);
-    part(left, act, 0, 32);
+    part(cells, left, 0, 32);
     text(b"    ");
-    part(right, act, 0, 32);
+    part(cells, right, 0, 32);
     text(b"\n");
-    cursors(
-        seen_at(left_seen, act, CURSOR),
-        seen_at(right_seen, act, CURSOR),
-    );
-    if seen_at(left_seen, act, KIND) == NOTHING {
-        return;
+    let cursor = (seen_at(seen, left, CURSOR) % 32) as usize;
+    spaces(0, 12 + cursor);
+    text(b"^");
+    spaces(cursor, 35 + (seen_at(seen, right, CURSOR) % 32) as usize);
+    text(b"^\n");
+    if seen_at(seen, left, KIND) != NOTHING {
+        answers(seen, left, right);
     }
-    spaces(0, 12);
-    let k = answer(left_seen, act);
-    spaces(k, 36);
-    answer(right_seen, act);
-    text(b"\n");
 }
 
-fn cursors(left: u64, right: u64) {
-    let left = place(left, 31);
-    let right = place(right, 31);
-    spaces(0, 12 + left);
-    text(b"^");
-    spaces(left + 1, 36 + right);
-    text(b"^\n");
+fn answers(seen: &[u64], left: usize, right: usize) {
+    text(b"            left: ");
+    answer(seen, left);
+    text(b"; right: ");
+    answer(seen, right);
+    text(b"\n");
 }
 
 pub(crate) fn answer_line(seen: &[u64], act: usize) {
-    spaces(0, 12);
+    text(b"            ");
     answer(seen, act);
     text(b"\n");
 }
 
-// What was said; its length.
-fn answer(seen: &[u64], act: usize) -> usize {
+fn answer(seen: &[u64], act: usize) {
     let kind = seen_at(seen, act, KIND);
-    let n = seen_at(seen, act, NUMBER);
-    if kind == ACCEPTED {
-        return text(b"accepted as request ") + number(n);
-    }
-    if kind == REFUSED {
-        return text(b"refused with ") + number(n);
-    }
-    if kind == CUT {
-        return text(b"cut");
-    }
+    before_number(kind);
+    number(seen_at(seen, act, NUMBER));
     if kind == DONE {
-        return text(b"request ") + number(n) + done(seen_at(seen, act, BYTES));
+        text(b" done, ");
+        number(seen_at(seen, act, BYTES));
+        text(b" bytes");
     }
     if kind == DISCONNECTED {
-        return text(b"request ") + number(n) + text(b" disconnected");
+        text(b" disconnected");
     }
-    text(b"request ") + number(n) + text(b" not done")
 }
 
-fn done(bytes: u64) -> usize
-    ensures { λ r. ⌜ r ≤ 100 ⌝ }
-{
-    text(b" done, ") + number(bytes) + text(b" bytes")
+fn before_number(kind: u64) {
+    if kind == ACCEPTED {
+        text(b"accepted as ");
+    }
+    if kind == REFUSED {
+        text(b"refused with ");
+        return;
+    }
+    text(b"request ");
 }

@@ -1,97 +1,64 @@
-// What is played: for each run the camera that is opened, and the acts on its ring.
+// What is played on the ring: four runs of eight acts, one behind the other.
 use ring::Speed;
 use session::IsoMode;
 
-pub(crate) enum Run {
-    WordByWord,
-    Compatible,
-    Guarded,
-    Cut,
-}
-
-pub(crate) struct Camera {
-    pub speed: Speed,
-    pub interval: u16,
-    pub mode: IsoMode,
-}
-
-// Submit packets at a frame reading, so many, with so many words that may be stored; the controller serves a slot and leaves a status
-// word; collect a request; recover.
+// Open a session; submit packets at a frame reading, so many, with so many words that may be stored; the controller serves a slot and
+// leaves a status word; collect a request; recover.
 pub(crate) enum Act {
+    Open(Speed, u16, IsoMode),
     Submit(u32, u32, u32),
     Serve(u16, u32),
     Collect(u64),
     Recover,
 }
 
+pub(crate) const ACTS: u32 = 32;
+
 // Every word may be stored.
 const ALL: u32 = 2048;
 
-pub(crate) fn camera_of(run: Run) -> Camera {
-    match run {
-        Run::WordByWord => Camera {
-            speed: Speed::High,
-            interval: 8,
-            mode: IsoMode::Compatible,
-        },
-        Run::Compatible => full_speed(IsoMode::Compatible),
-        Run::Guarded => full_speed(IsoMode::Guarded),
-        Run::Cut => full_speed(IsoMode::Guarded),
+pub(crate) fn act_of(i: u32) -> Act {
+    if i < 8 {
+        return word_by_word(i);
     }
+    if i < 24 {
+        return overtaken(i);
+    }
+    cut_short(i)
 }
 
-fn full_speed(mode: IsoMode) -> Camera {
-    Camera {
-        speed: Speed::Full,
-        interval: 1,
-        mode,
-    }
-}
-
-pub(crate) fn act_of(run: Run, i: u32) -> Act {
-    match run {
-        Run::WordByWord => word_by_word(i),
-        Run::Compatible => compatible(i),
-        Run::Guarded => guarded(i),
-        Run::Cut => cut(i),
-    }
-}
-
-// P8, with as many words as the act's number.
+// P8, with one word more each time.
 fn word_by_word(i: u32) -> Act {
-    Act::Submit(16, 3, i)
+    if i == 0 {
+        return Act::Open(Speed::High, 8, IsoMode::Compatible);
+    }
+    Act::Submit(16, 3, i - 1)
 }
 
-// P6. Of slot 10's 192 bytes 92 remain.
-fn compatible(i: u32) -> Act {
+// P6, in both modes. Of slot 10's 192 bytes 92 remain.
+fn overtaken(i: u32) -> Act {
     match i {
-        0 => Act::Submit(8, 2, ALL),
-        1 => Act::Serve(10, 92),
-        2 => Act::Serve(11, 0),
-        3 => Act::Submit(71, 2, ALL),
-        4 => Act::Collect(1),
-        _ => Act::Collect(2),
+        8 => Act::Open(Speed::Full, 1, IsoMode::Compatible),
+        16 => Act::Open(Speed::Full, 1, IsoMode::Guarded),
+        9 | 17 => Act::Submit(8, 2, ALL),
+        10 | 18 => Act::Serve(10, 92),
+        11 | 19 => Act::Serve(11, 0),
+        12 | 20 => Act::Submit(71, 2, ALL),
+        13 | 21 => Act::Collect(1),
+        14 => Act::Collect(2),
+        22 => Act::Submit(71, 2, ALL),
+        _ => Act::Recover,
     }
 }
 
-fn guarded(i: u32) -> Act {
+fn cut_short(i: u32) -> Act {
     match i {
-        0 => Act::Submit(8, 2, ALL),
-        1 => Act::Serve(10, 92),
-        2 => Act::Serve(11, 0),
-        3 => Act::Submit(71, 2, ALL),
-        4 => Act::Collect(1),
-        _ => Act::Submit(71, 2, ALL),
-    }
-}
-
-fn cut(i: u32) -> Act {
-    match i {
-        0 => Act::Submit(8, 3, ALL),
-        1 => Act::Serve(10, 0),
-        2 => Act::Submit(8, 4, 5),
-        3 => Act::Recover,
-        4 => Act::Collect(1),
+        24 => Act::Open(Speed::Full, 1, IsoMode::Guarded),
+        25 => Act::Submit(8, 3, ALL),
+        26 => Act::Serve(10, 0),
+        27 => Act::Submit(8, 4, 5),
+        28 => Act::Recover,
+        29 => Act::Collect(1),
         _ => Act::Submit(8, 4, ALL),
     }
 }

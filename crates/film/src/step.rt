@@ -1,10 +1,11 @@
 // The acts on the session. Each gives back the session, and what the call said as numbers, so that nothing is printed where a session
 // is.
 use crate::script::Act;
-use crate::script::Camera;
+use ring::Speed;
 use session::IsoChannelState;
 use session::IsoConfig;
 use session::IsoEvent;
+use session::IsoMode;
 use session::IsoOutcome;
 use session::IsoTransfer;
 use session::ReclaimAnswer;
@@ -40,6 +41,7 @@ pub(crate) struct Step {
 
 pub(crate) fn perform(session: IsoChannelState, act: Act, ring: &mut [u32]) -> Step {
     match act {
+        Act::Open(speed, interval, mode) => opened(speed, interval, mode, ring),
         Act::Submit(reading, packets, words) => submitted(session, reading, packets, words, ring),
         Act::Serve(slot, status) => served(session, slot, status, ring),
         Act::Collect(id) => collected(session, id, ring),
@@ -56,13 +58,11 @@ fn silent() -> Said {
 }
 
 // IN, packets of 192 bytes.
-pub(crate) fn open(camera: Camera, ring: &mut [u32]) -> IsoChannelState {
-    let speed = camera.speed;
-    let mode = camera.mode;
+pub(crate) fn opened(speed: Speed, interval: u16, mode: IsoMode, ring: &mut [u32]) -> Step {
     let config = IsoConfig {
         speed,
         direction: Direction::In,
-        interval: camera.interval,
+        interval,
         endpoint: 1,
         device: 1,
         max_packet_size: 192,
@@ -70,7 +70,9 @@ pub(crate) fn open(camera: Camera, ring: &mut [u32]) -> IsoChannelState {
         mode,
     };
     let opened = IsoChannelState::open(config, ring);
-    opened.session
+    let session = opened.session;
+    let said = silent();
+    Step { session, said }
 }
 
 fn submitted(

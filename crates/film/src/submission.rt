@@ -1,30 +1,16 @@
 // Scene 1: document 01's P8, word by word.
-use crate::play::CELLS;
 use crate::play::CHANGED;
 use crate::play::KIND;
-use crate::play::NUMBERS;
 use crate::play::WORD;
-use crate::play::play;
 use crate::play::seen_at;
 use crate::print::number;
 use crate::print::part;
 use crate::print::row;
 use crate::print::text;
 use crate::print::word;
-use crate::script::Run;
-use crate::step::ACCEPTED;
 use crate::step::CUT;
 
-pub(crate) fn scene() {
-    let mut cells = [0u8; CELLS];
-    let mut seen = [0u64; NUMBERS];
-    play(Run::WordByWord, 7, &mut cells, &mut seen);
-    title();
-    rows(&cells, &seen);
-    whole(&cells, &seen);
-}
-
-fn title() {
+pub(crate) fn scene(cells: &[u8], seen: &[u64]) {
     text(
         b"1. A submission, word by word
    High speed, interval 8, three packets of 192 bytes at address 0x1000 (document
@@ -35,9 +21,6 @@ fn title() {
 words       slots 20 to 51                    last word stored
 ",
     );
-}
-
-fn rows(cells: &[u8], seen: &[u64]) {
     stored(0, cells, seen);
     stored(1, cells, seen);
     stored(2, cells, seen);
@@ -45,36 +28,29 @@ fn rows(cells: &[u8], seen: &[u64]) {
     stored(4, cells, seen);
     stored(5, cells, seen);
     stored(6, cells, seen);
+    whole(cells, seen);
 }
 
-// The ring after the call that might store so many words.
+// The ring after the call that might store so many words. The act before it opened the session.
 fn stored(words: usize, cells: &[u8], seen: &[u64]) {
+    let act = words % 7 + 1;
     number(words as u64);
-    outcome(seen_at(seen, words, KIND));
-    part(cells, words, 20, 32);
-    text(b"  ");
-    last_word(seen_at(seen, words, CHANGED), seen_at(seen, words, WORD));
-}
-
-fn outcome(kind: u64) {
-    if kind == CUT {
+    if seen_at(seen, act, KIND) == CUT {
         text(b" cut       ");
-        return;
-    }
-    if kind == ACCEPTED {
+    } else {
         text(b" accepted  ");
-        return;
     }
-    text(b" refused   ");
+    part(cells, act, 20, 32);
+    last_word(seen_at(seen, act, CHANGED), seen_at(seen, act, WORD));
 }
 
 // Of a slot's two words the second is its address.
 fn last_word(changed: u64, value: u64) {
     if changed >= 512 {
-        text(b"none\n");
+        text(b"  none\n");
         return;
     }
-    text(b"slot ");
+    text(b"  slot ");
     number(changed / 2);
     if changed % 2 == 1 {
         text(b", address ");
@@ -87,12 +63,12 @@ fn last_word(changed: u64, value: u64) {
 
 fn whole(cells: &[u8], seen: &[u64]) {
     text(b"\n   The whole ring of 256 slots after it:\n\n");
-    row(b"slots 0     ", cells, seen, 6);
+    row(b"slots 0     ", cells, seen, 7);
     text(b"slots 64    ");
-    part(cells, 6, 64, 64);
+    part(cells, 7, 64, 64);
     text(b"\nslots 128   ");
-    part(cells, 6, 128, 64);
+    part(cells, 7, 128, 64);
     text(b"\nslots 192   ");
-    part(cells, 6, 192, 64);
+    part(cells, 7, 192, 64);
     text(b"\n\n");
 }
