@@ -1,11 +1,8 @@
 // Scenes 4 and 5: a disk's transfers, packets of 512.
-use crate::print::number;
-use crate::print::text;
-use crate::print::word;
+use crate::print::say;
 use plan::DataKind;
 use plan::DataRequest;
 use plan::DataToggle;
-use plan::Dwc2DataPlan;
 use plan::Dwc2TransferStage;
 use ring::Speed;
 use words::Direction;
@@ -29,7 +26,7 @@ fn request(len: u64, toggle: DataToggle) -> DataRequest {
 }
 
 pub(crate) fn long_write() {
-    text(
+    say(
         b"4. A long write in two stages
    33423361 bytes to a disk, packets of 512, buffer at 0x10000000 (document 01,
    P7). A stage is at most 256 descriptors, and one of them holds 130560 bytes: the
@@ -38,54 +35,74 @@ pub(crate) fn long_write() {
    address is the buffer's plus all lengths before it.
 
 ",
+        &[],
     );
     let mut array = [0u32; 2048];
     let plan = plan::data_stages(request(33_423_361, DataToggle::data0()), &mut array);
     let stages = plan.stages;
-    stage(b"stage 1     bytes ", stages[0], &array);
-    stage(b"stage 2     bytes ", stages[1], &array);
-    behind(stages[0], stages[1]);
+    stage(
+        b"stage 1     bytes #, descriptors #
+  first     address 0x@  status 0x@
+  last      address 0x@  status 0x@
+",
+        stages[0],
+        &array,
+    );
+    stage(
+        b"stage 2     bytes #, descriptors #
+  first     address 0x@  status 0x@
+
+",
+        stages[1],
+        &array,
+    );
+    behind(stages[0].dma_addr, stages[1].dma_addr);
 }
 
-// A plan has at most 1,024 descriptors, so the remainders change nothing.
-fn stage(label: &[u8], stage: Dwc2TransferStage, array: &[u32; 2048]) {
-    let base = stage.desc_base % 1024;
-    let more = stage.descs % 1025;
-    text(label);
-    number(stage.len as u64);
-    text(b", descriptors ");
-    number(more as u64);
-    text(b"\n  first     ");
-    descriptor(array, base);
-    if more > 1 {
-        text(b"  last      ");
-        descriptor(array, base + more - 1);
+fn stage(text: &[u8], stage: Dwc2TransferStage, array: &[u32; 2048]) {
+    let first = stage.desc_base % 1024;
+    let last = last_of(first, stage.descs);
+    say(
+        text,
+        &[
+            stage.len as u64,
+            stage.descs as u64,
+            word_of(array, first, 1),
+            word_of(array, first, 0),
+            word_of(array, last, 1),
+            word_of(array, last, 0),
+        ],
+    );
+}
+
+fn last_of(first: u32, descs: u32) -> u32 {
+    if descs == 0 {
+        return first;
     }
+    first % 1024 + (descs - 1) % 1024
 }
 
-fn descriptor(array: &[u32; 2048], desc: u32) {
-    let at = 2 * (desc % 1024) as usize;
-    text(b"address ");
-    word(wide(array[at + 1]));
-    text(b"  status ");
-    word(wide(array[at]));
-    text(b"\n");
+// A descriptor's status, or its address. A plan has at most 1,024 descriptors: the remainders bound the place, and change nothing.
+fn word_of(array: &[u32; 2048], desc: u32, which: usize) -> u64 {
+    let at = (desc % 1024) as usize * 2 + which % 2;
+    wide(array[at])
 }
 
 fn wide(x: u32) -> u64 {
     x as u64
 }
 
-fn behind(first: Dwc2TransferStage, second: Dwc2TransferStage) {
-    if first.dma_addr <= second.dma_addr {
-        text(b"\n   Stage 2 starts ");
-        number((second.dma_addr - first.dma_addr) as u64);
-        text(b" bytes behind stage 1.\n\n");
+fn behind(first: u32, second: u32) {
+    if first <= second {
+        say(
+            b"   Stage 2 starts # bytes behind stage 1.\n\n",
+            &[(second - first) as u64],
+        );
     }
 }
 
 pub(crate) fn empty_write() {
-    text(
+    say(
         b"5. An empty transfer is one packet
    A write of 0 bytes to a disk and then one of 512, packets of 512. Each packet
    flips the toggle, by which the disk tells a new packet from a repeated one.
@@ -94,32 +111,40 @@ pub(crate) fn empty_write() {
    backup hung.
 
 ",
+        &[],
     );
+    let after = sent(
+        b"0 bytes     packets #, sent as DATA#, and DATA# is next\n",
+        0,
+        DataToggle::data0(),
+    );
+    sent(
+        b"512 bytes   packets #, sent as DATA#, and DATA# is next\n\n",
+        512,
+        after,
+    );
+}
+
+// The PID stands in HCTSIZ, bits 29 and 30: DATA0 is 0, and DATA1 is 2.
+fn sent(text: &[u8], len: u64, toggle: DataToggle) -> DataToggle {
     let mut array = [0u32; 2048];
-    let empty = plan::data_stages(request(0, DataToggle::data0()), &mut array);
-    sent(b"0 bytes     packets ", 0, empty);
-    let next = plan::data_stages(request(512, empty.toggle), &mut array);
-    sent(b"512 bytes   packets ", 512, next);
-    text(b"\n");
-}
-
-// The PID stands in HCTSIZ, bits 29 and 30, and DATA1 is 2.
-fn sent(label: &[u8], len: u64, plan: Dwc2DataPlan) {
+    let plan = plan::data_stages(request(len, toggle), &mut array);
     let stages = plan.stages;
-    let stage = stages[0];
-    text(label);
-    number(plan::packet_count(len, PACKET));
-    text(b", sent as ");
-    data(stage.hctsiz / 536_870_912 % 4 == 2);
-    text(b", and ");
-    data(plan.toggle.0);
-    text(b" is next\n");
+    let pid = stages[0].hctsiz / 536_870_912 % 4;
+    say(
+        text,
+        &[
+            plan::packet_count(len, PACKET),
+            pid as u64 / 2,
+            bit(plan.toggle.0),
+        ],
+    );
+    plan.toggle
 }
 
-fn data(one: bool) {
-    if one {
-        text(b"DATA1");
-    } else {
-        text(b"DATA0");
+fn bit(yes: bool) -> u64 {
+    if yes {
+        return 1;
     }
+    0
 }

@@ -4,16 +4,17 @@ mod cells;
 mod cut;
 mod disk;
 mod guard;
+mod page;
 mod play;
 mod print;
 mod script;
 mod step;
 mod submission;
 
-use crate::print::text;
+use crate::print::say;
 
 fn main() {
-    text(
+    say(
         b"The film: a camera's ring and a disk's transfers, played by the proved library on
 a simulated USB host controller. Five scenes, no hardware.
 
@@ -30,6 +31,7 @@ to the controller. One character below is one slot:
   ^  in the line below: the cursor, where a next packet would follow
 
 ",
+        &[],
     );
     let mut cells = [0u8; play::CELLS];
     let mut seen = [0u64; play::NUMBERS];
@@ -39,10 +41,11 @@ to the controller. One character below is one slot:
     cut::scene(&cells, &seen);
     disk::long_write();
     disk::empty_write();
-    text(
+    say(
         b"Read next: README.md, what stands where; docs/READING.md, a way through the rules
 and the proofs; include/dwc2_port.h, these calls from C; crates/session/specs, the
 rules that this film keeps, as the prover reads them.
 ",
+        &[],
     );
 }
