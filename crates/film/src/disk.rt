@@ -1,8 +1,10 @@
 // Scenes 4 and 5: a disk's transfers, packets of 512.
 use crate::print::say;
+use crate::print::text;
 use plan::DataKind;
 use plan::DataRequest;
 use plan::DataToggle;
+use plan::Dwc2DataPlan;
 use plan::Dwc2TransferStage;
 use ring::Speed;
 use words::Direction;
@@ -26,7 +28,7 @@ fn request(len: u64, toggle: DataToggle) -> DataRequest {
 }
 
 pub(crate) fn long_write() {
-    say(
+    text(
         b"4. A long write in two stages
    33423361 bytes to a disk, packets of 512, buffer at 0x10000000 (document 01,
    P7). A stage is at most 256 descriptors, and one of them holds 130560 bytes: the
@@ -35,35 +37,40 @@ pub(crate) fn long_write() {
    address is the buffer's plus all lengths before it.
 
 ",
-        &[],
     );
     let mut array = [0u32; 2048];
     let plan = plan::data_stages(request(33_423_361, DataToggle::data0()), &mut array);
-    let stages = plan.stages;
+    let made = plan.stages;
+    stages(made, &array);
+}
+
+fn stages(stages: [Dwc2TransferStage; 4], array: &[u32; 2048]) {
+    let first = stages[0];
+    let second = stages[1];
     stage(
         b"stage 1     bytes #, descriptors #
   first     address 0x@  status 0x@
   last      address 0x@  status 0x@
 ",
-        stages[0],
-        &array,
+        first,
+        array,
     );
     stage(
         b"stage 2     bytes #, descriptors #
   first     address 0x@  status 0x@
 
 ",
-        stages[1],
-        &array,
+        second,
+        array,
     );
-    behind(stages[0].dma_addr, stages[1].dma_addr);
+    behind(first.dma_addr, second.dma_addr);
 }
 
-fn stage(text: &[u8], stage: Dwc2TransferStage, array: &[u32; 2048]) {
+fn stage(marked: &[u8], stage: Dwc2TransferStage, array: &[u32; 2048]) {
     let first = stage.desc_base % 1024;
     let last = last_of(first, stage.descs);
     say(
-        text,
+        marked,
         &[
             stage.len as u64,
             stage.descs as u64,
@@ -102,7 +109,7 @@ fn behind(first: u32, second: u32) {
 }
 
 pub(crate) fn empty_write() {
-    say(
+    text(
         b"5. An empty transfer is one packet
    A write of 0 bytes to a disk and then one of 512, packets of 512. Each packet
    flips the toggle, by which the disk tells a new packet from a repeated one.
@@ -111,7 +118,6 @@ pub(crate) fn empty_write() {
    backup hung.
 
 ",
-        &[],
     );
     let after = sent(
         b"0 bytes     packets #, sent as DATA#, and DATA# is next\n",
@@ -125,21 +131,23 @@ pub(crate) fn empty_write() {
     );
 }
 
-// The PID stands in HCTSIZ, bits 29 and 30: DATA0 is 0, and DATA1 is 2.
-fn sent(text: &[u8], len: u64, toggle: DataToggle) -> DataToggle {
+// The toggle behind it.
+fn sent(marked: &[u8], len: u64, toggle: DataToggle) -> DataToggle {
     let mut array = [0u32; 2048];
     let plan = plan::data_stages(request(len, toggle), &mut array);
-    let stages = plan.stages;
-    let pid = stages[0].hctsiz / 536_870_912 % 4;
+    let after = plan.toggle;
     say(
-        text,
-        &[
-            plan::packet_count(len, PACKET),
-            pid as u64 / 2,
-            bit(plan.toggle.0),
-        ],
+        marked,
+        &[plan::packet_count(len, PACKET), pid(plan), bit(after.0)],
     );
-    plan.toggle
+    after
+}
+
+// HCTSIZ, bits 29 and 30: DATA0 is 0, and DATA1 is 2.
+fn pid(plan: Dwc2DataPlan) -> u64 {
+    let stages = plan.stages;
+    let stage = stages[0];
+    stage.hctsiz as u64 / 1_073_741_824 % 2
 }
 
 fn bit(yes: bool) -> u64 {

@@ -11,10 +11,10 @@ mod script;
 mod step;
 mod submission;
 
-use crate::print::say;
+use crate::print::text;
 
 fn main() {
-    say(
+    text(
         b"The film: a camera's ring and a disk's transfers, played by the proved library on
 a simulated USB host controller. Five scenes, no hardware.
 
@@ -31,7 +31,6 @@ to the controller. One character below is one slot:
   ^  in the line below: the cursor, where a next packet would follow
 
 ",
-        &[],
     );
     let mut cells = [0u8; play::CELLS];
     let mut seen = [0u64; play::NUMBERS];
@@ -41,11 +40,10 @@ to the controller. One character below is one slot:
     cut::scene(&cells, &seen);
     disk::long_write();
     disk::empty_write();
-    say(
+    text(
         b"Read next: README.md, what stands where; docs/READING.md, a way through the rules
 and the proofs; include/dwc2_port.h, these calls from C; crates/session/specs, the
 rules that this film keeps, as the prover reads them.
 ",
-        &[],
     );
 }

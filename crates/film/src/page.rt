@@ -8,6 +8,7 @@ use crate::play::WORD;
 use crate::play::seen_at;
 use crate::print::between;
 use crate::print::say;
+use crate::print::text;
 use crate::step::ACCEPTED;
 use crate::step::CUT;
 use crate::step::DISCONNECTED;
@@ -17,12 +18,12 @@ use crate::step::REFUSED;
 // The page begins before an act: `>` goes to the next act, `_` to the next 64 slots of its ring. `$` prints 64 cells, `=` 32 from slot
 // 20 on, and `%` the cursor below; `&` what the call said, `~` that in one word, `?` the word that it stored. Of two runs side by side
 // `|` prints 32 cells each and `+` the cursors; `]` is what was said in the right one.
-pub(crate) fn page(text: &[u8], act: usize, cells: &[u8], seen: &[u64]) {
+pub(crate) fn page(marked: &[u8], act: usize, cells: &[u8], seen: &[u64]) {
     let mut row = act % 32 * 4;
     let mut i: usize = 0;
-    while i < text.len() {
-        row = moved(text[i], row);
-        mark(text[i], row, cells, seen);
+    while i < marked.len() {
+        row = moved(marked[i], row);
+        mark(marked[i], row, cells, seen);
         i += 1;
     }
 }
@@ -54,7 +55,7 @@ fn said(byte: u8, act: usize, seen: &[u64]) {
         b']' => answer(seen, act % 32 + 8),
         b'~' => outcome(seen_at(seen, act, KIND)),
         b'?' => last_word(seen_at(seen, act, CHANGED), seen_at(seen, act, WORD)),
-        _ => say(&[byte], &[]),
+        _ => text(&[byte]),
     }
 }
 
@@ -81,7 +82,7 @@ fn spaces(from: usize, to: usize) {
 
 fn cursor(seen: &[u64], act: usize) {
     spaces(0, (seen_at(seen, act, CURSOR) % 64) as usize);
-    say(b"^", &[]);
+    text(b"^");
 }
 
 fn cursors(seen: &[u64], act: usize) {
@@ -100,30 +101,34 @@ fn answer(seen: &[u64], act: usize) {
     if kind == REFUSED {
         return say(b"refused with #", &numbers);
     }
+    ended(kind, &numbers)
+}
+
+fn ended(kind: u64, numbers: &[u64]) {
     if kind == DONE {
-        return say(b"request # done, # bytes", &numbers);
+        return say(b"request # done, # bytes", numbers);
     }
     if kind == DISCONNECTED {
-        return say(b"request # disconnected", &numbers);
+        return say(b"request # disconnected", numbers);
     }
-    say(b"request # not done", &numbers)
+    say(b"request # not done", numbers)
 }
 
 fn outcome(kind: u64) {
     if kind == CUT {
-        return say(b"cut       ", &[]);
+        return text(b"cut       ");
     }
     if kind == ACCEPTED {
-        return say(b"accepted  ", &[]);
+        return text(b"accepted  ");
     }
-    say(b"refused   ", &[])
+    text(b"refused   ")
 }
 
 // Of a slot's two words the second is its address.
 fn last_word(changed: u64, value: u64) {
     let numbers = [changed / 2, value];
     if changed >= 512 {
-        return say(b"none", &[]);
+        return text(b"none");
     }
     if changed % 2 == 1 {
         return say(b"slot #, address 0x@", &numbers);

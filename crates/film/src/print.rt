@@ -1,12 +1,16 @@
-// Printing a text with numbers in it.
+// Printing a text, and a text with numbers in it.
 use libc::STDOUT_FILENO;
 
+pub(crate) fn text(bytes: &[u8]) {
+    io::write_all(STDOUT_FILENO, bytes);
+}
+
 // At each `#` stands the next of the numbers, at each `@` the next one as a word.
-pub(crate) fn say(text: &[u8], numbers: &[u64]) {
+pub(crate) fn say(bytes: &[u8], numbers: &[u64]) {
     let mut next: usize = 0;
     let mut i: usize = 0;
-    while i < text.len() {
-        next = put(text[i], numbers, next);
+    while i < bytes.len() {
+        next = put(bytes[i], numbers, next);
         i += 1;
     }
 }

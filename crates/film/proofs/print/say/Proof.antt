@@ -7,10 +7,10 @@ use Rattle.film.proofs.print.say.Statement.{statement}
 use Rattle.film.proofs.print.say.Tie as tie
 
 abbrev Inv-loop : tie.InvT-loop
-Inv-loop text numbers next₀ i₀ next i = i ≤ length text
+Inv-loop bytes numbers next₀ i₀ next i = i ≤ length bytes
 
 abbrev μ-loop : tie.MeasureT-loop
-μ-loop text numbers next₀ i₀ next i = length text - i
+μ-loop bytes numbers next₀ i₀ next i = length bytes - i
 
 loop-holds : tie.Need-loop-holds Inv-loop μ-loop
 loop-holds c = omega arith
