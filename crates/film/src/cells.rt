@@ -46,7 +46,7 @@ fn wide(x: u16) -> u32
     x as u32
 }
 
-// Counts, for each slot, the plans that hold it: 0, 1, or 2 for more.
+// Counts, for each slot, the plans that hold it.
 fn hold(plans: [IsoPacketPlan; 1024], from: u32, to: u32, cells: &mut [u8]) {
     let end = to as usize;
     let mut i = from as usize;
@@ -62,15 +62,8 @@ fn hold(plans: [IsoPacketPlan; 1024], from: u32, to: u32, cells: &mut [u8]) {
 fn hold_slot(cells: &mut [u8], slot: u16) {
     let at = slot as usize;
     if at < cells.len() {
-        cells[at] = one_more(cells[at]);
+        cells[at] = cells[at] % 128 + 1;
     }
-}
-
-fn one_more(held: u8) -> u8 {
-    if held == 0 {
-        return 1;
-    }
-    2
 }
 
 // Each slot's character in the place of its count.
@@ -102,11 +95,14 @@ pub(crate) fn word_at(words: &[u32; 512], at: usize) -> u32 {
 }
 
 fn cell(held: u8, old: u32, status: u32, addr: u32) -> u8 {
-    if held == 2 {
+    if held >= 2 {
         return b'!';
     }
     if status >= ACTIVE {
-        return active_cell(old == status);
+        if old == status {
+            return b'A';
+        }
+        return b'*';
     }
     if held == 1 {
         return b's';
@@ -115,13 +111,6 @@ fn cell(held: u8, old: u32, status: u32, addr: u32) -> u8 {
         return b'.';
     }
     b'a'
-}
-
-fn active_cell(same: bool) -> u8 {
-    if same {
-        return b'A';
-    }
-    b'*'
 }
 
 // The first word that differs, the number of words where none does.

@@ -12,7 +12,7 @@ pub(crate) fn scene(cells: &[u8], seen: &[u64]) {
 
 >>before      $
             %
->cut         $
+>~  $
             %
 >recovered   $
             %

@@ -15,8 +15,10 @@ use crate::print::text;
 
 fn main() {
     text(
-        b"The film: a camera's ring and a disk's transfers, played by the proved library on
-a simulated USB host controller. Five scenes, no hardware.
+        b"The film: a camera's ring and a disk's transfers on a simulated USB host
+controller, played by the library. It is proved against document 01, the paper of
+rules. Three earlier drivers failed in the field; the scenes say how, and why it
+cannot happen here.
 
 Driver and controller share a ring of slots, one slot a packet. A slot has two
 words. Its address is stored first, then its status, whose top bit hands the slot

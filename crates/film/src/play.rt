@@ -50,13 +50,18 @@ fn note(
     cells: &mut [u8],
     seen: &mut [u64],
 ) {
-    let session = done.session;
-    let said = done.said;
     let act = i as usize;
     let from = act * 256;
-    numbers(seen, act, said, session.head.td_last, before, ring);
+    numbers(
+        seen,
+        act,
+        done.said,
+        done.session.head.td_last,
+        before,
+        ring,
+    );
     if from <= cells.len() {
-        see(session, before, ring, &mut cells[from..]);
+        see(done.session, before, ring, &mut cells[from..]);
     }
 }
 

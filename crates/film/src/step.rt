@@ -49,13 +49,11 @@ pub(crate) fn perform(session: IsoChannelState, act: Act, ring: &mut [u32]) -> S
     }
 }
 
-fn silent() -> Said {
-    Said {
-        kind: NOTHING,
-        number: 0,
-        bytes: 0,
-    }
-}
+const SILENT: Said = Said {
+    kind: NOTHING,
+    number: 0,
+    bytes: 0,
+};
 
 // IN, packets of 192 bytes.
 pub(crate) fn opened(speed: Speed, interval: u16, mode: IsoMode, ring: &mut [u32]) -> Step {
@@ -71,8 +69,10 @@ pub(crate) fn opened(speed: Speed, interval: u16, mode: IsoMode, ring: &mut [u32
     };
     let opened = IsoChannelState::open(config, ring);
     let session = opened.session;
-    let said = silent();
-    Step { session, said }
+    Step {
+        session,
+        said: SILENT,
+    }
 }
 
 fn submitted(
@@ -144,8 +144,10 @@ fn submit_said(answer: SubmitAnswer) -> Said {
 // The controller's store into a status word.
 fn served(session: IsoChannelState, slot: u16, status: u32, ring: &mut [u32]) -> Step {
     store(ring, 2 * slot as usize, status);
-    let said = silent();
-    Step { session, said }
+    Step {
+        session,
+        said: SILENT,
+    }
 }
 
 fn store(ring: &mut [u32], at: usize, word: u32) {
@@ -202,6 +204,8 @@ fn outcome_kind(outcome: IsoOutcome) -> u64 {
 fn recovered(session: IsoChannelState, ring: &mut [u32]) -> Step {
     let done = session.recover(ring);
     let session = done.session;
-    let said = silent();
-    Step { session, said }
+    Step {
+        session,
+        said: SILENT,
+    }
 }
