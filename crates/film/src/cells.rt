@@ -9,20 +9,25 @@ const SLOTS: usize = 256;
 // Status bit 31.
 const ACTIVE: u32 = 2_147_483_648;
 
-// The cells of an act.
+// The cells of act i, behind those of the acts before it.
 pub(crate) fn see(
     session: IsoChannelState,
+    i: u32,
     before: &[u32; 512],
     ring: &[u32; 512],
     cells: &mut [u8],
 ) {
+    let from = i as usize * SLOTS;
+    if from > cells.len() {
+        return;
+    }
     let head = session.head;
     let requests = session.requests;
     let plans = session.plans;
     let oldest = packets_until(requests, head.done);
     let end = packets_until(requests, head.count);
-    hold(plans, oldest, end, cells);
-    draw(before, ring, cells);
+    hold(plans, oldest, end, &mut cells[from..]);
+    draw(before, ring, &mut cells[from..]);
 }
 
 // The packets of the first n requests.

@@ -7,6 +7,7 @@ use plan::DataToggle;
 use plan::Dwc2DataPlan;
 use plan::Dwc2TransferStage;
 use ring::Speed;
+use std::num::wrapping_sub_u32;
 use words::Direction;
 
 const PACKET: u16 = 512;
@@ -63,7 +64,11 @@ fn stages(stages: [Dwc2TransferStage; 4], array: &[u32; 2048]) {
         second,
         array,
     );
-    behind(first.dma_addr, second.dma_addr);
+    let between = wrapping_sub_u32(second.dma_addr, first.dma_addr);
+    say(
+        b"   Stage 2 starts # bytes behind stage 1.\n\n",
+        &[between as u64],
+    );
 }
 
 fn stage(marked: &[u8], stage: Dwc2TransferStage, array: &[u32; 2048]) {
@@ -97,15 +102,6 @@ fn word_of(array: &[u32; 2048], desc: u32, which: usize) -> u64 {
 
 fn wide(x: u32) -> u64 {
     x as u64
-}
-
-fn behind(first: u32, second: u32) {
-    if first <= second {
-        say(
-            b"   Stage 2 starts # bytes behind stage 1.\n\n",
-            &[(second - first) as u64],
-        );
-    }
 }
 
 pub(crate) fn empty_write() {

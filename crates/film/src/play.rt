@@ -5,7 +5,6 @@ use crate::cells::word_at;
 use crate::script::ACTS;
 use crate::script::act_of;
 use crate::step::Said;
-use crate::step::Step;
 use crate::step::opened;
 use crate::step::perform;
 use ring::Speed;
@@ -37,42 +36,28 @@ pub(crate) fn play(cells: &mut [u8], seen: &mut [u64]) {
     while i < ACTS {
         let before = ring;
         done = perform(done.session, act_of(i), &mut ring);
-        note(done, i, &before, &ring, cells, seen);
+        see(done.session, i, &before, &ring, cells);
+        numbers(
+            done.said,
+            done.session.head.td_last,
+            i,
+            &before,
+            &ring,
+            seen,
+        );
         i += 1;
     }
 }
 
-fn note(
-    done: Step,
+fn numbers(
+    said: Said,
+    cursor: u16,
     i: u32,
     before: &[u32; 512],
     ring: &[u32; 512],
-    cells: &mut [u8],
     seen: &mut [u64],
 ) {
     let act = i as usize;
-    let from = act * 256;
-    numbers(
-        seen,
-        act,
-        done.said,
-        done.session.head.td_last,
-        before,
-        ring,
-    );
-    if from <= cells.len() {
-        see(done.session, before, ring, &mut cells[from..]);
-    }
-}
-
-fn numbers(
-    seen: &mut [u64],
-    act: usize,
-    said: Said,
-    cursor: u16,
-    before: &[u32; 512],
-    ring: &[u32; 512],
-) {
     let changed = first_change(before, ring);
     put(seen, act, KIND, said.kind);
     put(seen, act, NUMBER, said.number);

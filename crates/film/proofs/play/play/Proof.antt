@@ -31,8 +31,11 @@ slice-aggregate-perform c = search needs
 perform-requires : tie.Need-perform-requires Inv-loop μ-loop
 perform-requires c κs = search needs
 
-note-requires : tie.Need-note-requires Inv-loop μ-loop
-note-requires c κs = search needs
+see-requires : tie.Need-see-requires Inv-loop μ-loop
+see-requires c κs = search needs
+
+numbers-requires : tie.Need-numbers-requires Inv-loop μ-loop
+numbers-requires c κs = search needs
 
 add-i : tie.Need-add-i Inv-loop μ-loop
 add-i c = omega arith
@@ -64,7 +67,8 @@ play-spec =
     act-of-requires
     slice-aggregate-perform
     perform-requires
-    note-requires
+    see-requires
+    numbers-requires
     add-i
     loop-less
     loop-again
