@@ -1,19 +1,14 @@
-// Scenes 4 and 5: a disk's transfers, packets of 512.
-use crate::print::say;
-use crate::print::text;
+// A disk's transfer: packets of 512.
 use plan::DataKind;
 use plan::DataRequest;
 use plan::DataToggle;
-use plan::Dwc2DataPlan;
-use plan::Dwc2TransferStage;
 use ring::Speed;
-use std::num::wrapping_sub_u32;
 use words::Direction;
 
-const PACKET: u16 = 512;
+pub(crate) const PACKET: u16 = 512;
 
 // A bulk write from the buffer at 0x10000000.
-fn request(len: u64, toggle: DataToggle) -> DataRequest {
+pub(crate) fn request(len: u64, toggle: DataToggle) -> DataRequest {
     DataRequest {
         kind: DataKind::Bulk,
         direction: Direction::Out,
@@ -26,129 +21,4 @@ fn request(len: u64, toggle: DataToggle) -> DataRequest {
         base: 268_435_456,
         len,
     }
-}
-
-pub(crate) fn long_write() {
-    text(
-        b"4. A long write in two stages
-   33423361 bytes to a disk, packets of 512, buffer at 0x10000000 (document 01,
-   P7). A stage is at most 256 descriptors, and one of them holds 130560 bytes: the
-   last byte needs a second stage. Field failure 1: a long write went on at the
-   wrong offset, and 4096 sectors of a good backup were overwritten. Here every
-   address is the buffer's plus all lengths before it.
-
-",
-    );
-    let mut array = [0u32; 2048];
-    let plan = plan::data_stages(request(33_423_361, DataToggle::data0()), &mut array);
-    let made = plan.stages;
-    stages(made, &array);
-}
-
-fn stages(stages: [Dwc2TransferStage; 4], array: &[u32; 2048]) {
-    let first = stages[0];
-    let second = stages[1];
-    stage(
-        b"stage 1     bytes #, descriptors #
-  first     address 0x@  status 0x@
-  last      address 0x@  status 0x@
-",
-        first,
-        array,
-    );
-    stage(
-        b"stage 2     bytes #, descriptors #
-  first     address 0x@  status 0x@
-
-",
-        second,
-        array,
-    );
-    let between = wrapping_sub_u32(second.dma_addr, first.dma_addr);
-    say(
-        b"   Stage 2 starts # bytes behind stage 1.\n\n",
-        &[between as u64],
-    );
-}
-
-fn stage(marked: &[u8], stage: Dwc2TransferStage, array: &[u32; 2048]) {
-    let first = stage.desc_base % 1024;
-    let last = last_of(first, stage.descs);
-    say(
-        marked,
-        &[
-            stage.len as u64,
-            stage.descs as u64,
-            word_of(array, first, 1),
-            word_of(array, first, 0),
-            word_of(array, last, 1),
-            word_of(array, last, 0),
-        ],
-    );
-}
-
-fn last_of(first: u32, descs: u32) -> u32 {
-    if descs == 0 {
-        return first;
-    }
-    first % 1024 + (descs - 1) % 1024
-}
-
-// A descriptor's status, or its address. A plan has at most 1,024 descriptors: the remainders bound the place, and change nothing.
-fn word_of(array: &[u32; 2048], desc: u32, which: usize) -> u64 {
-    let at = (desc % 1024) as usize * 2 + which % 2;
-    wide(array[at])
-}
-
-fn wide(x: u32) -> u64 {
-    x as u64
-}
-
-pub(crate) fn empty_write() {
-    text(
-        b"5. An empty transfer is one packet
-   A write of 0 bytes to a disk and then one of 512, packets of 512. Each packet
-   flips the toggle, by which the disk tells a new packet from a repeated one.
-   Field failure 2: the old driver counted no packet for the empty transfer. It
-   sent the next one as DATA0 again, the disk dropped it as a repeat, and the
-   backup hung.
-
-",
-    );
-    let after = sent(
-        b"0 bytes     packets #, sent as DATA#, and DATA# is next\n",
-        0,
-        DataToggle::data0(),
-    );
-    sent(
-        b"512 bytes   packets #, sent as DATA#, and DATA# is next\n\n",
-        512,
-        after,
-    );
-}
-
-// The toggle behind it.
-fn sent(marked: &[u8], len: u64, toggle: DataToggle) -> DataToggle {
-    let mut array = [0u32; 2048];
-    let plan = plan::data_stages(request(len, toggle), &mut array);
-    let after = plan.toggle;
-    say(
-        marked,
-        &[plan::packet_count(len, PACKET), pid(plan), bit(after.0)],
-    );
-    after
-}
-
-// HCTSIZ, bits 29 and 30: DATA0 is 0, and DATA1 is 2.
-fn pid(plan: Dwc2DataPlan) -> u64 {
-    let stages = plan.stages;
-    let stage = stages[0];
-    stage.hctsiz as u64 / 1_073_741_824 % 2
-}
-
-fn bit(yes: bool) -> u64 {
-    if yes {
-        return 1;
-    }
-    0
 }

@@ -3,7 +3,9 @@
 mod cells;
 mod cut;
 mod disk;
+mod empty;
 mod guard;
+mod long;
 mod page;
 mod play;
 mod print;
@@ -40,8 +42,8 @@ to the controller. One character below is one slot:
     submission::scene(&cells, &seen);
     guard::scene(&cells, &seen);
     cut::scene(&cells, &seen);
-    disk::long_write();
-    disk::empty_write();
+    long::scene();
+    empty::scene();
     text(
         b"Read next: README.md, what stands where; docs/READING.md, a way through the rules
 and the proofs; include/dwc2_port.h, these calls from C; crates/session/specs, the
