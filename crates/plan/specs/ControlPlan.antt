@@ -11,7 +11,7 @@ use Rattle.words.specs.declared.types.Dwc2Pid.the-variants.{Data1, Setup}
 use Rattle.words.specs.Field.{bits, bit, _≔_, word}
 use Rattle.words.specs.Numbers.{directionNumber}
 use Rattle.words.specs.Words.{initialLen, hccharWord, isBeyond}
-use Rattle.plan.specs.declared.control.SetupPacket.{SetupPacket}
+use Rattle.plan.specs.declared.setup.SetupPacket.{SetupPacket}
 use Rattle.plan.specs.declared.types.ControlRequest.{ControlRequest}
 use Rattle.plan.specs.declared.types.ControlSetup.{ControlSetup}
 use Rattle.plan.specs.declared.types.Dwc2ControlPlan.{Dwc2ControlPlan}

@@ -4,7 +4,7 @@ use mathlib.Core.List.{List, map}
 use Prim.Native.Nat.{ℕ}
 use lib.Dec.{eqb, ltb}
 use lib.ListN.{replicate}
-use Rattle.plan.specs.declared.control.SetupPacket.{SetupPacket}
+use Rattle.plan.specs.declared.setup.SetupPacket.{SetupPacket}
 use Rattle.plan.specs.declared.split.DmaSplit.{DmaSplit}
 use Rattle.plan.specs.declared.types.ControlRequest.{ControlRequest}
 use Rattle.plan.specs.declared.types.ControlSetup.{ControlSetup}
