@@ -30,9 +30,9 @@ use Rattle.port.specs.declared.planning.PortControlPlan.{PortControlPlan
 use Rattle.port.specs.declared.planning.PortControlRequest.{PortControlRequest}
 use Rattle.port.specs.declared.planning.PortDataPlan.{PortDataPlan}
 use Rattle.port.specs.declared.planning.PortDataRequest.{PortDataRequest}
-use Rattle.port.specs.declared.planning.PortSetupPacket.{PortSetupPacket}
+use Rattle.port.specs.declared.setup.PortSetupPacket.{PortSetupPacket}
 use Rattle.port.specs.declared.planning.PortSplit.{PortSplit}
-use Rattle.port.specs.declared.planning.PortStage.{PortStage}
+use Rattle.port.specs.declared.stages.PortStage.{PortStage}
 use Rattle.port.specs.declared.ring_sums.PortNumber.{PortNumber}
 use Rattle.port.specs.Sums.{isBadSpeed, isBadDirection}
 use Rattle.port.specs.Tags.{pick, speedOf, directionOf, flagOf, flagTag}

@@ -21,7 +21,7 @@ use Rattle.port.specs.declared.planning.PortControlPlan.{PortControlPlan
 use Rattle.port.specs.declared.planning.PortControlRequest.{PortControlRequest}
 use Rattle.port.specs.declared.planning.PortDataPlan.{PortDataPlan}
 use Rattle.port.specs.declared.planning.PortDataRequest.{PortDataRequest}
-use Rattle.port.specs.declared.planning.PortStage.{PortStage}
+use Rattle.port.specs.declared.stages.PortStage.{PortStage}
 use Rattle.port.specs.Planning.{roleNumber, roleOf, isBadRole, stageNumbers, stageOf, lengthNumber, stageMovedNumber}
 use Rattle.port.specs.Planning.{dataRequestOf, isBadData, dataNumbers, unnamedData, dataPlanNumbers, dataArrayAfter}
 use Rattle.port.specs.Planning.{controlRequestOf, controlNumbers, unnamedControl, controlPlanNumbers, controlArrayAfter}
