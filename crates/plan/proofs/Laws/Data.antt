@@ -73,18 +73,27 @@ unfolding stagesFrom
 stages-last hcchar m zero descs len addr base t some h = absurd (omega arith)
 stages-last hcchar m (suc fuel) descs len addr base t some h = rw (le-leb descs 256 h)
 
--- more are a stage of 256, and the stages of the rest behind it
+-- more than 256 descriptors are a stage of 256, and the stages of the rest behind it
+pub stages-next :
+    (hcchar m fuel descs len addr base : ℕ) (t : Bool) → 256 < descs
+    → stagesFrom hcchar m (suc fuel) descs len addr base t
+    ≡ dataStage hcchar 256 (256 * chunkOf m) addr base t
+    ∷ stagesFrom hcchar m fuel (descs - 256) (len - 256 * chunkOf m) (addr + 256 * chunkOf m) (base + 256) (advanced t (packets (256 * chunkOf m) m))
+unfolding stagesFrom
+stages-next hcchar m fuel descs len addr base t h = rw (lt-leb descs 256 h)
+
+-- the same where the stages still asked for are some
 pub stages-more :
     (hcchar m fuel descs len addr base : ℕ) (t : Bool) → 0 < fuel → 256 < descs
     → stagesFrom hcchar m fuel descs len addr base t
     ≡ dataStage hcchar 256 (256 * chunkOf m) addr base t
     ∷ stagesFrom hcchar m (fuel - 1) (descs - 256) (len - 256 * chunkOf m) (addr + 256 * chunkOf m) (base + 256) (advanced t (packets (256 * chunkOf m) m))
-unfolding stagesFrom
 stages-more hcchar m zero descs len addr base t some h = absurd (omega arith)
 stages-more hcchar m (suc fuel) descs len addr base t some h =
+    let k = 256 * chunkOf m in
+    let rest : ℕ → List Dwc2TransferStage = λ n. stagesFrom hcchar m n (descs - 256) (len - k) (addr + k) (base + 256) (advanced t (packets k m)) in
     let one-less : fuel ≡ suc fuel - 1 = omega arith in
-    rw (lt-leb descs 256 h)
-    (ap (λ (n : ℕ). dataStage hcchar 256 (256 * chunkOf m) addr base t ∷ stagesFrom hcchar m n (descs - 256) (len - 256 * chunkOf m) (addr + 256 * chunkOf m) (base + 256) (advanced t (packets (256 * chunkOf m) m))) one-less)
+    stages-next hcchar m fuel descs len addr base t h ∙ ap (λ (n : ℕ). dataStage hcchar 256 k addr base t ∷ rest n) one-less
 
 -- there are no more stages than asked for
 pub stages-few : (hcchar m fuel descs len addr base : ℕ) (t : Bool) → length (stagesFrom hcchar m fuel descs len addr base t) ≤ fuel
