@@ -4,8 +4,9 @@ ghost use mathlib.Core.Path.{_≡_};
 ghost use lib.ListN.{length};
 ghost use Rattle.words.specs.Words.{packets};
 ghost use Rattle.plan.specs.Planning.{splitOf};
-ghost use Rattle.port.specs.Tags.{flagTag};
-ghost use Rattle.port.specs.Planning.{splitNumbers, kindOf, dataRequestOf, isBadData, dataNumbers, unnamedData, dataPlanNumbers, dataArrayAfter, controlRequestOf, controlNumbers, unnamedControl, controlPlanNumbers, controlArrayAfter};
+ghost use Rattle.port.specs.Planning.{splitNumbers, kindOf, dataRequestOf, isBadData, dataNumbers, unnamedData, dataPlanNumbers, dataArrayAfter};
+ghost use Rattle.port.specs.Planning.{controlRequestOf, controlNumbers, unnamedControl, controlPlanNumbers, controlArrayAfter};
+use crate::answers::flag;
 use crate::ring_sums::is_bad_direction;
 use crate::ring_sums::is_bad_speed;
 use crate::stages::PortStage;
@@ -95,12 +96,6 @@ pub extern "C" fn dwc2_packet_count(len: u64, max_packet_size: u16) -> u64
     plan::packet_count(len, max_packet_size)
 }
 
-fn flag_number(flag: bool) -> u32
-    ensures { λ r. ⌜ r ≡ flagTag flag ⌝ }
-{
-    if flag { 1 } else { 0 }
-}
-
 fn kind_of(n: u8) -> DataKind
     ensures { λ r. ⌜ r ≡ kindOf n ⌝ }
 {
@@ -140,7 +135,7 @@ fn data_numbers(p: Dwc2DataPlan) -> PortDataPlan
     let toggle = p.toggle;
     PortDataPlan {
         refusal: answer_number(answer),
-        toggle: flag_number(toggle.0),
+        toggle: flag(toggle.0),
         count: p.count,
         stages: [
             stage_numbers(p.stages[0]),
@@ -193,7 +188,7 @@ fn control_numbers(p: Dwc2ControlPlan) -> PortControlPlan
     let answer = p.answer;
     PortControlPlan {
         refusal: answer_number(answer),
-        has_data: flag_number(p.has_data),
+        has_data: flag(p.has_data),
         setup: stage_numbers(p.setup),
         data: stage_numbers(p.data),
         status: stage_numbers(p.status),
