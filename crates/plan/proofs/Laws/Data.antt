@@ -55,7 +55,11 @@ pub record Accepted (r : DataRequest) (words : ℕ) : Type 0 where
 
 pub accepted : (r : DataRequest) (words : ℕ) → dataAnswer r words ≡ Planned → Accepted r words
 accepted r words e =
-    let n = none-holds (isShort words ⇒ ShortBuffer ∷ isBad (r .endpoint) (r .device) (r .«max_packet_size») ⇒ BadEndpoint ∷ ltb 1024 (splitOf (r .len) (sizeOf r) .count) ⇒ TooManyDescriptors ∷ isBeyond (r .base) (initialLen (r .len) (sizeOf r) (isIn (r .direction))) ⇒ AddressLimit ∷ []) tt e in
+    let n =
+    none-holds
+    (isShort words ⇒ ShortBuffer ∷ isBad (r .endpoint) (r .device) (r .«max_packet_size») ⇒ BadEndpoint
+    ∷ ltb 1024 (splitOf (r .len) (sizeOf r) .count) ⇒ TooManyDescriptors
+    ∷ isBeyond (r .base) (initialLen (r .len) (sizeOf r) (isIn (r .direction))) ⇒ AddressLimit ∷ []) tt e in
     let device = neither (ltb 15 (r .endpoint)) (ltb 127 (r .device) || ltb 2047 (r .«max_packet_size»)) (n .1 .0) in
     let packet = neither (ltb 127 (r .device)) (ltb 2047 (r .«max_packet_size»)) (device .1) in
     record {

@@ -50,7 +50,8 @@ ends-stage n i j h =
 abbrev pub statusOf : ℕ → ℕ → Bool → ℕ → ℕ
 statusOf total m isIn k = chainStatus (initialLen (getD (lengths total m) k 0) m isIn) (ends k (splitOf total m .count))
 
-status-is : (total m : ℕ) (isIn : Bool) (k len : ℕ) (end : Bool) → getD (lengths total m) k 0 ≡ len → ends k (splitOf total m .count) ≡ end → chainStatus (initialLen len m isIn) end ≡ statusOf total m isIn k
+status-is :
+    (total m : ℕ) (isIn : Bool) (k len : ℕ) (end : Bool) → getD (lengths total m) k 0 ≡ len → ends k (splitOf total m .count) ≡ end → chainStatus (initialLen len m isIn) end ≡ statusOf total m isIn k
 status-is total m isIn k len end e f = sym (ap₂ (λ (l : ℕ) (x : Bool). chainStatus (initialLen l m isIn) x) e f)
 
 -- The descriptors from one number up to another are those of a transfer of so many bytes from an address on.
@@ -132,6 +133,7 @@ module _ (hcchar m : ℕ) (isIn : Bool) (size : get packetSize hcchar ≡ m) (wa
       subst⁻¹ (λ (ss : List Dwc2TransferStage). Filled total m isIn start base (splitOf total m .count) a (laidOut ss a)) (stages-next hcchar m fuel descs len addr base t h)
       (joined (statusOf total m isIn) (λ (k : ℕ). start + k * chunkOf m) base (base + 256) (splitOf total m .count) a first _ (omega arith) (omega arith)
       (full-laid addr base t a (omega arith) here whole room)
-      (stages-laid fuel (descs - 256) (len - k) (addr + k) (base + 256) (advanced t (packets k m)) first (omega arith) (omega arith) (omega arith) (omega arith) (omega arith) (omega arith) (omega arith))))
+      (stages-laid fuel (descs - 256) (len - k) (addr + k) (base + 256) (advanced t (packets k m)) first (omega arith) (omega arith) (omega arith)
+      (omega arith) (omega arith) (omega arith) (omega arith))))
       (λ h. subst⁻¹ (λ (ss : List Dwc2TransferStage). Filled total m isIn start base (splitOf total m .count) a (laidOut ss a)) (stages-last hcchar m (suc fuel) descs len addr base t (omega arith) h)
       (last-laid descs len addr base t a some h count bytes here whole room))
