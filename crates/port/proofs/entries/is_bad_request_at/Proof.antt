@@ -13,7 +13,9 @@ is-bad-tagged-requires : tie.Need-is-bad-tagged-requires
 is-bad-tagged-requires c κs = search needs
 
 returns : tie.Need-returns
-returns c = bad-request-at (c .before .before .before .args .bytes .now) (c .before .before .before .args .at) (c .before .tagged-at .result) (c .is-bad-tagged .result) (c .before .tagged-at .ensures) (c .is-bad-tagged .ensures)
+returns c =
+    let a = c .before .before .before .args in
+    bad-request-at (a .bytes .now) (a .at) (c .before .tagged-at .result) (c .is-bad-tagged .result) (c .before .tagged-at .ensures) (c .is-bad-tagged .ensures)
 
 pub is-bad-request-at-spec : {M : Type 1} → statement M
 is-bad-request-at-spec =

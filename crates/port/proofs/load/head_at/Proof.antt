@@ -22,7 +22,10 @@ u16-at-requires-3 : tie.Need-u16-at-requires-3
 u16-at-requires-3 c κs = search needs
 
 returns : tie.Need-returns
-returns c = head-at (c .before .before .before .before .before .before .before .args .bytes .now) (c .before .before .before .before .before .u64-at .ensures) (c .before .before .before .before .byte-at .ensures) (c .before .before .before .u16-at .ensures) (c .before .before .u32-at .ensures) (c .before .u16-at2 .ensures) (c .u16-at3 .ensures)
+returns c =
+    head-at (c .before .before .before .before .before .before .before .args .bytes .now) (c .before .before .before .before .before .u64-at .ensures)
+    (c .before .before .before .before .byte-at .ensures) (c .before .before .before .u16-at .ensures) (c .before .before .u32-at .ensures)
+    (c .before .u16-at2 .ensures) (c .u16-at3 .ensures)
 
 pub head-at-spec : {M : Type 1} → statement M
 head-at-spec =

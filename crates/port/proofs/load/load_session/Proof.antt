@@ -22,7 +22,10 @@ plans-at-requires : tie.Need-plans-at-requires
 plans-at-requires c κs = search needs
 
 returns : tie.Need-returns
-returns c = session-at (c .before .before .before .before .before .before .before .args .bytes .now) (c .before .before .before .before .before .config-at .ensures) (c .before .before .before .before .head-at .ensures) (c .before .before .before .tagged-at .ensures) (c .before .before .fatal-of .ensures) (c .before .requests-at .ensures) (c .plans-at .ensures)
+returns c =
+    session-at (c .before .before .before .before .before .before .before .args .bytes .now)
+    (c .before .before .before .before .before .config-at .ensures) (c .before .before .before .before .head-at .ensures)
+    (c .before .before .before .tagged-at .ensures) (c .before .before .fatal-of .ensures) (c .before .requests-at .ensures) (c .plans-at .ensures)
 
 pub load-session-spec : {M : Type 1} → statement M
 load-session-spec =

@@ -33,7 +33,18 @@ same-length : tie.Need-same-length
 same-length c = search needs
 
 returns : tie.Need-returns
-returns c = session-put (c .before .before .before .before .before .before .before .before .before .before .before .before .before .before .before .before .before .before .before .before .before .before .before .before .before .before .before .before .before .before .args .bytes .now) (c .before .before .before .before .before .before .before .before .before .before .before .before .before .before .before .before .before .before .before .before .before .before .before .before .before .before .before .before .before .before .args .session) (long ((c .before .before .before .before .before .before .before .before .before .before .before .before .before .before .before .before .before .before .before .before .before .before .before .before .before .before .before .before .before .before))) (c .before .before .before .before .before .before .before .before .before .before .before .before .before .before .before .before .before .before .before .before .before .before .before .put-mark .ensures) (c .before .before .before .before .before .before .before .before .before .before .before .before .before .before .before .before .before .before .before .put-config .ensures) (c .before .before .before .before .before .before .before .before .before .before .before .before .before .before .before .put-head .ensures) (c .before .before .before .before .before .before .before .before .before .before .before .fatal-tagged .ensures) (c .before .before .before .before .before .before .before .before .before .before .put-tagged .ensures) (c .before .before .before .before .before .before .put-requests .ensures) (c .before .before .put-plans .ensures)
+returns c =
+    let a =
+    c .before .before .before .before .before .before .before .before .before .before .before .before .before .before .before .before .before .before .before .before .before .before .before .before .before .before .before .before .before .before .args in
+    session-put (a .bytes .now) (a .session)
+    (long
+    ((c .before .before .before .before .before .before .before .before .before .before .before .before .before .before .before .before .before .before .before .before .before .before .before .before .before .before .before .before .before .before)))
+    (c .before .before .before .before .before .before .before .before .before .before .before .before .before .before .before .before .before .before .before .before .before .before .before .put-mark .ensures)
+    (c .before .before .before .before .before .before .before .before .before .before .before .before .before .before .before .before .before .before .before .put-config .ensures)
+    (c .before .before .before .before .before .before .before .before .before .before .before .before .before .before .before .put-head .ensures)
+    (c .before .before .before .before .before .before .before .before .before .before .before .fatal-tagged .ensures)
+    (c .before .before .before .before .before .before .before .before .before .before .put-tagged .ensures)
+    (c .before .before .before .before .before .before .put-requests .ensures) (c .before .before .put-plans .ensures)
 
 pub save-session-spec : {M : Type 1} → statement M
 save-session-spec =
