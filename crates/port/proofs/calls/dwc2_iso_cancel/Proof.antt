@@ -1,3 +1,4 @@
+-- Refused at the bytes, or loaded, cancelled and saved: the law of calls by bytes at each way out.
 use borrow.Author.Needs.{needs}
 use Rattle.session.specs.declared.types.IsoChannelState.{IsoChannelState}
 use Rattle.session.specs.Cancel.{cancelled}

@@ -1,3 +1,4 @@
+-- Refused at the bytes, or loaded and tested: the law of calls by bytes at each way out.
 use mathlib.Core.Bool.{Bool, cond}
 use mathlib.Core.Path.{_∙_, ap, sym}
 use Prim.Native.Nat.{ℕ}

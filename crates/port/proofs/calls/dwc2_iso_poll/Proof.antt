@@ -1,3 +1,4 @@
+-- Refused at the bytes, or loaded, polled and saved: the law of calls by bytes at each way out, once more for the ring.
 use mathlib.Core.List.{List}
 use mathlib.Core.Path.{_∙_, ap}
 use Prim.Native.Nat.{ℕ}

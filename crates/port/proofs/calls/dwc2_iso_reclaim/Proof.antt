@@ -1,3 +1,4 @@
+-- Refused at the bytes, or loaded, reclaimed and saved: the law of calls by bytes for the answer, the bytes, the ring and the results in turn.
 use mathlib.Core.List.{List}
 use mathlib.Core.Path.{_∙_, ap}
 use Prim.Native.Nat.{ℕ}

@@ -1,3 +1,4 @@
+-- Refused at the bytes, or loaded, recovered and saved: the law of calls by bytes at each way out, once more for the ring.
 use mathlib.Core.List.{List}
 use Prim.Native.Nat.{ℕ}
 use lib.ListN.{length}

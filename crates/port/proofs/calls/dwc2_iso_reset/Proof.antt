@@ -1,3 +1,4 @@
+-- Refused at the bytes, or loaded, reset and saved: the law of calls by bytes at each way out.
 use borrow.Author.Needs.{needs}
 use Rattle.session.specs.Poll.{resetReply}
 use Rattle.port.proofs.Laws.Calls.{long-enough, reply-refused, reply-done}

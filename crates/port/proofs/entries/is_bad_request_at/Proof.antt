@@ -1,3 +1,4 @@
+-- The outcome alone can be bad: its test is the test of the entry.
 use borrow.Author.Needs.{needs}
 use Rattle.port.proofs.Laws.Entries.{bad-request-at}
 use Rattle.port.proofs.entries.is_bad_request_at.Statement.{statement}

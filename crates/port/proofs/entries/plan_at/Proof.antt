@@ -1,3 +1,4 @@
+-- Fields read one behind the other: one law says that together they are the plan.
 use borrow.Author.Needs.{needs}
 use Rattle.port.proofs.Laws.Entries.{plan-at}
 use Rattle.port.proofs.entries.plan_at.Statement.{statement}

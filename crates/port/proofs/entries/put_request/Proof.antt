@@ -1,3 +1,4 @@
+-- Fields written one behind the other: one law says that together they are the request's bytes.
 use borrow.Author.Needs.{needs}
 use Rattle.port.proofs.Laws.Entries.{request-put}
 use Rattle.port.proofs.entries.put_request.Statement.{statement}

@@ -1,3 +1,4 @@
+-- Fields read one behind the other: one law says that together they are the request.
 use borrow.Author.Needs.{needs}
 use Rattle.port.proofs.Laws.Entries.{request-at}
 use Rattle.port.proofs.entries.request_at.Statement.{statement}

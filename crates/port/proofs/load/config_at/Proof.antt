@@ -1,3 +1,4 @@
+-- The configuration's fields as they are read: one law says that together they are the configuration of the bytes.
 use borrow.Author.Needs.{needs}
 use Rattle.port.proofs.Laws.Head.{config-at}
 use Rattle.port.proofs.load.config_at.Statement.{statement}

@@ -1,3 +1,4 @@
+-- The head's fields as they are read: one law says that together they are the head of the bytes.
 use borrow.Author.Needs.{needs}
 use Rattle.port.proofs.Laws.Head.{head-at}
 use Rattle.port.proofs.load.head_at.Statement.{statement}

@@ -1,3 +1,4 @@
+-- The head's bytes and its reason as they are read: one law says that their tests are the test of the head.
 use borrow.Author.Needs.{needs}
 use Rattle.port.proofs.Laws.Head.{bad-head-at}
 use Rattle.port.proofs.load.is_bad_head.Statement.{statement}

@@ -1,3 +1,4 @@
+-- Three bytes and a number as they are read: one law says that their tests are the test of the mark.
 use borrow.Author.Needs.{needs}
 use Rattle.port.proofs.Laws.Head.{bad-mark-at}
 use Rattle.port.proofs.load.is_bad_mark.Statement.{statement}

@@ -1,3 +1,4 @@
+-- Too short, refused by a test, or of the layout: a law for each way out.
 use borrow.Author.Needs.{needs}
 use Rattle.port.proofs.Laws.Loaded.{short-layout, bad-layout, good-layout}
 use Rattle.port.proofs.load.layout_refusal.Statement.{statement}

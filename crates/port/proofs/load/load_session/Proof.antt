@@ -1,3 +1,4 @@
+-- The session's parts as they are read: one law says that together they are the session of the bytes.
 use borrow.Author.Needs.{needs}
 use Rattle.port.proofs.Laws.Loaded.{session-at}
 use Rattle.port.proofs.load.load_session.Statement.{statement}

@@ -1,3 +1,4 @@
+-- Two halves, the low one first.
 use borrow.Author.Needs.{needs}
 use Rattle.port.proofs.Laws.Numbers.{u32-put}
 use Rattle.port.proofs.numbers.put_u32.Statement.{statement}

@@ -1,3 +1,4 @@
+-- Two halves, the low one first.
 use borrow.Author.Needs.{needs}
 use Rattle.port.proofs.Laws.Numbers.{u64-put}
 use Rattle.port.proofs.numbers.put_u64.Statement.{statement}

@@ -1,3 +1,4 @@
+-- Two bytes, the low one first.
 use borrow.Author.Needs.{needs}
 use Rattle.port.proofs.Laws.Numbers.{u16-at}
 use Rattle.port.proofs.numbers.u16_at.Statement.{statement}

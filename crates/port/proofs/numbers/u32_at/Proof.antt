@@ -1,3 +1,4 @@
+-- Two halves, the low one first.
 use borrow.Author.Needs.{needs}
 use Rattle.port.proofs.Laws.Numbers.{u32-at}
 use Rattle.port.proofs.numbers.u32_at.Statement.{statement}

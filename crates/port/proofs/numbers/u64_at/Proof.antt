@@ -1,3 +1,4 @@
+-- Two halves, the low one first.
 use borrow.Author.Needs.{needs}
 use Rattle.port.proofs.Laws.Numbers.{u64-at}
 use Rattle.port.proofs.numbers.u64_at.Statement.{statement}

@@ -1,3 +1,4 @@
+-- Too short, a number that names nothing, or opened and saved: a law for each way out.
 use borrow.Author.Needs.{needs}
 use Rattle.port.specs.Calls.{isBadNames, configBy}
 use Rattle.port.proofs.Laws.Requests.{open-short, open-bad, open-done}

@@ -1,3 +1,4 @@
+-- Refused at the bytes, a kind that names nothing, or loaded, submitted and saved: a law for each way out.
 use borrow.Author.Needs.{needs}
 use Rattle.port.proofs.Laws.Requests.{submit-refused, submit-kind, submit-done}
 use Rattle.port.proofs.Laws.Calls.{long-enough}

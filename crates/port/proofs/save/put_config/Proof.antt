@@ -1,3 +1,4 @@
+-- Fields written one behind the other: one law says that together they are the configuration's bytes.
 use borrow.Author.Needs.{needs}
 use Rattle.port.proofs.Laws.Head.{config-put}
 use Rattle.port.proofs.save.put_config.Statement.{statement}

@@ -1,3 +1,4 @@
+-- Fields written one behind the other: one law says that together they are the head's bytes.
 use borrow.Author.Needs.{needs}
 use Rattle.port.proofs.Laws.Head.{head-put}
 use Rattle.port.proofs.save.put_head.Statement.{statement}
@@ -29,12 +30,12 @@ same-length c = search needs
 
 returns : tie.Need-returns
 returns c =
-    let a =
-    c .before .before .before .before .before .before .before .before .before .before .before .before .before .before .before .before .before .before .before .before .before .before .before .before .before .before .args in
+    let early = c .before .before .before .before .before .before .before .before .before .before .before .before .before .before .before .before .before .before in
+    let a = early .before .before .before .before .before .before .before .before .args in
     head-put (a .bytes .now) (a .head)
-    (c .before .before .before .before .before .before .before .before .before .before .before .before .before .before .before .before .before .before .before .before .before .before .before .flag-tag .ensures)
-    (c .before .before .before .before .before .before .before .before .before .before .before .before .before .before .before .before .before .before .before .before .before .before .put-byte .ensures)
-    (c .before .before .before .before .before .before .before .before .before .before .before .before .before .before .before .before .before .before .put-u64 .ensures)
+    (early .before .before .before .before .before .flag-tag .ensures)
+    (early .before .before .before .before .put-byte .ensures)
+    (early .put-u64 .ensures)
     (c .before .before .before .before .before .before .before .before .before .before .before .before .before .before .put-u32 .ensures)
     (c .before .before .before .before .before .before .before .before .before .before .put-u16 .ensures)
     (c .before .before .before .before .before .before .put-u162 .ensures) (c .before .before .put-u163 .ensures)

@@ -1,3 +1,4 @@
+-- Two stores, one behind the other: one law says that together they are the mark.
 use borrow.Author.Needs.{needs}
 use Rattle.port.proofs.Laws.Head.{mark-put}
 use Rattle.port.proofs.save.put_mark.Statement.{statement}

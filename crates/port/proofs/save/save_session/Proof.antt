@@ -1,3 +1,4 @@
+-- Parts written one behind the other: one law says that together they are the session's bytes.
 use mathlib.Core.Path.{_≡_, _∙_, sym}
 use lib.ListN.{length, length-map}
 use borrow.Author.Needs.{needs}
@@ -34,13 +35,12 @@ same-length c = search needs
 
 returns : tie.Need-returns
 returns c =
-    let a =
-    c .before .before .before .before .before .before .before .before .before .before .before .before .before .before .before .before .before .before .before .before .before .before .before .before .before .before .before .before .before .before .args in
+    let early = c .before .before .before .before .before .before .before .before .before .before .before .before .before .before .before .before .before .before .before in
+    let a = early .before .before .before .before .before .before .before .before .before .before .before .args in
     session-put (a .bytes .now) (a .session)
-    (long
-    ((c .before .before .before .before .before .before .before .before .before .before .before .before .before .before .before .before .before .before .before .before .before .before .before .before .before .before .before .before .before .before)))
-    (c .before .before .before .before .before .before .before .before .before .before .before .before .before .before .before .before .before .before .before .before .before .before .before .put-mark .ensures)
-    (c .before .before .before .before .before .before .before .before .before .before .before .before .before .before .before .before .before .before .before .put-config .ensures)
+    (long (early .before .before .before .before .before .before .before .before .before .before .before))
+    (early .before .before .before .before .put-mark .ensures)
+    (early .put-config .ensures)
     (c .before .before .before .before .before .before .before .before .before .before .before .before .before .before .before .put-head .ensures)
     (c .before .before .before .before .before .before .before .before .before .before .before .fatal-tagged .ensures)
     (c .before .before .before .before .before .before .before .before .before .before .put-tagged .ensures)
