@@ -1,6 +1,6 @@
 -- Control transfers: what the four tests leave of a request that is planned, and what its stages and its setup packet are.
 use mathlib.Core.Path.{_≡_, refl, _∙_, sym, ap, ap₂, subst}
-use mathlib.Core.Bool.{Bool, true, false, _||_, _&&_}
+use mathlib.Core.Bool.{Bool, true, false, _||_, _&&_, cond}
 use mathlib.Core.List.{List, [], _∷_}
 use mathlib.Core.Logic.{_≢_}
 use Prim.Native.Nat.{ℕ, zero, suc, _+_, _-_, _*_, _/_, _≤_, _<_, max}
@@ -23,7 +23,7 @@ use Rattle.plan.specs.Planning.{chunkOf, splitOf, stageOf, laidStage, la
 use Rattle.plan.specs.Refusals.{_⇒_, isShort, isBad}
 use Rattle.plan.specs.StageLength.{StageFits}
 use Rattle.plan.specs.DataStages.{isIn, blankStage}
-use Rattle.plan.specs.ControlPlan.{controlSize, statusDirection, statusAddr, statusWay, hasData, setupStage, dataStageOf, statusStage, pickStages, pickStage}
+use Rattle.plan.specs.ControlPlan.{controlSize, statusDirection, statusAddr, statusWay, hasData, setupStage, dataStageOf, statusStage}
 use Rattle.plan.specs.ControlPlan.{controlStages, isTooLong, controlBeyond, controlAnswer, plannedControl, setupBytes}
 use Rattle.words.proofs.Laws.Tests.{neither}
 use Rattle.plan.proofs.Laws.Refusals.{none-holds}
@@ -124,12 +124,12 @@ plan-if r b =
       answer = Planned;
       «has_data» = b;
       setup = setupStage r;
-      «data» = pickStage b (dataStageOf r) blankStage;
-      status = pickStage b (statusStage r 2) (statusStage r 1);
+      «data» = cond b (dataStageOf r) blankStage;
+      status = cond b (statusStage r 2) (statusStage r 1);
     }
 
 abbrev stages-if : ControlRequest → Bool → List Dwc2TransferStage
-stages-if r b = pickStages b (setupStage r ∷ dataStageOf r ∷ statusStage r 2 ∷ []) (setupStage r ∷ statusStage r 1 ∷ [])
+stages-if r b = cond b (setupStage r ∷ dataStageOf r ∷ statusStage r 2 ∷ []) (setupStage r ∷ statusStage r 1 ∷ [])
 
 -- With data the plan has three stages, laid out one behind the other.
 pub planned-with-data :

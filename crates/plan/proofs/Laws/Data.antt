@@ -1,6 +1,6 @@
 -- Laws of bulk and interrupt plans: what an accepted request says of its numbers, and how one stage follows another.
 use mathlib.Core.Path.{_≡_, _∙_, sym, ap, subst⁻¹}
-use mathlib.Core.Bool.{Bool, true, false, _||_}
+use mathlib.Core.Bool.{Bool, true, false, _||_, cond}
 use mathlib.Core.List.{List, [], _∷_, _++_}
 use Prim.Native.Nat.{ℕ, zero, suc, _+_, _-_, _*_, _≤_, _<_, max}
 use native.Mathlib.Nat.{add-zero, zero-add, add-mul, mul-le-mul, le-trans, sub-le, div-mul-le-self, mod-eq-of-lt}
@@ -21,7 +21,7 @@ use Rattle.plan.specs.declared.types.PlanAnswer.{PlanAnswer}
 use Rattle.plan.specs.declared.types.PlanAnswer.the-variants.{Planned, ShortBuffer, BadEndpoint, TooManyDescriptors, AddressLimit}
 use Rattle.plan.specs.declared.toggle.DataToggle.{DataToggle}
 use Rattle.plan.specs.Planning.{chunkOf, splitOf, advanced, laidStage, laidOut}
-use Rattle.plan.specs.DataStages.{isIn, epTypeOf, isLow, oddOf, sizeOf, dataHcchar, dataStage, pickStages, stagesFrom, toggleAfter, blankStage, stageTable, blankPlan, withStage, dataAnswer}
+use Rattle.plan.specs.DataStages.{isIn, epTypeOf, isLow, oddOf, sizeOf, dataHcchar, dataStage, stagesFrom, toggleAfter, blankStage, stageTable, blankPlan, withStage, dataAnswer}
 use Rattle.plan.specs.StageLength.{StageFits}
 use Rattle.plan.specs.Refusals.{_⇒_, isShort, isBad}
 use Rattle.words.proofs.Laws.Tests.{neither}
@@ -107,7 +107,7 @@ stages-few hcchar m (suc fuel) descs len addr base t =
     go (leb descs 256) (dataStage hcchar descs len addr base t) (dataStage hcchar 256 (256 * chunkOf m) addr base t) _
     (stages-few hcchar m fuel (descs - 256) (len - 256 * chunkOf m) (addr + 256 * chunkOf m) (base + 256) (advanced t (packets (256 * chunkOf m) m)))
   where
-    go : (b : Bool) (s r : Dwc2TransferStage) (rest : List Dwc2TransferStage) → length rest ≤ fuel → length (pickStages b (s ∷ []) (r ∷ rest)) ≤ suc fuel
+    go : (b : Bool) (s r : Dwc2TransferStage) (rest : List Dwc2TransferStage) → length rest ≤ fuel → length (cond b (s ∷ []) (r ∷ rest)) ≤ suc fuel
     go true s r rest h = omega arith
     go false s r rest h = omega arith
 
