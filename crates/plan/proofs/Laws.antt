@@ -1,6 +1,8 @@
 pub mod Chains
 pub mod Control
 pub mod Data
+pub mod Laid
 pub mod Layout
+pub mod Numbered
 pub mod Refusals
 pub mod Split

@@ -8,6 +8,7 @@ use Rattle.words.proofs.Unique.{Unique, equal, equal-both}
 use Rattle.plan.specs.declared.toggle.DataToggle.{DataToggle}
 use Rattle.plan.proofs.control
 use Rattle.plan.proofs.«data» as data-calls
+use Rattle.plan.proofs.setup
 use Rattle.plan.proofs.split
 use Rattle.plan.proofs.stage
 use Rattle.plan.proofs.toggle.DataToggle as functions
@@ -40,7 +41,7 @@ data-stages-unique κs a x y u v = equal-both (λ (words : List ℕ). (tt, (word
 pub build-control-plan-unique : Unique 1 control.build_control_plan.Kinds.ps control.build_control_plan.Kinds.r control.build_control_plan.Reads.Post
 build-control-plan-unique κs a x y u v = equal-both (λ (words : List ℕ). (tt, (words, tt)))
 
-pub setup-packet-bytes-unique : Unique 0 control.setup_packet_bytes.Kinds.ps control.setup_packet_bytes.Kinds.r control.setup_packet_bytes.Reads.Post
+pub setup-packet-bytes-unique : Unique 0 setup.setup_packet_bytes.Kinds.ps setup.setup_packet_bytes.Kinds.r setup.setup_packet_bytes.Reads.Post
 setup-packet-bytes-unique κs a x y u v = equal refl
 
 pub stage-actual-length-unique : Unique 1 stage.stage_actual_length.Kinds.ps stage.stage_actual_length.Kinds.r stage.stage_actual_length.Reads.Post

@@ -1,5 +1,5 @@
 -- Control transfers: document 01, "Planning transfers"; the setup bytes from USB 2.0, 9.3.
-use mathlib.Core.Bool.{Bool, true, false, _||_, _&&_}
+use mathlib.Core.Bool.{Bool, true, false, _||_, _&&_, cond}
 use mathlib.Core.List.{List, [], _∷_}
 use Prim.Native.Nat.{ℕ, _/_, _%_, max}
 use lib.Dec.{ltb}
@@ -11,7 +11,7 @@ use Rattle.words.specs.declared.types.Dwc2Pid.the-variants.{Data1, Setup}
 use Rattle.words.specs.Field.{bits, bit, _≔_, word}
 use Rattle.words.specs.Numbers.{directionNumber}
 use Rattle.words.specs.Words.{initialLen, hccharWord, isBeyond}
-use Rattle.plan.specs.declared.control.SetupPacket.{SetupPacket}
+use Rattle.plan.specs.declared.setup.SetupPacket.{SetupPacket}
 use Rattle.plan.specs.declared.types.ControlRequest.{ControlRequest}
 use Rattle.plan.specs.declared.types.ControlSetup.{ControlSetup}
 use Rattle.plan.specs.declared.types.Dwc2ControlPlan.{Dwc2ControlPlan}
@@ -80,14 +80,10 @@ statusStage r base =
     1
     0
 
-abbrev pub pickStages : Bool → List Dwc2TransferStage → List Dwc2TransferStage → List Dwc2TransferStage
-pickStages true a b = a
-pickStages false a b = b
-
 -- the stages in the order in which they run
 abbrev pub controlStages : ControlRequest → List Dwc2TransferStage
 controlStages r =
-    pickStages (hasData r) (setupStage r ∷ dataStageOf r ∷ statusStage r 2 ∷ []) (setupStage r ∷ statusStage r 1 ∷ [])
+    cond (hasData r) (setupStage r ∷ dataStageOf r ∷ statusStage r 2 ∷ []) (setupStage r ∷ statusStage r 1 ∷ [])
 
 -- 11: "base plus length (IN rounded up ..) .. and likewise for the setup address plus 8 and a used status address plus m; control without data
 -- tests no base"
@@ -111,18 +107,14 @@ controlAnswer r words =
     ∷ controlBeyond r ⇒ AddressLimit
     ∷ [])
 
-abbrev pub pickStage : Bool → Dwc2TransferStage → Dwc2TransferStage → Dwc2TransferStage
-pickStage true a b = a
-pickStage false a b = b
-
 abbrev pub plannedControl : ControlRequest → Dwc2ControlPlan
 plannedControl r =
     record {
       answer = Planned;
       «has_data» = hasData r;
       setup = setupStage r;
-      «data» = pickStage (hasData r) (dataStageOf r) blankStage;
-      status = pickStage (hasData r) (statusStage r 2) (statusStage r 1);
+      «data» = cond (hasData r) (dataStageOf r) blankStage;
+      status = cond (hasData r) (statusStage r 2) (statusStage r 1);
     }
 
 abbrev pub refusedControl : PlanAnswer → Dwc2ControlPlan

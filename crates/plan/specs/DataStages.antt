@@ -1,5 +1,5 @@
 -- Bulk and interrupt transfers: document 01, "Planning transfers".
-use mathlib.Core.Bool.{Bool, true, false}
+use mathlib.Core.Bool.{Bool, true, false, cond}
 use mathlib.Core.List.{List, [], _∷_, _++_}
 use Prim.Native.Nat.{ℕ, zero, suc, _+_, _-_, _*_, max}
 use lib.Dec.{leb, ltb}
@@ -60,16 +60,12 @@ dataHcchar r =
 abbrev pub dataStage : ℕ → ℕ → ℕ → ℕ → ℕ → Bool → Dwc2TransferStage
 dataStage hcchar descs len addr base toggle = stageOf Data hcchar (pidOfToggle toggle) addr base descs len
 
-abbrev pub pickStages : Bool → List Dwc2TransferStage → List Dwc2TransferStage → List Dwc2TransferStage
-pickStages true a b = a
-pickStages false a b = b
-
 -- "Stages hold at most 256 descriptors": so many descriptors for so many bytes, from an address, a descriptor and a toggle on, in at most so
 -- many stages
 unfoldable pub stagesFrom : ℕ → ℕ → ℕ → ℕ → ℕ → ℕ → ℕ → Bool → List Dwc2TransferStage
 stagesFrom hcchar m zero descs len addr base toggle = []
 stagesFrom hcchar m (suc stages) descs len addr base toggle =
-    pickStages (leb descs 256) (dataStage hcchar descs len addr base toggle ∷ [])
+    cond (leb descs 256) (dataStage hcchar descs len addr base toggle ∷ [])
     (dataStage hcchar 256 (256 * chunkOf m) addr base toggle
     ∷ stagesFrom
     hcchar

@@ -14,14 +14,10 @@ infix 68 _⇒_
 abbrev pub _⇒_ : Bool → PlanAnswer → Check
 holds ⇒ answer = record { holds = holds; answer = answer }
 
-abbrev pub pickAnswer : Bool → PlanAnswer → PlanAnswer → PlanAnswer
-pickAnswer true a b = a
-pickAnswer false a b = b
-
 -- the answer of the first test that holds
 abbrev pub firstOf : List Check → PlanAnswer
 firstOf [] = Planned
-firstOf (c ∷ cs) = pickAnswer (c .holds) (c .answer) (firstOf cs)
+firstOf (c ∷ cs) = cond (c .holds) (c .answer) (firstOf cs)
 
 -- 17: "planning's array under 2,048 words"
 abbrev pub isShort : ℕ → Bool

@@ -1,33 +1,24 @@
-// Control transfers on endpoint 0: document 01, "Planning transfers"; USB 2.0, 8.5.3 and 9.3.
+// Control transfers on endpoint 0: document 01, "Planning transfers"; USB 2.0, 8.5.3.
 ghost use mathlib.Core.Path.{_≡_};
 ghost use Prim.Native.Nat.{_≤_};
 ghost use lib.ListN.{length};
 ghost use Rattle.plan.specs.declared.types.PlanAnswer.the-variants.{Planned};
 ghost use Rattle.plan.specs.Planning.{stageOf, laidOut};
-ghost use Rattle.plan.specs.Numbers.{requestTypeNumber, recipientNumber};
-ghost use Rattle.plan.specs.ControlPlan.{controlSize, statusDirection, statusAddr, controlHcchar, statusWay, setupStage, dataStageOf, statusStage, controlStages, controlBeyond, controlAnswer, plannedControl, refusedControl, controlPlan, controlArray, requestTypeByte, setupPacket};
+ghost use Rattle.plan.specs.ControlPlan.{controlSize, statusDirection, statusAddr, controlHcchar, statusWay, setupStage, dataStageOf, statusStage, controlStages};
+ghost use Rattle.plan.specs.ControlPlan.{controlBeyond, controlAnswer, plannedControl, refusedControl, controlPlan, controlArray};
 use crate::data::blank_stage;
 use crate::data::is_in;
 use crate::refusals::is_bad;
 use crate::refusals::is_planned;
 use crate::stage::build_stage_descs;
 use crate::types::ControlRequest;
-use crate::types::ControlSetup;
 use crate::types::Dwc2ControlPlan;
 use crate::types::Dwc2StageRole;
 use crate::types::Dwc2TransferStage;
 use crate::types::PlanAnswer;
-use crate::types::Recipient;
-use crate::types::RequestType;
 use words::Direction;
 use words::Dwc2EpType;
 use words::Dwc2Pid;
-
-// The eight bytes of a setup packet, or zeros where the length is refused.
-pub struct SetupPacket {
-    pub answer: PlanAnswer,
-    pub bytes: [u8; 8],
-}
 
 // Plans setup, data and status and writes their descriptors into the array.
 pub fn build_control_plan(request: ControlRequest, array: &mut [u32]) -> Dwc2ControlPlan
@@ -247,68 +238,5 @@ fn plan_control(request: ControlRequest, array: &mut [u32]) -> Dwc2ControlPlan
         setup,
         data,
         status,
-    }
-}
-
-// The setup packet of a control transfer.
-pub fn setup_packet_bytes(setup: ControlSetup, direction: Direction, len: u64) -> SetupPacket
-    ensures { λ r. ⌜ r ≡ setupPacket setup direction len ⌝ }
-{
-    if len > 65_535 {
-        return SetupPacket {
-            answer: PlanAnswer::ControlTooLong,
-            bytes: [0; 8],
-        };
-    }
-    let request_type = setup.request_type;
-    let recipient = setup.recipient;
-    let kind = request_type_byte(request_type, recipient, direction);
-    let value = setup.value;
-    let index = setup.index;
-    SetupPacket {
-        answer: PlanAnswer::Planned,
-        bytes: [
-            kind,
-            setup.request,
-            (value % 256) as u8,
-            (value / 256) as u8,
-            (index % 256) as u8,
-            (index / 256) as u8,
-            (len % 256) as u8,
-            (len / 256) as u8,
-        ],
-    }
-}
-
-fn request_type_byte(request_type: RequestType, recipient: Recipient, direction: Direction) -> u8
-    ensures { λ r. ⌜ r ≡ requestTypeByte «request_type» recipient direction ⌝ }
-{
-    let kind = request_type_number(request_type);
-    let to = recipient_number(recipient);
-    if is_in(direction) {
-        return 128 + kind * 32 + to;
-    }
-    kind * 32 + to
-}
-
-fn request_type_number(request_type: RequestType) -> u8
-    ensures { λ r. ⌜ (r ≡ requestTypeNumber «request_type») × (r ≤ 3) ⌝ }
-{
-    match request_type {
-        RequestType::Standard => 0,
-        RequestType::Class => 1,
-        RequestType::Vendor => 2,
-        RequestType::Reserved => 3,
-    }
-}
-
-fn recipient_number(recipient: Recipient) -> u8
-    ensures { λ r. ⌜ (r ≡ recipientNumber recipient) × (r ≤ 3) ⌝ }
-{
-    match recipient {
-        Recipient::Device => 0,
-        Recipient::Interface => 1,
-        Recipient::Endpoint => 2,
-        Recipient::Other => 3,
     }
 }

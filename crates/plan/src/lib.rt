@@ -3,15 +3,16 @@
 mod control;
 mod data;
 mod refusals;
+mod setup;
 mod split;
 mod stage;
 mod toggle;
 mod types;
 
-pub use control::SetupPacket;
 pub use control::build_control_plan;
-pub use control::setup_packet_bytes;
 pub use data::data_stages;
+pub use setup::SetupPacket;
+pub use setup::setup_packet_bytes;
 pub use split::DmaSplit;
 pub use split::packet_count;
 pub use split::split_dma_lengths;

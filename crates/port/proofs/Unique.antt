@@ -8,6 +8,8 @@ use Rattle.port.proofs.calls as calls
 use Rattle.port.proofs.planning
 use Rattle.port.proofs.requests as requests
 use Rattle.port.proofs.ring_sums
+use Rattle.port.proofs.setup
+use Rattle.port.proofs.stages
 
 pub iso-ring-size-unique : Unique 0 ring_sums.dwc2_iso_ring_size.Kinds.ps ring_sums.dwc2_iso_ring_size.Kinds.r ring_sums.dwc2_iso_ring_size.Reads.Post
 iso-ring-size-unique κs a x y u v = equal refl
@@ -54,10 +56,10 @@ data-stages-unique κs a x y u v = equal-both (λ (words : List ℕ). (tt, (word
 pub build-control-plan-unique : Unique 1 planning.dwc2_build_control_plan.Kinds.ps planning.dwc2_build_control_plan.Kinds.r planning.dwc2_build_control_plan.Reads.Post
 build-control-plan-unique κs a x y u v = equal-both (λ (words : List ℕ). (tt, (words, tt)))
 
-pub stage-actual-length-unique : Unique 1 planning.dwc2_stage_actual_length.Kinds.ps planning.dwc2_stage_actual_length.Kinds.r planning.dwc2_stage_actual_length.Reads.Post
+pub stage-actual-length-unique : Unique 1 stages.dwc2_stage_actual_length.Kinds.ps stages.dwc2_stage_actual_length.Kinds.r stages.dwc2_stage_actual_length.Reads.Post
 stage-actual-length-unique κs a x y u v = equal refl
 
-pub setup-packet-bytes-unique : Unique 0 planning.dwc2_setup_packet_bytes.Kinds.ps planning.dwc2_setup_packet_bytes.Kinds.r planning.dwc2_setup_packet_bytes.Reads.Post
+pub setup-packet-bytes-unique : Unique 0 setup.dwc2_setup_packet_bytes.Kinds.ps setup.dwc2_setup_packet_bytes.Kinds.r setup.dwc2_setup_packet_bytes.Reads.Post
 setup-packet-bytes-unique κs a x y u v = equal refl
 
 pub check-unique : Unique 1 calls.dwc2_iso_check.Kinds.ps calls.dwc2_iso_check.Kinds.r calls.dwc2_iso_check.Reads.Post

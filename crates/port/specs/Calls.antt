@@ -27,12 +27,12 @@ use Rattle.port.specs.declared.answers.PortReclaimed.{PortReclaimed}
 use Rattle.port.specs.declared.answers.PortSubmitted.{PortSubmitted}
 use Rattle.port.specs.declared.answers.PortTransfer.{PortTransfer}
 use Rattle.port.specs.declared.tags.Tagged.{Tagged}
-use Rattle.port.specs.Tags.{pick, flagTag, flagOf, speedOf, directionOf, modeOf, tagged, outcomeTagged}
+use Rattle.port.specs.Tags.{flagTag, flagOf, speedOf, directionOf, modeOf, tagged, outcomeTagged}
 use Rattle.port.specs.Layout.{layoutNumber, sessionOf, saved}
 
 -- what `call` gives for the session of the bytes, or what `refuse` gives for the number with which they are refused
 abbrev pub byBytes : {A : Type 0} → List ℕ → (ℕ → A) → (IsoChannelState → A) → A
-byBytes xs refuse call = pick (eqb (layoutNumber xs) 0) (call (sessionOf xs)) (refuse (layoutNumber xs))
+byBytes xs refuse call = cond (eqb (layoutNumber xs) 0) (call (sessionOf xs)) (refuse (layoutNumber xs))
 
 -- the bytes afterwards, where the call leaves the session `after`: as they were where they are refused
 abbrev pub bytesBy : List ℕ → (IsoChannelState → IsoChannelState) → List ℕ
@@ -104,7 +104,7 @@ reclaimBy xs call = byBytes xs reclaimRefused (λ (s : IsoChannelState). reclaim
 -- ---- submit. A kind that names nothing is refused with 18 and nothing is altered
 
 abbrev pub byKind : {A : Type 0} → ℕ → List ℕ → (ℕ → A) → (IsoChannelState → A) → A
-byKind kind xs refuse call = byBytes xs refuse (λ (s : IsoChannelState). pick (ltb 3 kind) (refuse 18) (call s))
+byKind kind xs refuse call = byBytes xs refuse (λ (s : IsoChannelState). cond (ltb 3 kind) (refuse 18) (call s))
 
 abbrev pub transferOf : PortTransfer → IsoTransfer
 transferOf t =
@@ -165,7 +165,7 @@ abbrev pub isBadNames : ℕ → ℕ → ℕ → Bool
 isBadNames speed direction mode = ltb 2 speed || (ltb 1 direction || ltb 1 mode)
 
 abbrev pub byOpen : {A : Type 0} → List ℕ → Bool → (ℕ → A) → A → A
-byOpen xs bad refuse done = pick (ltb (length xs) 8488) (refuse 17) (pick bad (refuse 18) done)
+byOpen xs bad refuse done = cond (ltb (length xs) 8488) (refuse 17) (cond bad (refuse 18) done)
 
 abbrev pub configBy : ℕ → ℕ → ℕ → ℕ → ℕ → ℕ → ℕ → ℕ → IsoConfig
 configBy speed direction mode interval size endpoint device mult =

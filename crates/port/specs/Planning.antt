@@ -1,10 +1,10 @@
 -- Planning by numbers (include/dwc2_port.h): what the numbers name, and the answers as numbers.
-use mathlib.Core.Bool.{Bool, _||_}
+use mathlib.Core.Bool.{Bool, _||_, cond}
 use mathlib.Core.List.{List, map}
 use Prim.Native.Nat.{ℕ}
 use lib.Dec.{eqb, ltb}
 use lib.ListN.{replicate}
-use Rattle.plan.specs.declared.control.SetupPacket.{SetupPacket}
+use Rattle.plan.specs.declared.setup.SetupPacket.{SetupPacket}
 use Rattle.plan.specs.declared.split.DmaSplit.{DmaSplit}
 use Rattle.plan.specs.declared.types.ControlRequest.{ControlRequest}
 use Rattle.plan.specs.declared.types.ControlSetup.{ControlSetup}
@@ -30,12 +30,12 @@ use Rattle.port.specs.declared.planning.PortControlPlan.{PortControlPlan
 use Rattle.port.specs.declared.planning.PortControlRequest.{PortControlRequest}
 use Rattle.port.specs.declared.planning.PortDataPlan.{PortDataPlan}
 use Rattle.port.specs.declared.planning.PortDataRequest.{PortDataRequest}
-use Rattle.port.specs.declared.planning.PortSetupPacket.{PortSetupPacket}
+use Rattle.port.specs.declared.setup.PortSetupPacket.{PortSetupPacket}
 use Rattle.port.specs.declared.planning.PortSplit.{PortSplit}
-use Rattle.port.specs.declared.planning.PortStage.{PortStage}
+use Rattle.port.specs.declared.stages.PortStage.{PortStage}
 use Rattle.port.specs.declared.ring_sums.PortNumber.{PortNumber}
 use Rattle.port.specs.Sums.{isBadSpeed, isBadDirection}
-use Rattle.port.specs.Tags.{pick, speedOf, directionOf, flagOf, flagTag}
+use Rattle.port.specs.Tags.{speedOf, directionOf, flagOf, flagTag}
 
 abbrev pub splitNumbers : DmaSplit → PortSplit
 splitNumbers s = record { count = s .count; chunk = s .chunk; last = s .last }
@@ -49,7 +49,7 @@ roleNumber role.ControlData = 2
 roleNumber role.ControlStatus = 3
 
 abbrev pub roleOf : ℕ → Dwc2StageRole
-roleOf n = pick (eqb n 0) role.Data (pick (eqb n 1) role.ControlSetup (pick (eqb n 2) role.ControlData role.ControlStatus))
+roleOf n = cond (eqb n 0) role.Data (cond (eqb n 1) role.ControlSetup (cond (eqb n 2) role.ControlData role.ControlStatus))
 
 abbrev pub isBadRole : ℕ → Bool
 isBadRole n = ltb 3 n
@@ -86,12 +86,12 @@ lengthNumber (Moved bytes) = record { refusal = 0; value = bytes }
 lengthNumber (Refused answer) = record { refusal = answerNumber answer; value = 0 }
 
 abbrev pub stageMovedNumber : PortStage → List ℕ → PortNumber
-stageMovedNumber s array = pick (isBadRole (s .role)) (record { refusal = 18; value = 0 }) (lengthNumber (stageLength (stageOf s) array))
+stageMovedNumber s array = cond (isBadRole (s .role)) (record { refusal = 18; value = 0 }) (lengthNumber (stageLength (stageOf s) array))
 
 -- ---- bulk and interrupt
 
 abbrev pub kindOf : ℕ → DataKind
-kindOf n = pick (eqb n 2) Bulk Interrupt
+kindOf n = cond (eqb n 2) Bulk Interrupt
 
 abbrev pub isBadKind : ℕ → Bool
 isBadKind n = ltb n 2 || ltb 3 n
@@ -127,10 +127,10 @@ abbrev pub unnamedData : PortDataPlan
 unnamedData = record { refusal = 18; toggle = 0; count = 0; stages = replicate 4 blankNumbers }
 
 abbrev pub dataPlanNumbers : PortDataRequest → ℕ → PortDataPlan
-dataPlanNumbers r words = pick (isBadData r) unnamedData (dataNumbers (dataPlan (dataRequestOf r) words))
+dataPlanNumbers r words = cond (isBadData r) unnamedData (dataNumbers (dataPlan (dataRequestOf r) words))
 
 abbrev pub dataArrayAfter : PortDataRequest → List ℕ → List ℕ
-dataArrayAfter r array = pick (isBadData r) array (dataArray (dataRequestOf r) array)
+dataArrayAfter r array = cond (isBadData r) array (dataArray (dataRequestOf r) array)
 
 -- ---- control
 
@@ -161,18 +161,18 @@ unnamedControl = record { refusal = 18; «has_data» = 0; setup = blankNumbers; 
 
 abbrev pub controlPlanNumbers : PortControlRequest → ℕ → PortControlPlan
 controlPlanNumbers r words =
-    pick (isBadDirection (r .direction)) unnamedControl (controlNumbers (controlPlan (controlRequestOf r) words))
+    cond (isBadDirection (r .direction)) unnamedControl (controlNumbers (controlPlan (controlRequestOf r) words))
 
 abbrev pub controlArrayAfter : PortControlRequest → List ℕ → List ℕ
-controlArrayAfter r array = pick (isBadDirection (r .direction)) array (controlArray (controlRequestOf r) array)
+controlArrayAfter r array = cond (isBadDirection (r .direction)) array (controlArray (controlRequestOf r) array)
 
 -- ---- the setup packet: USB 2.0, table 9-2
 
 abbrev pub requestTypeOf : ℕ → RequestType
-requestTypeOf n = pick (eqb n 0) Standard (pick (eqb n 1) Class (pick (eqb n 2) Vendor Reserved))
+requestTypeOf n = cond (eqb n 0) Standard (cond (eqb n 1) Class (cond (eqb n 2) Vendor Reserved))
 
 abbrev pub recipientOf : ℕ → Recipient
-recipientOf n = pick (eqb n 0) Device (pick (eqb n 1) Interface (pick (eqb n 2) Endpoint Other))
+recipientOf n = cond (eqb n 0) Device (cond (eqb n 1) Interface (cond (eqb n 2) Endpoint Other))
 
 abbrev pub isBadSetup : ℕ → ℕ → ℕ → Bool
 isBadSetup type recipient direction = ltb 3 type || (ltb 3 recipient || isBadDirection direction)
@@ -189,5 +189,5 @@ unnamedSetup = record { refusal = 18; bytes = replicate 8 0 }
 
 abbrev pub setupPacketNumbers : ℕ → ℕ → ℕ → ℕ → ℕ → ℕ → ℕ → PortSetupPacket
 setupPacketNumbers type recipient direction request value index len =
-    pick (isBadSetup type recipient direction) unnamedSetup
+    cond (isBadSetup type recipient direction) unnamedSetup
     (setupNumbers (setupPacket (setupOf type recipient request value index) (directionOf direction) len))

@@ -1,6 +1,6 @@
 -- Enums as bytes (docs/LAYOUT.md): the number of each case, and the case of each number. A number that names nothing is refused before it is
 -- read, so what stands for it here is never seen.
-use mathlib.Core.Bool.{Bool, true, false, not, _||_, _&&_}
+use mathlib.Core.Bool.{Bool, true, false, not, _||_, _&&_, cond}
 use mathlib.Core.List.{List, _∷_}
 use Prim.Native.Nat.{ℕ}
 use lib.Dec.{eqb, leb, ltb}
@@ -25,38 +25,34 @@ use Rattle.session.specs.declared.types.IsoFatal.the-variants as fatal
 use Rattle.port.specs.declared.tags.Tagged.{Tagged}
 use Rattle.port.specs.Bytes.{byteOf, u32Of, u32Bytes}
 
-abbrev pub pick : {A : Type 0} → Bool → A → A → A
-pick true a b = a
-pick false a b = b
-
 abbrev pub speedTag : Speed → ℕ
 speedTag High = 0
 speedTag Full = 1
 speedTag Low = 2
 
 abbrev pub speedOf : ℕ → Speed
-speedOf tag = pick (eqb tag 0) High (pick (eqb tag 1) Full Low)
+speedOf tag = cond (eqb tag 0) High (cond (eqb tag 1) Full Low)
 
 abbrev pub directionTag : Direction → ℕ
 directionTag Out = 0
 directionTag In = 1
 
 abbrev pub directionOf : ℕ → Direction
-directionOf tag = pick (eqb tag 0) Out In
+directionOf tag = cond (eqb tag 0) Out In
 
 abbrev pub modeTag : IsoMode → ℕ
 modeTag Compatible = 0
 modeTag Guarded = 1
 
 abbrev pub modeOf : ℕ → IsoMode
-modeOf tag = pick (eqb tag 0) Compatible Guarded
+modeOf tag = cond (eqb tag 0) Compatible Guarded
 
 abbrev pub statusTag : TransferStatus → ℕ
 statusTag Completed = 0
 statusTag Error = 1
 
 abbrev pub statusOf : ℕ → TransferStatus
-statusOf tag = pick (eqb tag 0) Completed Error
+statusOf tag = cond (eqb tag 0) Completed Error
 
 -- a yes is 1
 abbrev pub flagTag : Bool → ℕ
@@ -69,9 +65,9 @@ flagOf tag = not (eqb tag 0)
 -- a fault is its bit of HCINT
 abbrev pub faultOf : ℕ → Dwc2TransferFault
 faultOf kind =
-    pick (eqb kind 2) fault.Ahb
-    (pick (eqb kind 3) fault.Stall
-    (pick (eqb kind 7) fault.Transaction (pick (eqb kind 8) fault.Babble (pick (eqb kind 9) fault.FrameOverrun fault.DataToggle))))
+    cond (eqb kind 2) fault.Ahb
+    (cond (eqb kind 3) fault.Stall
+    (cond (eqb kind 7) fault.Transaction (cond (eqb kind 8) fault.Babble (cond (eqb kind 9) fault.FrameOverrun fault.DataToggle))))
 
 abbrev pub isFault : ℕ → Bool
 isFault kind = eqb kind 2 || (eqb kind 3 || (leb 7 kind && leb kind 10))
@@ -96,10 +92,10 @@ outcomeTagged (outcome.UnexpectedHalt word) = tagged 4 0 word
 
 abbrev pub outcomeOf : Tagged → IsoOutcome
 outcomeOf t =
-    pick (eqb (t .tag) 0) outcome.Done
-    (pick (eqb (t .tag) 1) outcome.Disconnected
-    (pick (eqb (t .tag) 2) outcome.Cancelled
-    (pick (eqb (t .tag) 3) (outcome.Fault (faultOf (t .kind)) (t .word)) (outcome.UnexpectedHalt (t .word)))))
+    cond (eqb (t .tag) 0) outcome.Done
+    (cond (eqb (t .tag) 1) outcome.Disconnected
+    (cond (eqb (t .tag) 2) outcome.Cancelled
+    (cond (eqb (t .tag) 3) (outcome.Fault (faultOf (t .kind)) (t .word)) (outcome.UnexpectedHalt (t .word)))))
 
 abbrev pub reasonTagged : IsoHaltReason → Tagged
 reasonTagged reason.Cancelled = tagged 1 0 0
@@ -111,8 +107,8 @@ fatalTagged (fatal.Reason r) = reasonTagged r
 
 abbrev pub fatalOf : Tagged → IsoFatal
 fatalOf t =
-    pick (eqb (t .tag) 0) fatal.Nothing
-    (pick (eqb (t .tag) 1) (fatal.Reason reason.Cancelled) (fatal.Reason (reason.Fault (faultOf (t .kind)) (t .word))))
+    cond (eqb (t .tag) 0) fatal.Nothing
+    (cond (eqb (t .tag) 1) (fatal.Reason reason.Cancelled) (fatal.Reason (reason.Fault (faultOf (t .kind)) (t .word))))
 
 -- tags up to `last`; the tag `fault` alone has a fault, and those below it have no word
 abbrev pub isBadTagged : ℕ → ℕ → Tagged → Bool

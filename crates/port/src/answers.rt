@@ -1,6 +1,5 @@
 // What the calls answer, as C has it: numbers only. include/dwc2_port.h says what each field means.
 ghost use mathlib.Core.Path.{_≡_};
-ghost use Prim.Native.Nat.{_≤_};
 ghost use Rattle.session.specs.Numbers.{openNumber, submitNumber, submitValue, answerNumber};
 ghost use Rattle.session.specs.declared.reply.ReclaimAnswer.the-variants.{Refused};
 ghost use Rattle.port.specs.Tags.{flagTag};

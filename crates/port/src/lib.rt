@@ -8,6 +8,8 @@ mod planning;
 mod requests;
 mod ring_sums;
 mod save;
+mod setup;
+mod stages;
 mod tags;
 
 pub use answers::PortReclaimed;

@@ -2,7 +2,7 @@
 ghost use mathlib.Core.Path.{_≡_};
 ghost use Prim.Native.Nat.{_≤_};
 ghost use lib.ListN.{length, drop};
-ghost use Rattle.port.specs.Layout.{configOf, headOf, requestOf, planOf, tableOf, anyOf, isBadRequestBytes, isBadPlanBytes, isBadMark, isBadHead, isBadLayout, layoutNumber, sessionOf};
+ghost use Rattle.port.specs.Layout.{configOf, headOf, requestOf, planOf, tableOf, anyOf, isBadRequestBytes, isBadPlanBytes, isBadMark, isBadHead, layoutNumber, sessionOf};
 use crate::entries::is_bad_plan_at;
 use crate::entries::is_bad_request_at;
 use crate::entries::plan_at;

@@ -1,49 +1,33 @@
-// Planning by numbers, for C. Each answers as crate `plan` does for what the numbers name; 18 and zeros, with nothing altered, where one
-// names nothing.
+// Bulk, interrupt and control plans by numbers, for C. Each answers as crate `plan` does for what the numbers name; 18 and zeros, with nothing
+// altered, where one names nothing.
 ghost use mathlib.Core.Path.{_≡_};
 ghost use lib.ListN.{length};
 ghost use Rattle.words.specs.Words.{packets};
 ghost use Rattle.plan.specs.Planning.{splitOf};
-ghost use Rattle.plan.specs.Numbers.{answerNumber};
-ghost use Rattle.port.specs.Tags.{flagTag};
-ghost use Rattle.port.specs.Planning.{splitNumbers, roleNumber, roleOf, isBadRole, stageNumbers, stageOf, blankNumbers, lengthNumber, stageMovedNumber, kindOf, isBadKind, dataRequestOf, isBadData, dataNumbers, unnamedData, dataPlanNumbers, dataArrayAfter, controlRequestOf, controlNumbers, unnamedControl, controlPlanNumbers, controlArrayAfter, requestTypeOf, recipientOf, isBadSetup, setupOf, setupNumbers, unnamedSetup, setupPacketNumbers};
-use crate::ring_sums::PortNumber;
+ghost use Rattle.port.specs.Planning.{splitNumbers, kindOf, dataRequestOf, isBadData, dataNumbers, unnamedData, dataPlanNumbers, dataArrayAfter};
+ghost use Rattle.port.specs.Planning.{controlRequestOf, controlNumbers, unnamedControl, controlPlanNumbers, controlArrayAfter};
+use crate::answers::flag;
 use crate::ring_sums::is_bad_direction;
 use crate::ring_sums::is_bad_speed;
+use crate::stages::PortStage;
+use crate::stages::answer_number;
+use crate::stages::blank_stage;
+use crate::stages::stage_numbers;
 use crate::tags::direction_of;
 use crate::tags::speed_of;
 use plan::ControlRequest;
-use plan::ControlSetup;
 use plan::DataKind;
 use plan::DataRequest;
 use plan::DataToggle;
 use plan::DmaSplit;
 use plan::Dwc2ControlPlan;
 use plan::Dwc2DataPlan;
-use plan::Dwc2StageRole;
-use plan::Dwc2TransferStage;
-use plan::PlanAnswer;
-use plan::Recipient;
-use plan::RequestType;
-use plan::SetupPacket;
-use plan::StageLength;
 
 #[repr(C)]
 pub struct PortSplit {
     pub count: u64,
     pub chunk: u32,
     pub last: u32,
-}
-
-#[repr(C)]
-pub struct PortStage {
-    pub role: u32,
-    pub hcchar: u32,
-    pub hctsiz: u32,
-    pub dma_addr: u32,
-    pub desc_base: u32,
-    pub descs: u32,
-    pub len: u32,
 }
 
 #[repr(C)]
@@ -88,12 +72,6 @@ pub struct PortControlPlan {
     pub status: PortStage,
 }
 
-#[repr(C)]
-pub struct PortSetupPacket {
-    pub refusal: u32,
-    pub bytes: [u8; 8],
-}
-
 fn split_numbers(s: DmaSplit) -> PortSplit
     ensures { λ r. ⌜ r ≡ splitNumbers s ⌝ }
 {
@@ -116,108 +94,6 @@ pub extern "C" fn dwc2_packet_count(len: u64, max_packet_size: u16) -> u64
     ensures { λ r. ⌜ r ≡ packets len «max_packet_size» ⌝ }
 {
     plan::packet_count(len, max_packet_size)
-}
-
-fn flag_number(flag: bool) -> u32
-    ensures { λ r. ⌜ r ≡ flagTag flag ⌝ }
-{
-    if flag { 1 } else { 0 }
-}
-
-fn answer_number(answer: PlanAnswer) -> u32
-    ensures { λ r. ⌜ r ≡ answerNumber answer ⌝ }
-{
-    match answer {
-        PlanAnswer::Planned => 0,
-        PlanAnswer::ShortBuffer => 17,
-        PlanAnswer::BadEndpoint => 18,
-        PlanAnswer::ControlTooLong => 19,
-        PlanAnswer::TooManyDescriptors => 20,
-        PlanAnswer::AddressLimit => 11,
-    }
-}
-
-fn role_number(role: Dwc2StageRole) -> u32
-    ensures { λ r. ⌜ r ≡ roleNumber role ⌝ }
-{
-    match role {
-        Dwc2StageRole::Data => 0,
-        Dwc2StageRole::ControlSetup => 1,
-        Dwc2StageRole::ControlData => 2,
-        Dwc2StageRole::ControlStatus => 3,
-    }
-}
-
-fn role_of(n: u32) -> Dwc2StageRole
-    ensures { λ r. ⌜ r ≡ roleOf n ⌝ }
-{
-    if n == 0 {
-        return Dwc2StageRole::Data;
-    }
-    if n == 1 {
-        return Dwc2StageRole::ControlSetup;
-    }
-    if n == 2 {
-        return Dwc2StageRole::ControlData;
-    }
-    Dwc2StageRole::ControlStatus
-}
-
-fn stage_numbers(s: Dwc2TransferStage) -> PortStage
-    ensures { λ r. ⌜ r ≡ stageNumbers s ⌝ }
-{
-    let role = s.role;
-    PortStage {
-        role: role_number(role),
-        hcchar: s.hcchar,
-        hctsiz: s.hctsiz,
-        dma_addr: s.dma_addr,
-        desc_base: s.desc_base,
-        descs: s.descs,
-        len: s.len,
-    }
-}
-
-fn stage_of(s: PortStage) -> Dwc2TransferStage
-    ensures { λ r. ⌜ r ≡ stageOf s ⌝ }
-{
-    Dwc2TransferStage {
-        role: role_of(s.role),
-        hcchar: s.hcchar,
-        hctsiz: s.hctsiz,
-        dma_addr: s.dma_addr,
-        desc_base: s.desc_base,
-        descs: s.descs,
-        len: s.len,
-    }
-}
-
-fn length_number(length: StageLength) -> PortNumber
-    ensures { λ r. ⌜ r ≡ lengthNumber length ⌝ }
-{
-    match length {
-        StageLength::Moved(bytes) => PortNumber {
-            refusal: 0,
-            value: bytes,
-        },
-        StageLength::Refused(answer) => PortNumber {
-            refusal: answer_number(answer),
-            value: 0,
-        },
-    }
-}
-
-#[no_mangle]
-pub extern "C" fn dwc2_stage_actual_length(stage: PortStage, array: &[u32]) -> PortNumber
-    ensures { λ r. ⌜ r ≡ stageMovedNumber stage (now (array .entry)) ⌝ }
-{
-    if stage.role > 3 {
-        return PortNumber {
-            refusal: 18,
-            value: 0,
-        };
-    }
-    length_number(plan::stage_actual_length(stage_of(stage), array))
 }
 
 fn kind_of(n: u8) -> DataKind
@@ -259,7 +135,7 @@ fn data_numbers(p: Dwc2DataPlan) -> PortDataPlan
     let toggle = p.toggle;
     PortDataPlan {
         refusal: answer_number(answer),
-        toggle: flag_number(toggle.0),
+        toggle: flag(toggle.0),
         count: p.count,
         stages: [
             stage_numbers(p.stages[0]),
@@ -267,20 +143,6 @@ fn data_numbers(p: Dwc2DataPlan) -> PortDataPlan
             stage_numbers(p.stages[2]),
             stage_numbers(p.stages[3]),
         ],
-    }
-}
-
-fn blank_stage() -> PortStage
-    ensures { λ r. ⌜ r ≡ blankNumbers ⌝ }
-{
-    PortStage {
-        role: 0,
-        hcchar: 0,
-        hctsiz: 0,
-        dma_addr: 0,
-        desc_base: 0,
-        descs: 0,
-        len: 0,
     }
 }
 
@@ -326,7 +188,7 @@ fn control_numbers(p: Dwc2ControlPlan) -> PortControlPlan
     let answer = p.answer;
     PortControlPlan {
         refusal: answer_number(answer),
-        has_data: flag_number(p.has_data),
+        has_data: flag(p.has_data),
         setup: stage_numbers(p.setup),
         data: stage_numbers(p.data),
         status: stage_numbers(p.status),
@@ -357,91 +219,4 @@ pub extern "C" fn dwc2_build_control_plan(
         return unnamed_control();
     }
     control_numbers(plan::build_control_plan(control_request_of(request), array))
-}
-
-fn request_type_of(n: u8) -> RequestType
-    ensures { λ r. ⌜ r ≡ requestTypeOf n ⌝ }
-{
-    if n == 0 {
-        return RequestType::Standard;
-    }
-    if n == 1 {
-        return RequestType::Class;
-    }
-    if n == 2 {
-        return RequestType::Vendor;
-    }
-    RequestType::Reserved
-}
-
-fn recipient_of(n: u8) -> Recipient
-    ensures { λ r. ⌜ r ≡ recipientOf n ⌝ }
-{
-    if n == 0 {
-        return Recipient::Device;
-    }
-    if n == 1 {
-        return Recipient::Interface;
-    }
-    if n == 2 {
-        return Recipient::Endpoint;
-    }
-    Recipient::Other
-}
-
-fn is_bad_setup(request_type: u8, recipient: u8, direction: u8) -> bool
-    ensures { λ b. ⌜ b ≡ isBadSetup «request_type» recipient direction ⌝ }
-{
-    (request_type > 3) | ((recipient > 3) | is_bad_direction(direction))
-}
-
-fn setup_of(request_type: u8, recipient: u8, request: u8, value: u16, index: u16) -> ControlSetup
-    ensures { λ r. ⌜ r ≡ setupOf «request_type» recipient request value index ⌝ }
-{
-    ControlSetup {
-        request_type: request_type_of(request_type),
-        recipient: recipient_of(recipient),
-        request,
-        value,
-        index,
-    }
-}
-
-fn setup_numbers(p: SetupPacket) -> PortSetupPacket
-    ensures { λ r. ⌜ r ≡ setupNumbers p ⌝ }
-{
-    let answer = p.answer;
-    let bytes = p.bytes;
-    PortSetupPacket {
-        refusal: answer_number(answer),
-        bytes,
-    }
-}
-
-fn unnamed_setup() -> PortSetupPacket
-    ensures { λ r. ⌜ r ≡ unnamedSetup ⌝ }
-{
-    PortSetupPacket {
-        refusal: 18,
-        bytes: [0; 8],
-    }
-}
-
-#[no_mangle]
-pub extern "C" fn dwc2_setup_packet_bytes(
-    request_type: u8,
-    recipient: u8,
-    direction: u8,
-    request: u8,
-    value: u16,
-    index: u16,
-    len: u64,
-) -> PortSetupPacket
-    ensures { λ r. ⌜ r ≡ setupPacketNumbers «request_type» recipient direction request value index len ⌝ }
-{
-    if is_bad_setup(request_type, recipient, direction) {
-        return unnamed_setup();
-    }
-    let setup = setup_of(request_type, recipient, request, value, index);
-    setup_numbers(plan::setup_packet_bytes(setup, direction_of(direction), len))
 }

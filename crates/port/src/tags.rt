@@ -1,8 +1,8 @@
 // Enums as bytes: the number of each case, and the case of each number.
 ghost use mathlib.Core.Path.{_≡_};
-ghost use Prim.Native.Nat.{_≤_};
 ghost use Rattle.words.specs.Numbers.{faultBit};
-ghost use Rattle.port.specs.Tags.{speedTag, speedOf, directionTag, directionOf, modeTag, modeOf, statusTag, statusOf, flagTag, faultOf, isFault, outcomeTagged, outcomeOf, reasonTagged, fatalTagged, fatalOf, isBadTagged};
+ghost use Rattle.port.specs.Tags.{speedTag, speedOf, directionTag, directionOf, modeTag, modeOf, statusTag, statusOf, flagTag};
+ghost use Rattle.port.specs.Tags.{faultOf, isFault, outcomeTagged, outcomeOf, reasonTagged, fatalTagged, fatalOf, isBadTagged};
 use ring::Speed;
 use session::IsoFatal;
 use session::IsoHaltReason;

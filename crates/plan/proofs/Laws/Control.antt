@@ -1,6 +1,6 @@
 -- Control transfers: what the four tests leave of a request that is planned, and what its stages and its setup packet are.
 use mathlib.Core.Path.{_≡_, refl, _∙_, sym, ap, ap₂, subst}
-use mathlib.Core.Bool.{Bool, true, false, _||_, _&&_}
+use mathlib.Core.Bool.{Bool, true, false, _||_, _&&_, cond}
 use mathlib.Core.List.{List, [], _∷_}
 use mathlib.Core.Logic.{_≢_}
 use Prim.Native.Nat.{ℕ, zero, suc, _+_, _-_, _*_, _/_, _≤_, _<_, max}
@@ -23,7 +23,8 @@ use Rattle.plan.specs.Planning.{chunkOf, splitOf, stageOf, laidStage, la
 use Rattle.plan.specs.Refusals.{_⇒_, isShort, isBad}
 use Rattle.plan.specs.StageLength.{StageFits}
 use Rattle.plan.specs.DataStages.{isIn, blankStage}
-use Rattle.plan.specs.ControlPlan.{controlSize, statusDirection, statusAddr, statusWay, hasData, setupStage, dataStageOf, statusStage, pickStages, pickStage, controlStages, isTooLong, controlBeyond, controlAnswer, plannedControl, setupBytes}
+use Rattle.plan.specs.ControlPlan.{controlSize, statusDirection, statusAddr, statusWay, hasData, setupStage, dataStageOf, statusStage}
+use Rattle.plan.specs.ControlPlan.{controlStages, isTooLong, controlBeyond, controlAnswer, plannedControl, setupBytes}
 use Rattle.words.proofs.Laws.Tests.{neither}
 use Rattle.plan.proofs.Laws.Refusals.{none-holds}
 use Rattle.plan.proofs.Laws.Split.{empty-is-one-packet, parts-pos, rounded-fits, rounded-more}
@@ -112,7 +113,8 @@ planned-one-descriptor r words e =
     one-descriptor (r .len) (r .«max_packet_size») (f .short) (f .small)
 
 -- A stage of one descriptor fits where its descriptor and its bytes do.
-pub one-fits : (role : Dwc2StageRole) (hcchar : ℕ) (pid : Dwc2Pid) (addr base len words : ℕ) → 2 * (base + 1) ≤ words → addr + len ≤ 4_294_967_295 → StageFits (stageOf role hcchar pid addr base 1 len) words
+pub one-fits :
+    (role : Dwc2StageRole) (hcchar : ℕ) (pid : Dwc2Pid) (addr base len words : ℕ) → 2 * (base + 1) ≤ words → addr + len ≤ 4_294_967_295 → StageFits (stageOf role hcchar pid addr base 1 len) words
 one-fits role hcchar pid addr base len words room reach = record { some = omega arith; room = room; full = omega arith; reach = reach }
 
 -- the plan and the stages where there is data, and where there is none
@@ -122,15 +124,19 @@ plan-if r b =
       answer = Planned;
       «has_data» = b;
       setup = setupStage r;
-      «data» = pickStage b (dataStageOf r) blankStage;
-      status = pickStage b (statusStage r 2) (statusStage r 1);
+      «data» = cond b (dataStageOf r) blankStage;
+      status = cond b (statusStage r 2) (statusStage r 1);
     }
 
 abbrev stages-if : ControlRequest → Bool → List Dwc2TransferStage
-stages-if r b = pickStages b (setupStage r ∷ dataStageOf r ∷ statusStage r 2 ∷ []) (setupStage r ∷ statusStage r 1 ∷ [])
+stages-if r b = cond b (setupStage r ∷ dataStageOf r ∷ statusStage r 2 ∷ []) (setupStage r ∷ statusStage r 1 ∷ [])
 
 -- With data the plan has three stages, laid out one behind the other.
-pub planned-with-data : (r : ControlRequest) (array : List ℕ) {s d t : Dwc2TransferStage} {one two three : List ℕ} → 0 < r .len → s ≡ setupStage r → d ≡ dataStageOf r → t ≡ statusStage r 2 → one ≡ laidStage s array → two ≡ laidStage d one → three ≡ laidStage t two → (record { answer = Planned; «has_data» = true; setup = s; «data» = d; status = t } ≡ plannedControl r) × (three ≡ laidOut (controlStages r) array)
+pub planned-with-data :
+    (r : ControlRequest) (array : List ℕ) {s d t : Dwc2TransferStage} {one two three : List ℕ} → 0 < r .len → s ≡ setupStage r → d ≡ dataStageOf r
+    → t ≡ statusStage r 2 → one ≡ laidStage s array → two ≡ laidStage d one → three ≡ laidStage t two
+    → (record { answer = Planned; «has_data» = true; setup = s; «data» = d; status = t } ≡ plannedControl r)
+    × (three ≡ laidOut (controlStages r) array)
 planned-with-data r array some p q k first second third =
     let has : true ≡ hasData r = sym (lt-ltb 0 (r .len) some) in (
       rw (p, q, k) (ap (plan-if r) has),
@@ -139,7 +145,11 @@ planned-with-data r array some p q k first second third =
     )
 
 -- Without data it has two, and a blank one that is not run.
-pub planned-without : (r : ControlRequest) (array : List ℕ) {s d t : Dwc2TransferStage} {one two : List ℕ} → r .len ≤ 0 → s ≡ setupStage r → d ≡ blankStage → t ≡ statusStage r 1 → one ≡ laidStage s array → two ≡ laidStage t one → (record { answer = Planned; «has_data» = false; setup = s; «data» = d; status = t } ≡ plannedControl r) × (two ≡ laidOut (controlStages r) array)
+pub planned-without :
+    (r : ControlRequest) (array : List ℕ) {s d t : Dwc2TransferStage} {one two : List ℕ} → r .len ≤ 0 → s ≡ setupStage r → d ≡ blankStage
+    → t ≡ statusStage r 1 → one ≡ laidStage s array → two ≡ laidStage t one
+    → (record { answer = Planned; «has_data» = false; setup = s; «data» = d; status = t } ≡ plannedControl r)
+    × (two ≡ laidOut (controlStages r) array)
 planned-without r array none p q k first second =
     let has : false ≡ hasData r = sym (le-ltb 0 (r .len) none) in (
       rw (p, q, k) (ap (plan-if r) has),

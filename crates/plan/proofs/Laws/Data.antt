@@ -1,6 +1,6 @@
 -- Laws of bulk and interrupt plans: what an accepted request says of its numbers, and how one stage follows another.
 use mathlib.Core.Path.{_≡_, _∙_, sym, ap, subst⁻¹}
-use mathlib.Core.Bool.{Bool, true, false, _||_}
+use mathlib.Core.Bool.{Bool, true, false, _||_, cond}
 use mathlib.Core.List.{List, [], _∷_, _++_}
 use Prim.Native.Nat.{ℕ, zero, suc, _+_, _-_, _*_, _≤_, _<_, max}
 use native.Mathlib.Nat.{add-zero, zero-add, add-mul, mul-le-mul, le-trans, sub-le, div-mul-le-self, mod-eq-of-lt}
@@ -21,7 +21,7 @@ use Rattle.plan.specs.declared.types.PlanAnswer.{PlanAnswer}
 use Rattle.plan.specs.declared.types.PlanAnswer.the-variants.{Planned, ShortBuffer, BadEndpoint, TooManyDescriptors, AddressLimit}
 use Rattle.plan.specs.declared.toggle.DataToggle.{DataToggle}
 use Rattle.plan.specs.Planning.{chunkOf, splitOf, advanced, laidStage, laidOut}
-use Rattle.plan.specs.DataStages.{isIn, epTypeOf, isLow, oddOf, sizeOf, dataHcchar, dataStage, pickStages, stagesFrom, toggleAfter, blankStage, stageTable, blankPlan, withStage, dataAnswer}
+use Rattle.plan.specs.DataStages.{isIn, epTypeOf, isLow, oddOf, sizeOf, dataHcchar, dataStage, stagesFrom, toggleAfter, blankStage, stageTable, blankPlan, withStage, dataAnswer}
 use Rattle.plan.specs.StageLength.{StageFits}
 use Rattle.plan.specs.Refusals.{_⇒_, isShort, isBad}
 use Rattle.words.proofs.Laws.Tests.{neither}
@@ -55,7 +55,11 @@ pub record Accepted (r : DataRequest) (words : ℕ) : Type 0 where
 
 pub accepted : (r : DataRequest) (words : ℕ) → dataAnswer r words ≡ Planned → Accepted r words
 accepted r words e =
-    let n = none-holds (isShort words ⇒ ShortBuffer ∷ isBad (r .endpoint) (r .device) (r .«max_packet_size») ⇒ BadEndpoint ∷ ltb 1024 (splitOf (r .len) (sizeOf r) .count) ⇒ TooManyDescriptors ∷ isBeyond (r .base) (initialLen (r .len) (sizeOf r) (isIn (r .direction))) ⇒ AddressLimit ∷ []) tt e in
+    let n =
+    none-holds
+    (isShort words ⇒ ShortBuffer ∷ isBad (r .endpoint) (r .device) (r .«max_packet_size») ⇒ BadEndpoint
+    ∷ ltb 1024 (splitOf (r .len) (sizeOf r) .count) ⇒ TooManyDescriptors
+    ∷ isBeyond (r .base) (initialLen (r .len) (sizeOf r) (isIn (r .direction))) ⇒ AddressLimit ∷ []) tt e in
     let device = neither (ltb 15 (r .endpoint)) (ltb 127 (r .device) || ltb 2047 (r .«max_packet_size»)) (n .1 .0) in
     let packet = neither (ltb 127 (r .device)) (ltb 2047 (r .«max_packet_size»)) (device .1) in
     record {
@@ -73,18 +77,27 @@ unfolding stagesFrom
 stages-last hcchar m zero descs len addr base t some h = absurd (omega arith)
 stages-last hcchar m (suc fuel) descs len addr base t some h = rw (le-leb descs 256 h)
 
--- more are a stage of 256, and the stages of the rest behind it
+-- more than 256 descriptors are a stage of 256, and the stages of the rest behind it
+pub stages-next :
+    (hcchar m fuel descs len addr base : ℕ) (t : Bool) → 256 < descs
+    → stagesFrom hcchar m (suc fuel) descs len addr base t
+    ≡ dataStage hcchar 256 (256 * chunkOf m) addr base t
+    ∷ stagesFrom hcchar m fuel (descs - 256) (len - 256 * chunkOf m) (addr + 256 * chunkOf m) (base + 256) (advanced t (packets (256 * chunkOf m) m))
+unfolding stagesFrom
+stages-next hcchar m fuel descs len addr base t h = rw (lt-leb descs 256 h)
+
+-- the same where the stages still asked for are some
 pub stages-more :
     (hcchar m fuel descs len addr base : ℕ) (t : Bool) → 0 < fuel → 256 < descs
     → stagesFrom hcchar m fuel descs len addr base t
     ≡ dataStage hcchar 256 (256 * chunkOf m) addr base t
     ∷ stagesFrom hcchar m (fuel - 1) (descs - 256) (len - 256 * chunkOf m) (addr + 256 * chunkOf m) (base + 256) (advanced t (packets (256 * chunkOf m) m))
-unfolding stagesFrom
 stages-more hcchar m zero descs len addr base t some h = absurd (omega arith)
 stages-more hcchar m (suc fuel) descs len addr base t some h =
+    let k = 256 * chunkOf m in
+    let rest : ℕ → List Dwc2TransferStage = λ n. stagesFrom hcchar m n (descs - 256) (len - k) (addr + k) (base + 256) (advanced t (packets k m)) in
     let one-less : fuel ≡ suc fuel - 1 = omega arith in
-    rw (lt-leb descs 256 h)
-    (ap (λ (n : ℕ). dataStage hcchar 256 (256 * chunkOf m) addr base t ∷ stagesFrom hcchar m n (descs - 256) (len - 256 * chunkOf m) (addr + 256 * chunkOf m) (base + 256) (advanced t (packets (256 * chunkOf m) m))) one-less)
+    stages-next hcchar m fuel descs len addr base t h ∙ ap (λ (n : ℕ). dataStage hcchar 256 k addr base t ∷ rest n) one-less
 
 -- there are no more stages than asked for
 pub stages-few : (hcchar m fuel descs len addr base : ℕ) (t : Bool) → length (stagesFrom hcchar m fuel descs len addr base t) ≤ fuel
@@ -94,7 +107,7 @@ stages-few hcchar m (suc fuel) descs len addr base t =
     go (leb descs 256) (dataStage hcchar descs len addr base t) (dataStage hcchar 256 (256 * chunkOf m) addr base t) _
     (stages-few hcchar m fuel (descs - 256) (len - 256 * chunkOf m) (addr + 256 * chunkOf m) (base + 256) (advanced t (packets (256 * chunkOf m) m)))
   where
-    go : (b : Bool) (s r : Dwc2TransferStage) (rest : List Dwc2TransferStage) → length rest ≤ fuel → length (pickStages b (s ∷ []) (r ∷ rest)) ≤ suc fuel
+    go : (b : Bool) (s r : Dwc2TransferStage) (rest : List Dwc2TransferStage) → length rest ≤ fuel → length (cond b (s ∷ []) (r ∷ rest)) ≤ suc fuel
     go true s r rest h = omega arith
     go false s r rest h = omega arith
 

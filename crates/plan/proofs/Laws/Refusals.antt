@@ -7,7 +7,7 @@ use native.Mathlib.Omega.{arith}
 use lib.Dec.{T}
 use Rattle.plan.specs.declared.types.PlanAnswer.{PlanAnswer}
 use Rattle.plan.specs.declared.types.PlanAnswer.the-variants.{Planned, ShortBuffer, BadEndpoint, ControlTooLong, TooManyDescriptors, AddressLimit}
-use Rattle.plan.specs.Refusals.{Check, pickAnswer, firstOf, isPlanned, ifPlanned}
+use Rattle.plan.specs.Refusals.{Check, firstOf, isPlanned, ifPlanned}
 
 -- every test of the list refuses
 abbrev pub Refusing : List Check → Bool
@@ -23,20 +23,20 @@ both : (a b : Bool) → T (a && b) → T a × T b
 both true b t = (tt, t)
 both false b t = absurd t
 
-pick-planned : (b : Bool) (a rest : PlanAnswer) → T (not (isPlanned a)) → pickAnswer b a rest ≡ Planned → (b ≡ false) × (rest ≡ Planned)
-pick-planned false a rest r e = (refl, e)
-pick-planned true Planned rest r e = absurd r
-pick-planned true ShortBuffer rest r e = let z : _≡_ {A = ℕ} 0 1 = cc in absurd (omega arith)
-pick-planned true BadEndpoint rest r e = let z : _≡_ {A = ℕ} 0 1 = cc in absurd (omega arith)
-pick-planned true ControlTooLong rest r e = let z : _≡_ {A = ℕ} 0 1 = cc in absurd (omega arith)
-pick-planned true TooManyDescriptors rest r e = let z : _≡_ {A = ℕ} 0 1 = cc in absurd (omega arith)
-pick-planned true AddressLimit rest r e = let z : _≡_ {A = ℕ} 0 1 = cc in absurd (omega arith)
+cond-planned : (b : Bool) (a rest : PlanAnswer) → T (not (isPlanned a)) → cond b a rest ≡ Planned → (b ≡ false) × (rest ≡ Planned)
+cond-planned false a rest r e = (refl, e)
+cond-planned true Planned rest r e = absurd r
+cond-planned true ShortBuffer rest r e = let z : _≡_ {A = ℕ} 0 1 = cc in absurd (omega arith)
+cond-planned true BadEndpoint rest r e = let z : _≡_ {A = ℕ} 0 1 = cc in absurd (omega arith)
+cond-planned true ControlTooLong rest r e = let z : _≡_ {A = ℕ} 0 1 = cc in absurd (omega arith)
+cond-planned true TooManyDescriptors rest r e = let z : _≡_ {A = ℕ} 0 1 = cc in absurd (omega arith)
+cond-planned true AddressLimit rest r e = let z : _≡_ {A = ℕ} 0 1 = cc in absurd (omega arith)
 
 pub none-holds : (cs : List Check) → T (Refusing cs) → firstOf cs ≡ Planned → NoneHolds cs
 none-holds [] r e = tt
 none-holds (c ∷ cs) r e =
     let s = both (not (isPlanned (c .answer))) (Refusing cs) r in
-    let p = pick-planned (c .holds) (c .answer) (firstOf cs) (s .0) e in
+    let p = cond-planned (c .holds) (c .answer) (firstOf cs) (s .0) e in
     (p .0, none-holds cs (s .1) (p .1))
 
 pub planned : (answer : PlanAnswer) → isPlanned answer ≡ true → answer ≡ Planned

@@ -5,7 +5,8 @@ use mathlib.Core.Bool.{Bool, true, false, not, cond}
 use mathlib.Core.List.{List, [], _∷_, _++_}
 use mathlib.Core.Logic.{⊎-elim}
 use Prim.Native.Nat.{ℕ, zero, suc, _+_, _-_, _*_, _/_, _%_, _≤_, _<_, _∣_, max}
-use native.Mathlib.Nat.{zero-add, zero-mul, one-mul, suc-mul, add-mul, mul-assoc, add-assoc, mul-le-mul-right, add-div-right, mul-add-div-right, div-mul-le-self, lt-div-mul-add, eq-or-lt-of-le, le-div-iff-mul-le, div-lt-iff-lt-mul, div-eq-of-lt, div-mul-cancel, dvd-mul-left, mod-lt, add-mod}
+use native.Mathlib.Nat.{zero-add, zero-mul, one-mul, suc-mul, add-mul, mul-assoc, add-assoc, mul-le-mul-right, add-div-right, mul-add-div-right, div-mul-le-self}
+use native.Mathlib.Nat.{lt-div-mul-add, eq-or-lt-of-le, le-div-iff-mul-le, div-lt-iff-lt-mul, div-eq-of-lt, div-mul-cancel, dvd-mul-left, mod-lt, add-mod}
 use native.Mathlib.Omega.{arith}
 use lib.Arith.{digits-div}
 use lib.Dec.{eqb}

@@ -11,7 +11,6 @@ use borrow.Author.Tests.{eq-eqb, ne-eqb, ltb-false}
 use Rattle.session.specs.declared.reply.IsoReply.{IsoReply}
 use Rattle.session.specs.declared.types.IsoChannelState.{IsoChannelState}
 use Rattle.port.specs.declared.answers.PortReply.{PortReply}
-use Rattle.port.specs.Tags.{pick}
 use Rattle.port.specs.Layout.{isBadLayout, layoutNumber, sessionOf, saved}
 use Rattle.port.specs.Calls.{byBytes, bytesBy, replyBy, replyPort, replyRefused}
 
@@ -27,7 +26,7 @@ module _ {A : Type 0} (xs : List ℕ) (refuse : ℕ → A) where
   pub refused : (call : IsoChannelState → A) {n : ℕ} → n ≡ layoutNumber xs → (n ≡ 0 → ⊥) → refuse n ≡ byBytes xs refuse call
   refused call {n} e z =
       let test : eqb (layoutNumber xs) 0 ≡ false = ap (λ (k : ℕ). eqb k 0) (sym e) ∙ ne-eqb n 0 z in
-      ap refuse e ∙ sym (ap (λ (b : Bool). pick b (call (sessionOf xs)) (refuse (layoutNumber xs))) test)
+      ap refuse e ∙ sym (ap (λ (b : Bool). cond b (call (sessionOf xs)) (refuse (layoutNumber xs))) test)
 
   -- `r` is what the call gave for the session that was loaded, and `out` what is made of it
   pub done :
@@ -36,7 +35,7 @@ module _ {A : Type 0} (xs : List ℕ) (refuse : ℕ → A) where
       → out r ≡ byBytes xs refuse (λ (t : IsoChannelState). out (call t))
   done call out {n} e z l g =
       let test : eqb (layoutNumber xs) 0 ≡ true = ap (λ (k : ℕ). eqb k 0) (sym e) ∙ eq-eqb n 0 z in
-      ap out (g ∙ ap call l) ∙ sym (ap (λ (b : Bool). pick b (out (call (sessionOf xs))) (refuse (layoutNumber xs))) test)
+      ap out (g ∙ ap call l) ∙ sym (ap (λ (b : Bool). cond b (out (call (sessionOf xs))) (refuse (layoutNumber xs))) test)
 
 -- the answer and the bytes of poll, cancel, reset and recover
 module _ (xs : List ℕ) (call : IsoChannelState → IsoReply) where

@@ -1,6 +1,6 @@
 -- Planning by numbers: what is answered where a number names nothing, and where all name something; and that a stage which planning hands out
 -- is read as the stage that it was.
-use mathlib.Core.Bool.{Bool, true, false}
+use mathlib.Core.Bool.{Bool, true, false, cond}
 use mathlib.Core.List.{List, [], _∷_, map}
 use mathlib.Core.Path.{_≡_, refl, sym, ap, _∙_}
 use Prim.Native.Nat.{ℕ}
@@ -21,19 +21,19 @@ use Rattle.port.specs.declared.planning.PortControlPlan.{PortControlPlan
 use Rattle.port.specs.declared.planning.PortControlRequest.{PortControlRequest}
 use Rattle.port.specs.declared.planning.PortDataPlan.{PortDataPlan}
 use Rattle.port.specs.declared.planning.PortDataRequest.{PortDataRequest}
-use Rattle.port.specs.declared.planning.PortStage.{PortStage}
+use Rattle.port.specs.declared.stages.PortStage.{PortStage}
 use Rattle.port.specs.Planning.{roleNumber, roleOf, isBadRole, stageNumbers, stageOf, lengthNumber, stageMovedNumber}
 use Rattle.port.specs.Planning.{dataRequestOf, isBadData, dataNumbers, unnamedData, dataPlanNumbers, dataArrayAfter}
 use Rattle.port.specs.Planning.{controlRequestOf, controlNumbers, unnamedControl, controlPlanNumbers, controlArrayAfter}
 use Rattle.port.specs.Sums.{isBadDirection}
-use Rattle.port.specs.Tags.{pick, flagTag}
+use Rattle.port.specs.Tags.{flagTag}
 
 -- the first where the test holds, the second where it does not
-pub first-of : {A : Type 0} (a b : A) {t bad : Bool} {x : A} → t ≡ bad → t ≡ true → x ≡ a → x ≡ pick bad a b
-first-of a b e h p = p ∙ ap (λ (t : Bool). pick t a b) (sym h ∙ e)
+pub first-of : {A : Type 0} (a b : A) {t bad : Bool} {x : A} → t ≡ bad → t ≡ true → x ≡ a → x ≡ cond bad a b
+first-of a b e h p = p ∙ ap (λ (t : Bool). cond t a b) (sym h ∙ e)
 
-pub second-of : {A : Type 0} (a b : A) {t bad : Bool} {x : A} → t ≡ bad → t ≡ false → x ≡ b → x ≡ pick bad a b
-second-of a b e h p = p ∙ ap (λ (t : Bool). pick t a b) (sym h ∙ e)
+pub second-of : {A : Type 0} (a b : A) {t bad : Bool} {x : A} → t ≡ bad → t ≡ false → x ≡ b → x ≡ cond bad a b
+second-of a b e h p = p ∙ ap (λ (t : Bool). cond t a b) (sym h ∙ e)
 
 pub four :
     {A B : Type 0} (f : A → B) (xs : List A) (d : A) → length xs ≡ 4

@@ -1,6 +1,6 @@
 -- Submitting and opening by bytes, at each way out.
 use mathlib.Core.Path.{_≡_, _∙_, sym, ap}
-use mathlib.Core.Bool.{Bool, true, false}
+use mathlib.Core.Bool.{Bool, true, false, cond}
 use mathlib.Core.List.{List}
 use Prim.Native.Nat.{ℕ, _≤_, _<_}
 use lib.Dec.{eqb, ltb}
@@ -17,7 +17,6 @@ use Rattle.session.specs.declared.types.IsoConfig.{IsoConfig}
 use Rattle.session.specs.declared.types.IsoChannelState.{IsoChannelState}
 use Rattle.port.specs.declared.answers.PortSubmitted.{PortSubmitted}
 use Rattle.port.specs.declared.answers.PortTransfer.{PortTransfer}
-use Rattle.port.specs.Tags.{pick}
 use Rattle.port.specs.Layout.{layoutNumber, sessionOf, saved}
 use Rattle.port.specs.Calls.{byBytes, byKind, submitRefused, submittedPort, transferOf, submitBy, submitBytes, submitRing, byOpen, openBy, openBytes, openRing}
 use Rattle.port.proofs.Laws.Calls.{refused, done}
@@ -26,14 +25,14 @@ use Rattle.port.proofs.Laws.Calls.{refused, done}
 
 module _ {A : Type 0} (xs : List ℕ) (kind : ℕ) (refuse : ℕ → A) where
   kind-refused : (call : IsoChannelState → A) {n : ℕ} → n ≡ layoutNumber xs → (n ≡ 0 → ⊥) → refuse n ≡ byKind kind xs refuse call
-  kind-refused call e z = refused xs refuse (λ (s : IsoChannelState). pick (ltb 3 kind) (refuse 18) (call s)) e z
+  kind-refused call e z = refused xs refuse (λ (s : IsoChannelState). cond (ltb 3 kind) (refuse 18) (call s)) e z
 
   kind-bad : (call : IsoChannelState → A) {n : ℕ} → n ≡ layoutNumber xs → n ≡ 0 → 3 < kind → refuse 18 ≡ byKind kind xs refuse call
   kind-bad call {n} e z h =
       let test : eqb (layoutNumber xs) 0 ≡ true = ap (λ (k : ℕ). eqb k 0) (sym e) ∙ eq-eqb n 0 z in
       sym
-      (ap (λ (b : Bool). pick b (pick (ltb 3 kind) (refuse 18) (call (sessionOf xs))) (refuse (layoutNumber xs))) test
-      ∙ ap (λ (b : Bool). pick b (refuse 18) (call (sessionOf xs))) (lt-ltb 3 kind h))
+      (ap (λ (b : Bool). cond b (cond (ltb 3 kind) (refuse 18) (call (sessionOf xs))) (refuse (layoutNumber xs))) test
+      ∙ ap (λ (b : Bool). cond b (refuse 18) (call (sessionOf xs))) (lt-ltb 3 kind h))
 
   kind-done :
       {R : Type 0} (call : IsoChannelState → R) (out : R → A) {n : ℕ} {s : IsoChannelState} {r : R} → n ≡ layoutNumber xs → n ≡ 0 → kind ≤ 3
@@ -42,7 +41,7 @@ module _ {A : Type 0} (xs : List ℕ) (kind : ℕ) (refuse : ℕ → A) where
       → out r ≡ byKind kind xs refuse (λ (t : IsoChannelState). out (call t))
   kind-done call out e z h l g =
       done xs refuse call out e z l g
-      ∙ ap (λ (b : Bool). byBytes xs refuse (λ (t : IsoChannelState). pick b (refuse 18) (out (call t)))) (sym (le-ltb 3 kind h))
+      ∙ ap (λ (b : Bool). byBytes xs refuse (λ (t : IsoChannelState). cond b (refuse 18) (out (call t)))) (sym (le-ltb 3 kind h))
 
 module _ (xs : List ℕ) (t : PortTransfer) (lengths ring : List ℕ) where
   abbrev answerFor : IsoChannelState → PortSubmitted
@@ -94,13 +93,13 @@ module _ (xs : List ℕ) (t : PortTransfer) (lengths ring : List ℕ) where
 
 module _ {A : Type 0} (xs : List ℕ) (bad : Bool) (refuse : ℕ → A) (d : A) where
   open-17 : length xs < 8488 → refuse 17 ≡ byOpen xs bad refuse d
-  open-17 h = sym (ap (λ (b : Bool). pick b (refuse 17) (pick bad (refuse 18) d)) (lt-ltb (length xs) 8488 h))
+  open-17 h = sym (ap (λ (b : Bool). cond b (refuse 17) (cond bad (refuse 18) d)) (lt-ltb (length xs) 8488 h))
 
-  open-by : (c : Bool) → 8488 ≤ length xs → bad ≡ c → pick c (refuse 18) d ≡ byOpen xs bad refuse d
+  open-by : (c : Bool) → 8488 ≤ length xs → bad ≡ c → cond c (refuse 18) d ≡ byOpen xs bad refuse d
   open-by c h e =
       sym
-      (ap (λ (b : Bool). pick b (refuse 17) (pick bad (refuse 18) d)) (le-ltb (length xs) 8488 h)
-      ∙ ap (λ (b : Bool). pick b (refuse 18) d) e)
+      (ap (λ (b : Bool). cond b (refuse 17) (cond bad (refuse 18) d)) (le-ltb (length xs) 8488 h)
+      ∙ ap (λ (b : Bool). cond b (refuse 18) d) e)
 
 module _ (xs : List ℕ) (bad : Bool) (cfg : IsoConfig) (ring : List ℕ) where
   abbrev Opens : ℕ → List ℕ → List ℕ → Type 0

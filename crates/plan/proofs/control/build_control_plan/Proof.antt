@@ -25,7 +25,9 @@ same-length c = search needs
 returns : tie.Need-returns
 returns c =
     let a = c .before .before .before .before .before .before .before .before .args in
-    let yes : isPlanned (controlAnswer (a .request) (length (a .array .now))) ≡ true = ap isPlanned (sym (c .before .before .before .before .before .before .control-answer .ensures)) ∙ sym (c .before .before .before .before .before .is-planned .ensures) ∙ c .before .before .before .before .if1 .taken in (
+    let yes : isPlanned (controlAnswer (a .request) (length (a .array .now))) ≡ true =
+    ap isPlanned (sym (c .before .before .before .before .before .before .control-answer .ensures))
+    ∙ sym (c .before .before .before .before .before .is-planned .ensures) ∙ c .before .before .before .before .if1 .taken in (
       c .before .before .plan-control .ensures .0 ∙ sym (if-planned (controlAnswer (a .request) (length (a .array .now))) _ _ yes),
       c .before .before .plan-control .ensures .1 ∙ sym (if-planned (controlAnswer (a .request) (length (a .array .now))) _ _ yes),
     )
@@ -36,7 +38,8 @@ refuse-control-requires c κs = search needs
 returns-2 : tie.Need-returns-2
 returns-2 c =
     let a = c .before .before .before .before .before .args in
-    let no : isPlanned (controlAnswer (a .request) (length (a .array .now))) ≡ false = ap isPlanned (sym (c .before .before .before .control-answer .ensures)) ∙ sym (c .before .before .is-planned .ensures) ∙ c .before .if1 .left in (
+    let no : isPlanned (controlAnswer (a .request) (length (a .array .now))) ≡ false =
+    ap isPlanned (sym (c .before .before .before .control-answer .ensures)) ∙ sym (c .before .before .is-planned .ensures) ∙ c .before .if1 .left in (
       c .refuse-control .ensures ∙ ap refusedControl (c .before .before .before .control-answer .ensures) ∙ sym (if-refused (controlAnswer (a .request) (length (a .array .now))) _ _ no),
       sym (if-refused (controlAnswer (a .request) (length (a .array .now))) _ _ no),
     )

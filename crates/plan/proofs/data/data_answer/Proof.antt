@@ -35,14 +35,18 @@ returns-2 c =
 size-of-requires : tie.Need-size-of-requires
 size-of-requires c κs = search needs
 
-past2 : (c : tie.Else2) → isBad (c .before .before .before .args .request .endpoint) (c .before .before .before .args .request .device) (c .before .before .before .args .request .«max_packet_size») ≡ false
+past2 :
+    (c : tie.Else2)
+    → isBad (c .before .before .before .args .request .endpoint) (c .before .before .before .args .request .device) (c .before .before .before .args .request .«max_packet_size») ≡ false
 past2 c = sym (c .before .is-bad .ensures) ∙ c .if2 .left
 
 split-dma-lengths-requires : tie.Need-split-dma-lengths-requires
 split-dma-lengths-requires c κs = search needs
 
 -- the split is that of the size raised to 1
-split-is : (c : tie.After-split-dma-lengths) → c .split-dma-lengths .result .count ≡ splitOf (c .before .before .before .before .before .args .request .len) (sizeOf (c .before .before .before .before .before .args .request)) .count
+split-is :
+    (c : tie.After-split-dma-lengths)
+    → c .split-dma-lengths .result .count ≡ splitOf (c .before .before .before .before .before .args .request .len) (sizeOf (c .before .before .before .before .before .args .request)) .count
 split-is c =
     ap (λ (s : DmaSplit). s .count) (c .split-dma-lengths .ensures) ∙ ap (λ (m : ℕ). splitOf (c .before .before .before .before .before .args .request .len) m .count) (c .before .size-of .ensures)
 
@@ -54,7 +58,9 @@ returns-3 c =
     let e3 : ltb 1024 (splitOf (r .len) (sizeOf r) .count) ≡ true = lt-ltb 1024 _ (subst (λ (n : ℕ). 1024 < n) (split-is (c .before .before)) (c .if3 .taken)) in
     simp (e1, e2, e3)
 
-few : (c : tie.Else3) → splitOf (c .before .before .before .before .before .before .before .args .request .len) (sizeOf (c .before .before .before .before .before .before .before .args .request)) .count ≤ 1024
+few :
+    (c : tie.Else3)
+    → splitOf (c .before .before .before .before .before .before .before .args .request .len) (sizeOf (c .before .before .before .before .before .before .before .args .request)) .count ≤ 1024
 few c = subst (λ (n : ℕ). n ≤ 1024) (split-is (c .before .before)) (c .if3 .left)
 
 size-small : (c : tie.After-size-of) → sizeOf (c .before .before .before .before .args .request) ≤ 65_536
@@ -62,7 +68,12 @@ size-small c = omega (arith, c .size-of .ensures)
 
 cast-initial-len : tie.Need-cast-initial-len
 cast-initial-len c =
-    omega (arith, few-fit (c .before .before .before .before .before .before .before .before .args .request .len) (sizeOf (c .before .before .before .before .before .before .before .before .args .request)) (size-small (c .before .before .before .before)) (few (c .before)))
+    omega (
+      arith,
+      few-fit (c .before .before .before .before .before .before .before .before .args .request .len)
+          (sizeOf (c .before .before .before .before .before .before .before .before .args .request)) (size-small (c .before .before .before .before))
+          (few (c .before)),
+    )
 
 is-in-requires : tie.Need-is-in-requires
 is-in-requires c κs = search needs
@@ -73,16 +84,24 @@ initial-len-requires c κs = search needs
 is-beyond-requires : tie.Need-is-beyond-requires
 is-beyond-requires c κs = search needs
 
-beyond-is : (c : tie.After-is-beyond) → c .is-beyond .result ≡ isBeyond (c .before .before .before .before .before .before .before .before .before .before .before .args .request .base) (initialLen (c .before .before .before .before .before .before .before .before .before .before .before .args .request .len) (sizeOf (c .before .before .before .before .before .before .before .before .before .before .before .args .request)) (isIn (c .before .before .before .before .before .before .before .before .before .before .before .args .request .direction)))
+beyond-is :
+    (c : tie.After-is-beyond)
+    → c .is-beyond .result
+    ≡ isBeyond (c .before .before .before .before .before .before .before .before .before .before .before .args .request .base)
+    (initialLen (c .before .before .before .before .before .before .before .before .before .before .before .args .request .len)
+    (sizeOf (c .before .before .before .before .before .before .before .before .before .before .before .args .request))
+    (isIn (c .before .before .before .before .before .before .before .before .before .before .before .args .request .direction)))
 beyond-is c =
     let r = c .before .before .before .before .before .before .before .before .before .before .before .args .request in
     c .is-beyond .ensures
-    ∙ ap (isBeyond (r .base)) (c .before .initial-len .ensures ∙ ap₂ (initialLen (r .len)) (c .before .before .before .before .before .before .before .size-of .ensures) (c .before .before .is-in .ensures))
+    ∙ ap (isBeyond (r .base))
+    (c .before .initial-len .ensures ∙ ap₂ (initialLen (r .len)) (c .before .before .before .before .before .before .before .size-of .ensures) (c .before .before .is-in .ensures))
 
 returns-4 : tie.Need-returns-4
 returns-4 c =
     let r = c .before .before .before .before .before .before .before .before .before .before .before .before .args .request in
-    let e1 : isShort (c .before .before .before .before .before .before .before .before .before .before .before .before .args .words) ≡ false = past1 (c .before .before .before .before .before .before .before .before .before .before .before) in
+    let e1 : isShort (c .before .before .before .before .before .before .before .before .before .before .before .before .args .words) ≡ false =
+    past1 (c .before .before .before .before .before .before .before .before .before .before .before) in
     let e2 : isBad (r .endpoint) (r .device) (r .«max_packet_size») ≡ false = past2 (c .before .before .before .before .before .before .before .before .before) in
     let e3 : ltb 1024 (splitOf (r .len) (sizeOf r) .count) ≡ false = le-ltb 1024 _ (few (c .before .before .before .before .before)) in
     let e4 : isBeyond (r .base) (initialLen (r .len) (sizeOf r) (isIn (r .direction))) ≡ true = sym (beyond-is (c .before)) ∙ c .if4 .taken in
@@ -91,7 +110,8 @@ returns-4 c =
 returns-5 : tie.Need-returns-5
 returns-5 c =
     let r = c .before .before .before .before .before .before .before .before .before .before .before .before .args .request in
-    let e1 : isShort (c .before .before .before .before .before .before .before .before .before .before .before .before .args .words) ≡ false = past1 (c .before .before .before .before .before .before .before .before .before .before .before) in
+    let e1 : isShort (c .before .before .before .before .before .before .before .before .before .before .before .before .args .words) ≡ false =
+    past1 (c .before .before .before .before .before .before .before .before .before .before .before) in
     let e2 : isBad (r .endpoint) (r .device) (r .«max_packet_size») ≡ false = past2 (c .before .before .before .before .before .before .before .before .before) in
     let e3 : ltb 1024 (splitOf (r .len) (sizeOf r) .count) ≡ false = le-ltb 1024 _ (few (c .before .before .before .before .before)) in
     let e4 : isBeyond (r .base) (initialLen (r .len) (sizeOf r) (isIn (r .direction))) ≡ false = sym (beyond-is (c .before)) ∙ c .if4 .left in

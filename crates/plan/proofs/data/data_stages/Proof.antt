@@ -26,7 +26,9 @@ same-length c = search needs
 returns : tie.Need-returns
 returns c =
     let a = c .before .before .before .before .before .before .before .before .args in
-    let yes : isPlanned (dataAnswer (a .request) (length (a .array .now))) ≡ true = ap isPlanned (sym (c .before .before .before .before .before .before .data-answer .ensures)) ∙ sym (c .before .before .before .before .before .is-planned .ensures) ∙ c .before .before .before .before .if1 .taken in (
+    let yes : isPlanned (dataAnswer (a .request) (length (a .array .now))) ≡ true =
+    ap isPlanned (sym (c .before .before .before .before .before .before .data-answer .ensures))
+    ∙ sym (c .before .before .before .before .before .is-planned .ensures) ∙ c .before .before .before .before .if1 .taken in (
       c .before .before .plan-data .ensures .0 ∙ sym (if-planned (dataAnswer (a .request) (length (a .array .now))) _ _ yes),
       c .before .before .plan-data .ensures .1 ∙ sym (if-planned (dataAnswer (a .request) (length (a .array .now))) _ _ yes),
     )
@@ -37,8 +39,10 @@ blank-plan-requires c κs = search needs
 returns-2 : tie.Need-returns-2
 returns-2 c =
     let a = c .before .before .before .before .before .args in
-    let no : isPlanned (dataAnswer (a .request) (length (a .array .now))) ≡ false = ap isPlanned (sym (c .before .before .before .data-answer .ensures)) ∙ sym (c .before .before .is-planned .ensures) ∙ c .before .if1 .left in (
-      c .blank-plan .ensures ∙ ap (λ (x : PlanAnswer). blankPlan x (a .request .toggle)) (c .before .before .before .data-answer .ensures) ∙ sym (if-refused (dataAnswer (a .request) (length (a .array .now))) _ _ no),
+    let no : isPlanned (dataAnswer (a .request) (length (a .array .now))) ≡ false =
+    ap isPlanned (sym (c .before .before .before .data-answer .ensures)) ∙ sym (c .before .before .is-planned .ensures) ∙ c .before .if1 .left in (
+      c .blank-plan .ensures ∙ ap (λ (x : PlanAnswer). blankPlan x (a .request .toggle)) (c .before .before .before .data-answer .ensures)
+          ∙ sym (if-refused (dataAnswer (a .request) (length (a .array .now))) _ _ no),
       sym (if-refused (dataAnswer (a .request) (length (a .array .now))) _ _ no),
     )
 

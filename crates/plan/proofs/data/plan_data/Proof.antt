@@ -46,7 +46,8 @@ data-hcchar-requires c κs = tt
 facts : (c : tie.Start Inv-loop μ-loop) → Accepted (c .args .request) (length (c .args .array .now))
 facts c = accepted (c .args .request) (length (c .args .array .now)) (c .pre)
 
-split-is : (c : tie.After-split-dma-lengths Inv-loop μ-loop) → c .split-dma-lengths .result ≡ splitOf (c .before .before .before .args .request .len) (sizeOf (c .before .before .before .args .request))
+split-is :
+    (c : tie.After-split-dma-lengths Inv-loop μ-loop) → c .split-dma-lengths .result ≡ splitOf (c .before .before .before .args .request .len) (sizeOf (c .before .before .before .args .request))
 split-is c = c .split-dma-lengths .ensures ∙ ap (splitOf (c .before .before .before .args .request .len)) (c .before .size-of .ensures)
 
 chunk-is : (c : tie.After-split-dma-lengths Inv-loop μ-loop) → c .split-dma-lengths .result .chunk ≡ chunkOf (c .before .size-of .result)
@@ -78,13 +79,21 @@ cast-addr c = omega (arith, near (c .before .before .before .before .before .bef
 -- what is to do at first is the plan's stages
 start-is :
     (c : tie.After-blank-plan Inv-loop μ-loop)
-    → ahead (c .before .before .data-hcchar .result) (c .before .before .before .before .size-of .result) (c .blank-plan .result) (c .before .before .before .split-dma-lengths .result .count) (c .before .before .before .before .before .before .args .request .len) (c .before .before .before .before .before .before .args .request .base) 0
+    → ahead (c .before .before .data-hcchar .result) (c .before .before .before .before .size-of .result) (c .blank-plan .result)
+    (c .before .before .before .split-dma-lengths .result .count) (c .before .before .before .before .before .before .args .request .len)
+    (c .before .before .before .before .before .before .args .request .base) 0
     ≡ dataStages (c .before .before .before .before .before .before .args .request)
 start-is c =
     let r = c .before .before .before .before .before .before .args .request in
-    ap (λ (p : Dwc2DataPlan). ahead (c .before .before .data-hcchar .result) (c .before .before .before .before .size-of .result) p (c .before .before .before .split-dma-lengths .result .count) (r .len) (r .base) 0) (c .blank-plan .ensures)
-    ∙ ap (λ (s : DmaSplit). ahead (c .before .before .data-hcchar .result) (c .before .before .before .before .size-of .result) (blankPlan Planned (r .toggle)) (s .count) (r .len) (r .base) 0) (split-is (c .before .before .before))
-    ∙ ap₂ (λ (h m : ℕ). ahead h m (blankPlan Planned (r .toggle)) (splitOf (r .len) (sizeOf r) .count) (r .len) (r .base) 0) (c .before .before .data-hcchar .ensures) (c .before .before .before .before .size-of .ensures)
+    ap
+    (λ (p : Dwc2DataPlan). ahead (c .before .before .data-hcchar .result) (c .before .before .before .before .size-of .result) p
+    (c .before .before .before .split-dma-lengths .result .count) (r .len) (r .base) 0)
+    (c .blank-plan .ensures)
+    ∙ ap
+    (λ (s : DmaSplit). ahead (c .before .before .data-hcchar .result) (c .before .before .before .before .size-of .result) (blankPlan Planned (r .toggle)) (s .count) (r .len) (r .base) 0)
+    (split-is (c .before .before .before))
+    ∙ ap₂ (λ (h m : ℕ). ahead h m (blankPlan Planned (r .toggle)) (splitOf (r .len) (sizeOf r) .count) (r .len) (r .base) 0)
+    (c .before .before .data-hcchar .ensures) (c .before .before .before .before .size-of .ensures)
 
 loop-holds : tie.Need-loop-holds Inv-loop μ-loop
 loop-holds c =
@@ -97,7 +106,8 @@ loop-holds c =
       subst⁻¹ (λ (n : ℕ). 0 < n) chunk (packets-some (r .len) (chunkOf (c .before .before .before .before .before .before .before .size-of .result))),
       omega arith,
       omega (arith, few (c .before .before .before .before .before .before)),
-      subst⁻¹ (λ (n : ℕ). (n - 1) * chunkOf (c .before .before .before .before .before .before .before .size-of .result) ≤ r .len) chunk (parts-within (r .len) (chunkOf (c .before .before .before .before .before .before .before .size-of .result))),
+      subst⁻¹ (λ (n : ℕ). (n - 1) * chunkOf (c .before .before .before .before .before .before .before .size-of .result) ≤ r .len) chunk
+          (parts-within (r .len) (chunkOf (c .before .before .before .before .before .before .before .size-of .result))),
       near (c .before .before .before .before .before .before .before .before .before),
     )
 
@@ -108,14 +118,29 @@ long c = omega (arith, facts (c .before .before .before .before .before .before 
 room : (c : tie.At-loop Inv-loop μ-loop) → c .loop .plan .count < 4
 room c = omega (arith, c .loop .inv)
 
-most-is : (c : tie.At-loop Inv-loop μ-loop) → c .before .before .before .before .before .before .before .split-dma-lengths .result .chunk * 256 ≡ 256 * chunkOf (c .before .before .before .before .before .before .before .before .size-of .result)
+most-is :
+    (c : tie.At-loop Inv-loop μ-loop)
+    → c .before .before .before .before .before .before .before .split-dma-lengths .result .chunk * 256
+    ≡ 256 * chunkOf (c .before .before .before .before .before .before .before .before .size-of .result)
 most-is c = omega (arith, chunk-is (c .before .before .before .before .before .before .before))
 
-size-is : (c : tie.At-loop Inv-loop μ-loop) → get packetSize (c .before .before .before .before .before .before .data-hcchar .result) ≡ c .before .before .before .before .before .before .before .before .size-of .result
-size-is c = ap (get packetSize) (c .before .before .before .before .before .before .data-hcchar .ensures) ∙ hcchar-size (c .before .before .before .before .before .before .before .before .before .before .args .request) (facts (c .before .before .before .before .before .before .before .before .before .before) .size) ∙ sym (c .before .before .before .before .before .before .before .before .size-of .ensures)
+size-is :
+    (c : tie.At-loop Inv-loop μ-loop)
+    → get packetSize (c .before .before .before .before .before .before .data-hcchar .result) ≡ c .before .before .before .before .before .before .before .before .size-of .result
+size-is c =
+    ap (get packetSize) (c .before .before .before .before .before .before .data-hcchar .ensures)
+    ∙ hcchar-size (c .before .before .before .before .before .before .before .before .before .before .args .request)
+    (facts (c .before .before .before .before .before .before .before .before .before .before) .size)
+    ∙ sym (c .before .before .before .before .before .before .before .before .size-of .ensures)
 
-full : (c : tie.In-loop Inv-loop μ-loop) → (256 * chunkOf (c .before .before .before .before .before .before .before .before .before .size-of .result) ≤ c .before .loop .len) × ((c .before .loop .left - 256 - 1) * chunkOf (c .before .before .before .before .before .before .before .before .before .size-of .result) ≤ c .before .loop .len - 256 * chunkOf (c .before .before .before .before .before .before .before .before .before .size-of .result))
-full c = full-left (c .before .loop .left) (chunkOf (c .before .before .before .before .before .before .before .before .before .size-of .result)) (c .before .loop .len) (c .loop-test .taken) (c .before .loop .inv .6)
+full :
+    (c : tie.In-loop Inv-loop μ-loop)
+    → (256 * chunkOf (c .before .before .before .before .before .before .before .before .before .size-of .result) ≤ c .before .loop .len)
+    × ((c .before .loop .left - 256 - 1) * chunkOf (c .before .before .before .before .before .before .before .before .before .size-of .result)
+    ≤ c .before .loop .len - 256 * chunkOf (c .before .before .before .before .before .before .before .before .before .size-of .result))
+full c =
+    full-left (c .before .loop .left) (chunkOf (c .before .before .before .before .before .before .before .before .before .size-of .result))
+    (c .before .loop .len) (c .loop-test .taken) (c .before .loop .inv .6)
 
 data-stage-requires : tie.Need-data-stage-requires Inv-loop μ-loop
 data-stage-requires c κs = tt
@@ -123,7 +148,11 @@ data-stage-requires c κs = tt
 build-stage-descs-requires : tie.Need-build-stage-descs-requires Inv-loop μ-loop
 build-stage-descs-requires c κs =
     subst⁻¹ (λ (s : Dwc2TransferStage). StageFits s (length (c .before .before .before .loop .array))) (c .before .data-stage .ensures)
-    (stage-fits (c .before .before .before .before .before .before .before .before .before .data-hcchar .result) (c .before .before .before .before .before .before .before .before .before .before .before .size-of .result) (length (c .before .before .before .loop .array)) 256 (c .before .before .before .before .before .before .before .before .before .before .split-dma-lengths .result .chunk * 256) (c .before .before .before .loop .addr) (c .before .before .before .loop .base) (c .before .before .before .loop .plan .toggle .0)
+    (stage-fits (c .before .before .before .before .before .before .before .before .before .data-hcchar .result)
+    (c .before .before .before .before .before .before .before .before .before .before .before .size-of .result)
+    (length (c .before .before .before .loop .array)) 256
+    (c .before .before .before .before .before .before .before .before .before .before .split-dma-lengths .result .chunk * 256)
+    (c .before .before .before .loop .addr) (c .before .before .before .loop .base) (c .before .before .before .loop .plan .toggle .0)
     (size-is (c .before .before .before))
     (omega arith)
     (omega (arith, long (c .before .before .before), c .before .before .before .loop .inv, c .before .before .loop-test .taken))
@@ -140,7 +169,13 @@ sub-len : tie.Need-sub-len Inv-loop μ-loop
 sub-len c = omega (arith, most-is (c .before .before .before .before .before .before .before), full (c .before .before .before .before .before .before))
 
 add-addr : tie.Need-add-addr Inv-loop μ-loop
-add-addr c = omega (arith, most-is (c .before .before .before .before .before .before .before), full (c .before .before .before .before .before .before), c .before .before .before .before .before .before .before .loop .inv)
+add-addr c =
+    omega (
+      arith,
+      most-is (c .before .before .before .before .before .before .before),
+      full (c .before .before .before .before .before .before),
+      c .before .before .before .before .before .before .before .loop .inv,
+    )
 
 add-base : tie.Need-add-base Inv-loop μ-loop
 add-base c = omega (arith, c .before .before .before .before .before .before .before .loop .inv)
@@ -151,8 +186,15 @@ loop-less c = omega (arith, c .before .before .before .before .before .before .l
 loop-again : tie.Need-loop-again Inv-loop μ-loop
 loop-again c =
     let l = c .before .before .before .before .before .before .before .loop in
-    let step = turn (c .before .before .before .before .before .before .before .before .before .before .before .before .before .data-hcchar .result) (c .before .before .before .before .before .before .before .before .before .before .before .before .before .before .before .size-of .result) (c .before .before .before .before .before .before .before .before .before .before .before .before .before .before .split-dma-lengths .result .chunk * 256) (l .left) (l .len) (l .addr) (l .base) (l .plan) (c .add-stage .result) (c .before .before .before .before .before .data-stage .result) (l .array) (c .before .before .before .build-stage-descs .last .1 .0)
-    (room (c .before .before .before .before .before .before .before)) (c .before .before .before .before .before .before .loop-test .taken) (most-is (c .before .before .before .before .before .before .before)) (c .before .before .before .before .before .data-stage .ensures) (c .before .before .before .build-stage-descs .ensures) (c .add-stage .ensures) in
+    let step =
+    turn (c .before .before .before .before .before .before .before .before .before .before .before .before .before .data-hcchar .result)
+    (c .before .before .before .before .before .before .before .before .before .before .before .before .before .before .before .size-of .result)
+    (c .before .before .before .before .before .before .before .before .before .before .before .before .before .before .split-dma-lengths .result .chunk * 256)
+    (l .left) (l .len) (l .addr) (l .base) (l .plan) (c .add-stage .result) (c .before .before .before .before .before .data-stage .result) (l .array)
+    (c .before .before .before .build-stage-descs .last .1 .0)
+    (room (c .before .before .before .before .before .before .before)) (c .before .before .before .before .before .before .loop-test .taken)
+    (most-is (c .before .before .before .before .before .before .before)) (c .before .before .before .before .before .data-stage .ensures)
+    (c .before .before .before .build-stage-descs .ensures) (c .add-stage .ensures) in
     let more : c .add-stage .result .count ≡ l .plan .count + 1 = ap (λ (p : Dwc2DataPlan). p .count) (c .add-stage .ensures) in (
       c .before .before .before .build-stage-descs .kept .1 .0 ∙ l .inv .0,
       step .0 ∙ l .inv .1,
@@ -160,7 +202,10 @@ loop-again c =
       omega (arith, c .before .before .before .before .before .before .loop-test .taken),
       omega (arith, more, l .inv .4),
       omega (arith, l .inv .5, c .before .before .before .before .before .before .loop-test .taken),
-      subst⁻¹ (λ (k : ℕ). (l .left - 256 - 1) * chunkOf (c .before .before .before .before .before .before .before .before .before .before .before .before .before .before .before .size-of .result) ≤ l .len - k) (most-is (c .before .before .before .before .before .before .before)) (full (c .before .before .before .before .before .before) .1),
+      subst⁻¹
+          (λ (k : ℕ). (l .left - 256 - 1) * chunkOf
+          (c .before .before .before .before .before .before .before .before .before .before .before .before .before .before .before .size-of .result) ≤ l .len - k)
+          (most-is (c .before .before .before .before .before .before .before)) (full (c .before .before .before .before .before .before) .1),
       omega (arith, most-is (c .before .before .before .before .before .before .before), full (c .before .before .before .before .before .before) .0, l .inv .7),
     )
 
@@ -170,7 +215,10 @@ data-stage-requires-2 c κs = tt
 build-stage-descs-requires-2 : tie.Need-build-stage-descs-requires-2 Inv-loop μ-loop
 build-stage-descs-requires-2 c κs =
     subst⁻¹ (λ (s : Dwc2TransferStage). StageFits s (length (c .before .before .before .loop .array))) (c .before .data-stage2 .ensures)
-    (stage-fits (c .before .before .before .before .before .before .before .before .before .data-hcchar .result) (c .before .before .before .before .before .before .before .before .before .before .before .size-of .result) (length (c .before .before .before .loop .array)) (c .before .before .before .loop .left) (c .before .before .before .loop .len) (c .before .before .before .loop .addr) (c .before .before .before .loop .base) (c .before .before .before .loop .plan .toggle .0)
+    (stage-fits (c .before .before .before .before .before .before .before .before .before .data-hcchar .result)
+    (c .before .before .before .before .before .before .before .before .before .before .before .size-of .result)
+    (length (c .before .before .before .loop .array)) (c .before .before .before .loop .left) (c .before .before .before .loop .len)
+    (c .before .before .before .loop .addr) (c .before .before .before .loop .base) (c .before .before .before .loop .plan .toggle .0)
     (size-is (c .before .before .before))
     (c .before .before .before .loop .inv .3)
     (omega (arith, long (c .before .before .before), c .before .before .before .loop .inv))
@@ -187,13 +235,29 @@ returns : tie.Need-returns Inv-loop μ-loop
 returns c =
     let l = c .before .before .before .before .before .before .before .loop in
     let r = c .before .before .before .before .before .before .before .before .before .before .before .before .before .before .before .before .before .args .request in
-    let step = last-turn (c .before .before .before .before .before .before .before .before .before .before .before .before .before .data-hcchar .result) (c .before .before .before .before .before .before .before .before .before .before .before .before .before .before .before .size-of .result) (l .left) (l .len) (l .addr) (l .base) (l .plan) (c .add-stage2 .result) (c .before .before .before .before .before .data-stage2 .result) (l .array) (c .before .before .before .build-stage-descs2 .last .1 .0)
-    (room (c .before .before .before .before .before .before .before)) (c .before .before .before .before .before .before .loop-test .left) (c .before .before .before .before .before .data-stage2 .ensures) (c .before .before .before .build-stage-descs2 .ensures) (c .add-stage2 .ensures) in (
+    let step =
+    last-turn (c .before .before .before .before .before .before .before .before .before .before .before .before .before .data-hcchar .result)
+    (c .before .before .before .before .before .before .before .before .before .before .before .before .before .before .before .size-of .result)
+    (l .left) (l .len) (l .addr) (l .base) (l .plan) (c .add-stage2 .result) (c .before .before .before .before .before .data-stage2 .result)
+    (l .array) (c .before .before .before .build-stage-descs2 .last .1 .0)
+    (room (c .before .before .before .before .before .before .before)) (c .before .before .before .before .before .before .loop-test .left)
+    (c .before .before .before .before .before .data-stage2 .ensures) (c .before .before .before .build-stage-descs2 .ensures)
+    (c .add-stage2 .ensures) in (
       step .1 ∙ l .inv .2
-          ∙ ap (withStages (c .before .before .before .before .before .before .before .before .before .before .before .before .before .before .before .size-of .result) (c .before .before .before .before .before .before .before .before .before .before .before .blank-plan .result)) (start-is (c .before .before .before .before .before .before .before .before .before .before .before))
-          ∙ ap₂ (λ (m : ℕ) (p : Dwc2DataPlan). withStages m p (dataStages r)) (c .before .before .before .before .before .before .before .before .before .before .before .before .before .before .before .size-of .ensures) (c .before .before .before .before .before .before .before .before .before .before .before .blank-plan .ensures)
+          ∙ ap
+          (withStages
+          (c .before .before .before .before .before .before .before .before .before .before .before .before .before .before .before .size-of .result)
+          (c .before .before .before .before .before .before .before .before .before .before .before .blank-plan .result))
+          (start-is (c .before .before .before .before .before .before .before .before .before .before .before))
+          ∙ ap₂ (λ (m : ℕ) (p : Dwc2DataPlan). withStages m p (dataStages r))
+          (c .before .before .before .before .before .before .before .before .before .before .before .before .before .before .before .size-of .ensures)
+          (c .before .before .before .before .before .before .before .before .before .before .before .blank-plan .ensures)
           ∙ planned-is (sizeOf r) Planned (r .toggle) (dataStages r) (stages-few (dataHcchar r) (sizeOf r) 4 (splitOf (r .len) (sizeOf r) .count) (r .len) (r .base) 0 (r .toggle .0)),
-      step .0 ∙ l .inv .1 ∙ ap (λ (ss : List Dwc2TransferStage). laidOut ss (c .before .before .before .before .before .before .before .before .before .before .before .before .before .before .before .before .before .args .array .now)) (start-is (c .before .before .before .before .before .before .before .before .before .before .before)),
+      step .0 ∙ l .inv .1
+          ∙ ap
+          (λ (ss : List Dwc2TransferStage). laidOut ss
+          (c .before .before .before .before .before .before .before .before .before .before .before .before .before .before .before .before .before .args .array .now))
+          (start-is (c .before .before .before .before .before .before .before .before .before .before .before)),
     )
 
 pub plan-data-spec : {M : Type 1} → statement M

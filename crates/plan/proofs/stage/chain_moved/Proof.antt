@@ -41,7 +41,9 @@ link-moved-requires : tie.Need-link-moved-requires Inv-loop μ-loop
 link-moved-requires c κs = search needs
 
 -- where more than the last is left, a whole chunk is
-whole : (c : tie.In-loop Inv-loop μ-loop) → (c .before .before .chunk-of .result ≤ c .before .loop .rest) × ((c .before .loop .left - 1 - 1) * chunkOf (c .before .before .before .before .args .mps) ≤ c .before .loop .rest - chunkOf (c .before .before .before .before .args .mps))
+whole :
+    (c : tie.In-loop Inv-loop μ-loop) → (c .before .before .chunk-of .result ≤ c .before .loop .rest)
+    × ((c .before .loop .left - 1 - 1) * chunkOf (c .before .before .before .before .args .mps) ≤ c .before .loop .rest - chunkOf (c .before .before .before .before .args .mps))
 whole c =
     let a = c .before .before .before .before .args in
     let now = c .before .loop in
@@ -73,7 +75,8 @@ loop-again c =
       omega arith,
       rw (k .ensures) (w .1),
       omega arith,
-      count-more (a .mps) (a .array .now) (now .left) (now .at) (now .rest) (k .result) (now .total) (c .link-moved .result) (c .before .before .loop-test .taken) (k .ensures) (c .link-moved .ensures .0)
+      count-more (a .mps) (a .array .now) (now .left) (now .at) (now .rest) (k .result) (now .total) (c .link-moved .result)
+          (c .before .before .loop-test .taken) (k .ensures) (c .link-moved .ensures .0)
           ∙ now .inv .4,
     )
 

@@ -38,7 +38,9 @@ sub-left : tie.Need-sub-left Inv-loop μ-loop
 sub-left c = omega arith
 
 -- where more than the last is left, a whole chunk is
-whole : (c : tie.In-loop Inv-loop μ-loop) → (c .before .before .chunk-of .result ≤ c .before .loop .rest) × ((c .before .loop .left - 1 - 1) * chunkOf (c .before .before .before .before .args .mps) ≤ c .before .loop .rest - chunkOf (c .before .before .before .before .args .mps))
+whole :
+    (c : tie.In-loop Inv-loop μ-loop) → (c .before .before .chunk-of .result ≤ c .before .loop .rest)
+    × ((c .before .loop .left - 1 - 1) * chunkOf (c .before .before .before .before .args .mps) ≤ c .before .loop .rest - chunkOf (c .before .before .before .before .args .mps))
 whole c =
     let a = c .before .before .before .before .args in
     let now = c .before .loop in
@@ -67,7 +69,8 @@ loop-again c =
       omega arith,
       rw (k .ensures) (w .1),
       omega arith,
-      store-more (a .mps) (a .is-in) (now .left) (now .rest) (now .buf) (k .result) (now .at) (now .words) (put .last .0) (c .before .before .before .link .result) (c .before .before .before .before .before .loop-test .taken) (k .ensures)
+      store-more (a .mps) (a .is-in) (now .left) (now .rest) (now .buf) (k .result) (now .at) (now .words) (put .last .0)
+          (c .before .before .before .link .result) (c .before .before .before .before .before .loop-test .taken) (k .ensures)
           (c .before .before .before .link .ensures) (put .ensures)
           ∙ now .inv .5,
     )
@@ -86,7 +89,8 @@ returns c =
     let a = c .before .before .before .before .before .before .before .before .before .args in
     let now = c .before .before .before .before .before .before .loop in
     let put = c .before .before .put-link2 in
-    store-last (a .mps) (a .is-in) (now .left) (now .rest) (now .buf) (now .at) (now .words) (put .last .0) (c .before .before .before .link2 .result) (omega arith) (c .before .before .before .link2 .ensures) (put .ensures)
+    store-last (a .mps) (a .is-in) (now .left) (now .rest) (now .buf) (now .at) (now .words) (put .last .0) (c .before .before .before .link2 .result)
+    (omega arith) (c .before .before .before .link2 .ensures) (put .ensures)
     ∙ now .inv .5
 
 pub fill-chain-spec : {M : Type 1} → statement M

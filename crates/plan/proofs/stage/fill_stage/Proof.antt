@@ -53,7 +53,9 @@ same-length : tie.Need-same-length
 same-length c = search needs
 
 returns : tie.Need-returns
-returns c = let a = c .before .before .before .before .before .before .before .args in c .before .before .fill-links .ensures ∙ by-role (a .stage) Data (a .words .now) (c .before .before .before .before .enum-told .given .1)
+returns c =
+    let a = c .before .before .before .before .before .before .before .args in
+    c .before .before .fill-links .ensures ∙ by-role (a .stage) Data (a .words .now) (c .before .before .before .before .enum-told .given .1)
 
 same-length-2 : tie.Need-same-length-2
 same-length-2 c = search needs
@@ -61,19 +63,25 @@ same-length-2 c = search needs
 returns-2 : tie.Need-returns-2
 returns-2 c =
     let a = c .before .before .before .before .before .before .before .before .args in
-    setup-role (a .stage) (a .words .now) (c .before .before .put-link .last .0) (c .before .before .before .new-setup .result) (c .before .before .before .before .before .enum-told2 .given .1) (c .before .before .before .new-setup .ensures) (c .before .before .put-link .ensures)
+    setup-role (a .stage) (a .words .now) (c .before .before .put-link .last .0) (c .before .before .before .new-setup .result)
+    (c .before .before .before .before .before .enum-told2 .given .1) (c .before .before .before .new-setup .ensures)
+    (c .before .before .put-link .ensures)
 
 same-length-3 : tie.Need-same-length-3
 same-length-3 c = search needs
 
 returns-3 : tie.Need-returns-3
-returns-3 c = let a = c .before .before .before .before .before .before .before .args in c .before .before .fill-links2 .ensures ∙ by-role (a .stage) ControlData (a .words .now) (c .before .before .before .before .enum-told3 .given .1)
+returns-3 c =
+    let a = c .before .before .before .before .before .before .before .args in
+    c .before .before .fill-links2 .ensures ∙ by-role (a .stage) ControlData (a .words .now) (c .before .before .before .before .enum-told3 .given .1)
 
 same-length-4 : tie.Need-same-length-4
 same-length-4 c = search needs
 
 returns-4 : tie.Need-returns-4
-returns-4 c = let a = c .before .before .before .before .before .before .before .args in c .before .before .fill-links3 .ensures ∙ by-role (a .stage) ControlStatus (a .words .now) (c .before .before .before .before .enum-told4 .given .1)
+returns-4 c =
+    let a = c .before .before .before .before .before .before .before .args in
+    c .before .before .fill-links3 .ensures ∙ by-role (a .stage) ControlStatus (a .words .now) (c .before .before .before .before .enum-told4 .given .1)
 
 pub fill-stage-spec : {M : Type 1} → statement M
 fill-stage-spec =

@@ -1,3 +1,4 @@
+-- The numbers of the two flags; all else as it stands.
 use borrow.Author.Needs.{needs}
 use Rattle.port.proofs.answers.not_completed.Statement.{statement}
 use Rattle.port.proofs.answers.not_completed.Tie as tie

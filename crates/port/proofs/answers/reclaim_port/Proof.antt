@@ -42,13 +42,24 @@ not-completed-requires-2 : tie.Need-not-completed-requires-2
 not-completed-requires-2 c κs = search needs
 
 returns : tie.Need-returns
-returns c = completed-port (c .before .before .before .before .before .before .answer .given .0 .1 .0) (c .before .before .before .before .before .before .answer .given .0 .1 .1 .0) (c .before .before .before .before .before .before .answer .given .1) (c .before .before .before .before .outcome-tagged .ensures) (c .before .flag .ensures) (c .flag2 .ensures)
+returns c =
+    completed-port (c .before .before .before .before .before .before .answer .given .0 .1 .0)
+    (c .before .before .before .before .before .before .answer .given .0 .1 .1 .0)
+    (c .before .before .before .before .before .before .answer .given .1) (c .before .before .before .before .outcome-tagged .ensures)
+    (c .before .flag .ensures) (c .flag2 .ensures)
 
 returns-2 : tie.Need-returns-2
-returns-2 c = c .not-completed .ensures ∙ sym (ap (λ (a : ReclaimAnswer). reclaimPort a (flagTag (c .before .before .before .args .taken)) (flagTag (c .before .before .before .args .halt))) (c .before .enum-told .given .1))
+returns-2 c =
+    c .not-completed .ensures
+    ∙ sym (ap (λ (a : ReclaimAnswer). reclaimPort a (flagTag (c .before .before .before .args .taken)) (flagTag (c .before .before .before .args .halt))) (c .before .enum-told .given .1))
 
 returns-3 : tie.Need-returns-3
-returns-3 c = c .not-completed2 .ensures ∙ sym (ap (λ (a : ReclaimAnswer). reclaimPort a (flagTag (c .before .before .before .before .args .taken)) (flagTag (c .before .before .before .before .args .halt))) (c .before .before .answer2 .given .1))
+returns-3 c =
+    c .not-completed2 .ensures
+    ∙ sym
+    (ap
+    (λ (a : ReclaimAnswer). reclaimPort a (flagTag (c .before .before .before .before .args .taken)) (flagTag (c .before .before .before .before .args .halt)))
+    (c .before .before .answer2 .given .1))
 
 pub reclaim-port-spec : {M : Type 1} → statement M
 reclaim-port-spec =

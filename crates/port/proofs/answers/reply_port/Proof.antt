@@ -1,3 +1,4 @@
+-- The numbers of the answer and of the two flags.
 use borrow.Author.Needs.{needs}
 use Rattle.port.proofs.answers.reply_port.Statement.{statement}
 use Rattle.port.proofs.answers.reply_port.Tie as tie

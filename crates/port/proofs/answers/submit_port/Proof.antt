@@ -1,3 +1,4 @@
+-- Each number of the answer by the function that gives it, all else as it came.
 use borrow.Author.Needs.{needs}
 use Rattle.port.proofs.answers.submit_port.Statement.{statement}
 use Rattle.port.proofs.answers.submit_port.Tie as tie

@@ -1,3 +1,4 @@
+-- Refused at the bytes, or loaded, cancelled and saved: the law of calls by bytes at each way out.
 use borrow.Author.Needs.{needs}
 use Rattle.session.specs.declared.types.IsoChannelState.{IsoChannelState}
 use Rattle.session.specs.Cancel.{cancelled}
@@ -15,7 +16,9 @@ same-length : tie.Need-same-length
 same-length c = search needs
 
 returns : tie.Need-returns
-returns c = reply-refused (c .before .before .before .before .before .args .session .now) (λ (s : IsoChannelState). cancelled s (c .before .before .before .before .before .args .id)) (c .before .before .layout-refusal .ensures) (c .before .if1 .taken) (c .reply-refused .ensures)
+returns c =
+    let a = c .before .before .before .before .before .args in
+    reply-refused (a .session .now) (λ (s : IsoChannelState). cancelled s (a .id)) (c .before .before .layout-refusal .ensures) (c .before .if1 .taken) (c .reply-refused .ensures)
 
 load-session-requires : tie.Need-load-session-requires
 load-session-requires c κs = long-enough (c .before .before .before .before .before .args .session .now) (c .before .before .layout-refusal .ensures) (c .before .if1 .left)
@@ -24,7 +27,9 @@ cancel-requires : tie.Need-cancel-requires
 cancel-requires c κs = search needs
 
 save-session-requires : tie.Need-save-session-requires
-save-session-requires c κs = long-enough (c .before .before .before .before .before .before .before .before .before .args .session .now) (c .before .before .before .before .before .before .layout-refusal .ensures) (c .before .before .before .before .before .if1 .left)
+save-session-requires c κs =
+    long-enough (c .before .before .before .before .before .before .before .before .before .args .session .now)
+    (c .before .before .before .before .before .before .layout-refusal .ensures) (c .before .before .before .before .before .if1 .left)
 
 reply-port-requires : tie.Need-reply-port-requires
 reply-port-requires c κs = search needs
@@ -33,7 +38,13 @@ same-length-2 : tie.Need-same-length-2
 same-length-2 c = search needs
 
 returns-2 : tie.Need-returns-2
-returns-2 c = reply-done (c .before .before .before .before .before .before .before .before .before .before .before .before .before .args .session .now) (λ (s : IsoChannelState). cancelled s (c .before .before .before .before .before .before .before .before .before .before .before .before .before .args .id)) (c .before .before .before .before .before .before .before .before .before .before .layout-refusal .ensures) (c .before .before .before .before .before .before .before .before .before .if1 .left) (c .before .before .before .before .before .before .before .load-session .ensures) (c .before .before .before .before .before .before .cancel .ensures) (c .reply-port .ensures) (c .before .before .before .save-session .ensures)
+returns-2 c =
+    let a = c .before .before .before .before .before .before .before .before .before .before .before .before .before .args in
+    reply-done (a .session .now) (λ (s : IsoChannelState). cancelled s (a .id))
+    (c .before .before .before .before .before .before .before .before .before .before .layout-refusal .ensures)
+    (c .before .before .before .before .before .before .before .before .before .if1 .left)
+    (c .before .before .before .before .before .before .before .load-session .ensures)
+    (c .before .before .before .before .before .before .cancel .ensures) (c .reply-port .ensures) (c .before .before .before .save-session .ensures)
 
 pub dwc2-iso-cancel-spec : {M : Type 1} → statement M
 dwc2-iso-cancel-spec =

@@ -1,3 +1,4 @@
+-- Refused at the bytes, or loaded and tested: the law of calls by bytes at each way out.
 use mathlib.Core.Bool.{Bool, cond}
 use mathlib.Core.Path.{_∙_, ap, sym}
 use Prim.Native.Nat.{ℕ}
@@ -24,10 +25,18 @@ is-bad-record-requires : tie.Need-is-bad-record-requires
 is-bad-record-requires c κs = search needs
 
 returns-2 : tie.Need-returns-2
-returns-2 c = ap (λ (b : Bool). cond b 18 0) (sym (c .if2 .taken)) ∙ done (c .before .before .before .before .before .before .args .session .now) (λ (n : ℕ). n) isBadRecord (λ (b : Bool). cond b 18 0) (c .before .before .before .before .layout-refusal .ensures) (c .before .before .before .if1 .left) (c .before .before .load-session .ensures) (c .before .is-bad-record .ensures)
+returns-2 c =
+    ap (λ (b : Bool). cond b 18 0) (sym (c .if2 .taken))
+    ∙ done (c .before .before .before .before .before .before .args .session .now) (λ (n : ℕ). n) isBadRecord (λ (b : Bool). cond b 18 0)
+    (c .before .before .before .before .layout-refusal .ensures) (c .before .before .before .if1 .left) (c .before .before .load-session .ensures)
+    (c .before .is-bad-record .ensures)
 
 returns-3 : tie.Need-returns-3
-returns-3 c = ap (λ (b : Bool). cond b 18 0) (sym (c .if2 .left)) ∙ done (c .before .before .before .before .before .before .args .session .now) (λ (n : ℕ). n) isBadRecord (λ (b : Bool). cond b 18 0) (c .before .before .before .before .layout-refusal .ensures) (c .before .before .before .if1 .left) (c .before .before .load-session .ensures) (c .before .is-bad-record .ensures)
+returns-3 c =
+    ap (λ (b : Bool). cond b 18 0) (sym (c .if2 .left))
+    ∙ done (c .before .before .before .before .before .before .args .session .now) (λ (n : ℕ). n) isBadRecord (λ (b : Bool). cond b 18 0)
+    (c .before .before .before .before .layout-refusal .ensures) (c .before .before .before .if1 .left) (c .before .before .load-session .ensures)
+    (c .before .is-bad-record .ensures)
 
 pub dwc2-iso-check-spec : {M : Type 1} → statement M
 dwc2-iso-check-spec =

@@ -1,3 +1,4 @@
+-- Refused at the bytes, or loaded, polled and saved: the law of calls by bytes at each way out, once more for the ring.
 use mathlib.Core.List.{List}
 use mathlib.Core.Path.{_∙_, ap}
 use Prim.Native.Nat.{ℕ}
@@ -21,20 +22,33 @@ same-length c = search needs
 
 returns : tie.Need-returns
 returns c =
-    let both = reply-refused (c .before .before .before .before .before .before .args .session .now) (λ (s : IsoChannelState). polled s (eventOf (c .before .before .before .before .before .before .args .reported) (c .before .before .before .before .before .before .args .unplugged) (c .before .before .before .before .before .before .args .hcint)) (c .before .before .before .before .before .before .args .ring .now)) (c .before .before .layout-refusal .ensures) (c .before .if1 .taken) (c .reply-refused .ensures) in
-    (both .0, both .1, refused (c .before .before .before .before .before .before .args .session .now) (λ (n : ℕ). (c .before .before .before .before .before .before .args .ring .now)) (λ (s : IsoChannelState). polledRing s (eventOf (c .before .before .before .before .before .before .args .reported) (c .before .before .before .before .before .before .args .unplugged) (c .before .before .before .before .before .before .args .hcint)) (c .before .before .before .before .before .before .args .ring .now)) (c .before .before .layout-refusal .ensures) (c .before .if1 .taken))
+    let a = c .before .before .before .before .before .before .args in
+    let both =
+    reply-refused (a .session .now) (λ (s : IsoChannelState). polled s (eventOf (a .reported) (a .unplugged) (a .hcint)) (a .ring .now))
+    (c .before .before .layout-refusal .ensures) (c .before .if1 .taken) (c .reply-refused .ensures) in (
+      both .0,
+      both .1,
+      refused (a .session .now) (λ (n : ℕ). (a .ring .now))
+          (λ (s : IsoChannelState). polledRing s (eventOf (a .reported) (a .unplugged) (a .hcint)) (a .ring .now))
+          (c .before .before .layout-refusal .ensures) (c .before .if1 .taken),
+    )
 
 event-of-requires : tie.Need-event-of-requires
 event-of-requires c κs = search needs
 
 load-session-requires : tie.Need-load-session-requires
-load-session-requires c κs = long-enough (c .before .before .before .before .before .before .before .args .session .now) (c .before .before .before .layout-refusal .ensures) (c .before .before .if1 .left)
+load-session-requires c κs =
+    long-enough (c .before .before .before .before .before .before .before .args .session .now) (c .before .before .before .layout-refusal .ensures) (c .before .before .if1 .left)
 
 poll-channel-requires : tie.Need-poll-channel-requires
 poll-channel-requires c κs = search needs
 
 save-session-requires : tie.Need-save-session-requires
-save-session-requires c κs = long-enough (c .before .before .before .before .before .before .before .before .before .before .before .before .before .before .args .session .now) (c .before .before .before .before .before .before .before .before .before .before .layout-refusal .ensures) (c .before .before .before .before .before .before .before .before .before .if1 .left)
+save-session-requires c κs =
+    long-enough
+    (c .before .before .before .before .before .before .before .before .before .before .before .before .before .before .args .session .now)
+    (c .before .before .before .before .before .before .before .before .before .before .layout-refusal .ensures)
+    (c .before .before .before .before .before .before .before .before .before .if1 .left)
 
 reply-port-requires : tie.Need-reply-port-requires
 reply-port-requires c κs = search needs
@@ -47,8 +61,26 @@ same-length-3 c = search needs
 
 returns-2 : tie.Need-returns-2
 returns-2 c =
-    let both = reply-done (c .before .before .before .before .before .before .before .before .before .before .before .before .before .before .before .before .before .before .args .session .now) (λ (s : IsoChannelState). polled s (eventOf (c .before .before .before .before .before .before .before .before .before .before .before .before .before .before .before .before .before .before .args .reported) (c .before .before .before .before .before .before .before .before .before .before .before .before .before .before .before .before .before .before .args .unplugged) (c .before .before .before .before .before .before .before .before .before .before .before .before .before .before .before .before .before .before .args .hcint)) (c .before .before .before .before .before .before .before .before .before .before .before .before .before .before .before .before .before .before .args .ring .now)) (c .before .before .before .before .before .before .before .before .before .before .before .before .before .before .layout-refusal .ensures) (c .before .before .before .before .before .before .before .before .before .before .before .before .before .if1 .left) (c .before .before .before .before .before .before .before .before .before .before .load-session .ensures) (c .before .before .before .before .before .before .before .before .poll-channel .ensures .0 ∙ ap (λ (e : IsoEvent). polled (c .before .before .before .before .before .before .before .before .before .before .load-session .result) e (c .before .before .before .before .before .before .before .before .before .before .before .before .before .before .before .before .before .before .args .ring .now)) (c .before .before .before .before .before .before .before .before .before .before .before .before .event-of .ensures)) (c .reply-port .ensures) (c .before .before .before .save-session .ensures) in
-    (both .0, both .1, done (c .before .before .before .before .before .before .before .before .before .before .before .before .before .before .before .before .before .before .args .session .now) (λ (n : ℕ). (c .before .before .before .before .before .before .before .before .before .before .before .before .before .before .before .before .before .before .args .ring .now)) (λ (s : IsoChannelState). polledRing s (eventOf (c .before .before .before .before .before .before .before .before .before .before .before .before .before .before .before .before .before .before .args .reported) (c .before .before .before .before .before .before .before .before .before .before .before .before .before .before .before .before .before .before .args .unplugged) (c .before .before .before .before .before .before .before .before .before .before .before .before .before .before .before .before .before .before .args .hcint)) (c .before .before .before .before .before .before .before .before .before .before .before .before .before .before .before .before .before .before .args .ring .now)) (λ (words : List ℕ). words) (c .before .before .before .before .before .before .before .before .before .before .before .before .before .before .layout-refusal .ensures) (c .before .before .before .before .before .before .before .before .before .before .before .before .before .if1 .left) (c .before .before .before .before .before .before .before .before .before .before .load-session .ensures) (c .before .before .before .before .before .before .before .before .poll-channel .ensures .1 ∙ ap (λ (e : IsoEvent). polledRing (c .before .before .before .before .before .before .before .before .before .before .load-session .result) e (c .before .before .before .before .before .before .before .before .before .before .before .before .before .before .before .before .before .before .args .ring .now)) (c .before .before .before .before .before .before .before .before .before .before .before .before .event-of .ensures)))
+    let a = c .before .before .before .before .before .before .before .before .before .before .before .before .before .before .before .before .before .before .args in
+    let loaded = c .before .before .before .before .before .before .before .before .before .before .load-session .result in
+    let both =
+    reply-done (a .session .now) (λ (s : IsoChannelState). polled s (eventOf (a .reported) (a .unplugged) (a .hcint)) (a .ring .now))
+    (c .before .before .before .before .before .before .before .before .before .before .before .before .before .before .layout-refusal .ensures)
+    (c .before .before .before .before .before .before .before .before .before .before .before .before .before .if1 .left)
+    (c .before .before .before .before .before .before .before .before .before .before .load-session .ensures)
+    (c .before .before .before .before .before .before .before .before .poll-channel .ensures .0
+    ∙ ap (λ (e : IsoEvent). polled loaded e (a .ring .now)) (c .before .before .before .before .before .before .before .before .before .before .before .before .event-of .ensures))
+    (c .reply-port .ensures) (c .before .before .before .save-session .ensures) in (
+      both .0,
+      both .1,
+      done (a .session .now) (λ (n : ℕ). (a .ring .now))
+          (λ (s : IsoChannelState). polledRing s (eventOf (a .reported) (a .unplugged) (a .hcint)) (a .ring .now)) (λ (words : List ℕ). words)
+          (c .before .before .before .before .before .before .before .before .before .before .before .before .before .before .layout-refusal .ensures)
+          (c .before .before .before .before .before .before .before .before .before .before .before .before .before .if1 .left)
+          (c .before .before .before .before .before .before .before .before .before .before .load-session .ensures)
+          (c .before .before .before .before .before .before .before .before .poll-channel .ensures .1
+          ∙ ap (λ (e : IsoEvent). polledRing loaded e (a .ring .now)) (c .before .before .before .before .before .before .before .before .before .before .before .before .event-of .ensures)),
+    )
 
 pub dwc2-iso-poll-spec : {M : Type 1} → statement M
 dwc2-iso-poll-spec =

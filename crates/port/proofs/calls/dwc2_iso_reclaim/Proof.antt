@@ -1,3 +1,4 @@
+-- Refused at the bytes, or loaded, reclaimed and saved: the law of calls by bytes for the answer, the bytes, the ring and the results in turn.
 use mathlib.Core.List.{List}
 use mathlib.Core.Path.{_∙_, ap}
 use Prim.Native.Nat.{ℕ}
@@ -24,24 +25,39 @@ same-length : tie.Need-same-length
 same-length c = search needs
 
 returns : tie.Need-returns
-returns c = (
-  c .reclaim-refused .ensures ∙ refused (c .before .before .before .before .before .before .before .args .session .now) reclaimRefused (λ (s : IsoChannelState). reclaimedPort (reclaimed s (c .before .before .before .before .before .before .before .args .id) (eventOf (c .before .before .before .before .before .before .before .args .reported) (c .before .before .before .before .before .before .before .args .unplugged) (c .before .before .before .before .before .before .before .args .hcint)) (c .before .before .before .before .before .before .before .args .ring .now) (length (c .before .before .before .before .before .before .before .args .results .now)))) (c .before .before .layout-refusal .ensures) (c .before .if1 .taken),
-  refused (c .before .before .before .before .before .before .before .args .session .now) (λ (n : ℕ). (c .before .before .before .before .before .before .before .args .session .now)) (λ (s : IsoChannelState). sets (c .before .before .before .before .before .before .before .args .session .now) 0 (saved (reclaimed s (c .before .before .before .before .before .before .before .args .id) (eventOf (c .before .before .before .before .before .before .before .args .reported) (c .before .before .before .before .before .before .before .args .unplugged) (c .before .before .before .before .before .before .before .args .hcint)) (c .before .before .before .before .before .before .before .args .ring .now) (length (c .before .before .before .before .before .before .before .args .results .now)) .session))) (c .before .before .layout-refusal .ensures) (c .before .if1 .taken),
-  refused (c .before .before .before .before .before .before .before .args .session .now) (λ (n : ℕ). (c .before .before .before .before .before .before .before .args .ring .now)) (λ (s : IsoChannelState). reclaimedRing s (c .before .before .before .before .before .before .before .args .id) (eventOf (c .before .before .before .before .before .before .before .args .reported) (c .before .before .before .before .before .before .before .args .unplugged) (c .before .before .before .before .before .before .before .args .hcint)) (c .before .before .before .before .before .before .before .args .ring .now) (length (c .before .before .before .before .before .before .before .args .results .now))) (c .before .before .layout-refusal .ensures) (c .before .if1 .taken),
-  refused (c .before .before .before .before .before .before .before .args .session .now) (λ (n : ℕ). (c .before .before .before .before .before .before .before .args .results .now)) (λ (s : IsoChannelState). reclaimedResults s (c .before .before .before .before .before .before .before .args .id) (eventOf (c .before .before .before .before .before .before .before .args .reported) (c .before .before .before .before .before .before .before .args .unplugged) (c .before .before .before .before .before .before .before .args .hcint)) (c .before .before .before .before .before .before .before .args .ring .now) (c .before .before .before .before .before .before .before .args .results .now)) (c .before .before .layout-refusal .ensures) (c .before .if1 .taken),
-)
+returns c =
+    let a = c .before .before .before .before .before .before .before .args in (
+      c .reclaim-refused .ensures
+          ∙ refused (a .session .now) reclaimRefused
+          (λ (s : IsoChannelState). reclaimedPort (reclaimed s (a .id) (eventOf (a .reported) (a .unplugged) (a .hcint)) (a .ring .now) (length (a .results .now))))
+          (c .before .before .layout-refusal .ensures) (c .before .if1 .taken),
+      refused (a .session .now) (λ (n : ℕ). (a .session .now))
+          (λ (s : IsoChannelState). sets (a .session .now) 0 (saved (reclaimed s (a .id) (eventOf (a .reported) (a .unplugged) (a .hcint)) (a .ring .now) (length (a .results .now)) .session)))
+          (c .before .before .layout-refusal .ensures) (c .before .if1 .taken),
+      refused (a .session .now) (λ (n : ℕ). (a .ring .now))
+          (λ (s : IsoChannelState). reclaimedRing s (a .id) (eventOf (a .reported) (a .unplugged) (a .hcint)) (a .ring .now) (length (a .results .now)))
+          (c .before .before .layout-refusal .ensures) (c .before .if1 .taken),
+      refused (a .session .now) (λ (n : ℕ). (a .results .now))
+          (λ (s : IsoChannelState). reclaimedResults s (a .id) (eventOf (a .reported) (a .unplugged) (a .hcint)) (a .ring .now) (a .results .now))
+          (c .before .before .layout-refusal .ensures) (c .before .if1 .taken),
+    )
 
 event-of-requires : tie.Need-event-of-requires
 event-of-requires c κs = search needs
 
 load-session-requires : tie.Need-load-session-requires
-load-session-requires c κs = long-enough (c .before .before .before .before .before .before .before .before .args .session .now) (c .before .before .before .layout-refusal .ensures) (c .before .before .if1 .left)
+load-session-requires c κs =
+    long-enough (c .before .before .before .before .before .before .before .before .args .session .now) (c .before .before .before .layout-refusal .ensures) (c .before .before .if1 .left)
 
 reclaim-requires : tie.Need-reclaim-requires
 reclaim-requires c κs = search needs
 
 save-session-requires : tie.Need-save-session-requires
-save-session-requires c κs = long-enough (c .before .before .before .before .before .before .before .before .before .before .before .before .before .before .before .before .before .before .args .session .now) (c .before .before .before .before .before .before .before .before .before .before .before .before .before .layout-refusal .ensures) (c .before .before .before .before .before .before .before .before .before .before .before .before .if1 .left)
+save-session-requires c κs =
+    long-enough
+    (c .before .before .before .before .before .before .before .before .before .before .before .before .before .before .before .before .before .before .args .session .now)
+    (c .before .before .before .before .before .before .before .before .before .before .before .before .before .layout-refusal .ensures)
+    (c .before .before .before .before .before .before .before .before .before .before .before .before .if1 .left)
 
 reclaim-port-requires : tie.Need-reclaim-port-requires
 reclaim-port-requires c κs = search needs
@@ -56,12 +72,47 @@ same-length-4 : tie.Need-same-length-4
 same-length-4 c = search needs
 
 returns-2 : tie.Need-returns-2
-returns-2 c = (
-  c .reclaim-port .ensures ∙ done (c .before .before .before .before .before .before .before .before .before .before .before .before .before .before .before .before .before .before .before .before .before .before .args .session .now) reclaimRefused (λ (s : IsoChannelState). reclaimed s (c .before .before .before .before .before .before .before .before .before .before .before .before .before .before .before .before .before .before .before .before .before .before .args .id) (eventOf (c .before .before .before .before .before .before .before .before .before .before .before .before .before .before .before .before .before .before .before .before .before .before .args .reported) (c .before .before .before .before .before .before .before .before .before .before .before .before .before .before .before .before .before .before .before .before .before .before .args .unplugged) (c .before .before .before .before .before .before .before .before .before .before .before .before .before .before .before .before .before .before .before .before .before .before .args .hcint)) (c .before .before .before .before .before .before .before .before .before .before .before .before .before .before .before .before .before .before .before .before .before .before .args .ring .now) (length (c .before .before .before .before .before .before .before .before .before .before .before .before .before .before .before .before .before .before .before .before .before .before .args .results .now))) reclaimedPort (c .before .before .before .before .before .before .before .before .before .before .before .before .before .before .before .before .before .layout-refusal .ensures) (c .before .before .before .before .before .before .before .before .before .before .before .before .before .before .before .before .if1 .left) (c .before .before .before .before .before .before .before .before .before .before .before .before .before .load-session .ensures) (c .before .before .before .before .before .before .before .before .before .before .reclaim .ensures .0 ∙ ap (λ (e : IsoEvent). reclaimed (c .before .before .before .before .before .before .before .before .before .before .before .before .before .load-session .result) (c .before .before .before .before .before .before .before .before .before .before .before .before .before .before .before .before .before .before .before .before .before .before .args .id) e (c .before .before .before .before .before .before .before .before .before .before .before .before .before .before .before .before .before .before .before .before .before .before .args .ring .now) (length (c .before .before .before .before .before .before .before .before .before .before .before .before .before .before .before .before .before .before .before .before .before .before .args .results .now))) (c .before .before .before .before .before .before .before .before .before .before .before .before .before .before .before .event-of .ensures)),
-  c .before .before .before .save-session .ensures ∙ done (c .before .before .before .before .before .before .before .before .before .before .before .before .before .before .before .before .before .before .before .before .before .before .args .session .now) (λ (n : ℕ). (c .before .before .before .before .before .before .before .before .before .before .before .before .before .before .before .before .before .before .before .before .before .before .args .session .now)) (λ (s : IsoChannelState). reclaimed s (c .before .before .before .before .before .before .before .before .before .before .before .before .before .before .before .before .before .before .before .before .before .before .args .id) (eventOf (c .before .before .before .before .before .before .before .before .before .before .before .before .before .before .before .before .before .before .before .before .before .before .args .reported) (c .before .before .before .before .before .before .before .before .before .before .before .before .before .before .before .before .before .before .before .before .before .before .args .unplugged) (c .before .before .before .before .before .before .before .before .before .before .before .before .before .before .before .before .before .before .before .before .before .before .args .hcint)) (c .before .before .before .before .before .before .before .before .before .before .before .before .before .before .before .before .before .before .before .before .before .before .args .ring .now) (length (c .before .before .before .before .before .before .before .before .before .before .before .before .before .before .before .before .before .before .before .before .before .before .args .results .now))) (λ (r : Reclaimed). sets (c .before .before .before .before .before .before .before .before .before .before .before .before .before .before .before .before .before .before .before .before .before .before .args .session .now) 0 (saved (r .session))) (c .before .before .before .before .before .before .before .before .before .before .before .before .before .before .before .before .before .layout-refusal .ensures) (c .before .before .before .before .before .before .before .before .before .before .before .before .before .before .before .before .if1 .left) (c .before .before .before .before .before .before .before .before .before .before .before .before .before .load-session .ensures) (c .before .before .before .before .before .before .before .before .before .before .reclaim .ensures .0 ∙ ap (λ (e : IsoEvent). reclaimed (c .before .before .before .before .before .before .before .before .before .before .before .before .before .load-session .result) (c .before .before .before .before .before .before .before .before .before .before .before .before .before .before .before .before .before .before .before .before .before .before .args .id) e (c .before .before .before .before .before .before .before .before .before .before .before .before .before .before .before .before .before .before .before .before .before .before .args .ring .now) (length (c .before .before .before .before .before .before .before .before .before .before .before .before .before .before .before .before .before .before .before .before .before .before .args .results .now))) (c .before .before .before .before .before .before .before .before .before .before .before .before .before .before .before .event-of .ensures)),
-  done (c .before .before .before .before .before .before .before .before .before .before .before .before .before .before .before .before .before .before .before .before .before .before .args .session .now) (λ (n : ℕ). (c .before .before .before .before .before .before .before .before .before .before .before .before .before .before .before .before .before .before .before .before .before .before .args .ring .now)) (λ (s : IsoChannelState). reclaimedRing s (c .before .before .before .before .before .before .before .before .before .before .before .before .before .before .before .before .before .before .before .before .before .before .args .id) (eventOf (c .before .before .before .before .before .before .before .before .before .before .before .before .before .before .before .before .before .before .before .before .before .before .args .reported) (c .before .before .before .before .before .before .before .before .before .before .before .before .before .before .before .before .before .before .before .before .before .before .args .unplugged) (c .before .before .before .before .before .before .before .before .before .before .before .before .before .before .before .before .before .before .before .before .before .before .args .hcint)) (c .before .before .before .before .before .before .before .before .before .before .before .before .before .before .before .before .before .before .before .before .before .before .args .ring .now) (length (c .before .before .before .before .before .before .before .before .before .before .before .before .before .before .before .before .before .before .before .before .before .before .args .results .now))) (λ (words : List ℕ). words) (c .before .before .before .before .before .before .before .before .before .before .before .before .before .before .before .before .before .layout-refusal .ensures) (c .before .before .before .before .before .before .before .before .before .before .before .before .before .before .before .before .if1 .left) (c .before .before .before .before .before .before .before .before .before .before .before .before .before .load-session .ensures) (c .before .before .before .before .before .before .before .before .before .before .reclaim .ensures .1 ∙ ap (λ (e : IsoEvent). reclaimedRing (c .before .before .before .before .before .before .before .before .before .before .before .before .before .load-session .result) (c .before .before .before .before .before .before .before .before .before .before .before .before .before .before .before .before .before .before .before .before .before .before .args .id) e (c .before .before .before .before .before .before .before .before .before .before .before .before .before .before .before .before .before .before .before .before .before .before .args .ring .now) (length (c .before .before .before .before .before .before .before .before .before .before .before .before .before .before .before .before .before .before .before .before .before .before .args .results .now))) (c .before .before .before .before .before .before .before .before .before .before .before .before .before .before .before .event-of .ensures)),
-  done (c .before .before .before .before .before .before .before .before .before .before .before .before .before .before .before .before .before .before .before .before .before .before .args .session .now) (λ (n : ℕ). (c .before .before .before .before .before .before .before .before .before .before .before .before .before .before .before .before .before .before .before .before .before .before .args .results .now)) (λ (s : IsoChannelState). reclaimedResults s (c .before .before .before .before .before .before .before .before .before .before .before .before .before .before .before .before .before .before .before .before .before .before .args .id) (eventOf (c .before .before .before .before .before .before .before .before .before .before .before .before .before .before .before .before .before .before .before .before .before .before .args .reported) (c .before .before .before .before .before .before .before .before .before .before .before .before .before .before .before .before .before .before .before .before .before .before .args .unplugged) (c .before .before .before .before .before .before .before .before .before .before .before .before .before .before .before .before .before .before .before .before .before .before .args .hcint)) (c .before .before .before .before .before .before .before .before .before .before .before .before .before .before .before .before .before .before .before .before .before .before .args .ring .now) (c .before .before .before .before .before .before .before .before .before .before .before .before .before .before .before .before .before .before .before .before .before .before .args .results .now)) (λ (words : List ℕ). words) (c .before .before .before .before .before .before .before .before .before .before .before .before .before .before .before .before .before .layout-refusal .ensures) (c .before .before .before .before .before .before .before .before .before .before .before .before .before .before .before .before .if1 .left) (c .before .before .before .before .before .before .before .before .before .before .before .before .before .load-session .ensures) (c .before .before .before .before .before .before .before .before .before .before .reclaim .ensures .2 ∙ ap (λ (e : IsoEvent). reclaimedResults (c .before .before .before .before .before .before .before .before .before .before .before .before .before .load-session .result) (c .before .before .before .before .before .before .before .before .before .before .before .before .before .before .before .before .before .before .before .before .before .before .args .id) e (c .before .before .before .before .before .before .before .before .before .before .before .before .before .before .before .before .before .before .before .before .before .before .args .ring .now) (c .before .before .before .before .before .before .before .before .before .before .before .before .before .before .before .before .before .before .before .before .before .before .args .results .now)) (c .before .before .before .before .before .before .before .before .before .before .before .before .before .before .before .event-of .ensures)),
-)
+returns-2 c =
+    let a = c .before .before .before .before .before .before .before .before .before .before .before .before .before .before .before .before .before .before .before .before .before .before .args in
+    let loaded = c .before .before .before .before .before .before .before .before .before .before .before .before .before .load-session .result in (
+      c .reclaim-port .ensures
+          ∙ done (a .session .now) reclaimRefused
+          (λ (s : IsoChannelState). reclaimed s (a .id) (eventOf (a .reported) (a .unplugged) (a .hcint)) (a .ring .now) (length (a .results .now))) reclaimedPort
+          (c .before .before .before .before .before .before .before .before .before .before .before .before .before .before .before .before .before .layout-refusal .ensures)
+          (c .before .before .before .before .before .before .before .before .before .before .before .before .before .before .before .before .if1 .left)
+          (c .before .before .before .before .before .before .before .before .before .before .before .before .before .load-session .ensures)
+          (c .before .before .before .before .before .before .before .before .before .before .reclaim .ensures .0
+          ∙ ap (λ (e : IsoEvent). reclaimed loaded (a .id) e (a .ring .now) (length (a .results .now)))
+          (c .before .before .before .before .before .before .before .before .before .before .before .before .before .before .before .event-of .ensures)),
+      c .before .before .before .save-session .ensures
+          ∙ done (a .session .now) (λ (n : ℕ). (a .session .now))
+          (λ (s : IsoChannelState). reclaimed s (a .id) (eventOf (a .reported) (a .unplugged) (a .hcint)) (a .ring .now) (length (a .results .now)))
+          (λ (r : Reclaimed). sets (a .session .now) 0 (saved (r .session)))
+          (c .before .before .before .before .before .before .before .before .before .before .before .before .before .before .before .before .before .layout-refusal .ensures)
+          (c .before .before .before .before .before .before .before .before .before .before .before .before .before .before .before .before .if1 .left)
+          (c .before .before .before .before .before .before .before .before .before .before .before .before .before .load-session .ensures)
+          (c .before .before .before .before .before .before .before .before .before .before .reclaim .ensures .0
+          ∙ ap (λ (e : IsoEvent). reclaimed loaded (a .id) e (a .ring .now) (length (a .results .now)))
+          (c .before .before .before .before .before .before .before .before .before .before .before .before .before .before .before .event-of .ensures)),
+      done (a .session .now) (λ (n : ℕ). (a .ring .now))
+          (λ (s : IsoChannelState). reclaimedRing s (a .id) (eventOf (a .reported) (a .unplugged) (a .hcint)) (a .ring .now) (length (a .results .now)))
+          (λ (words : List ℕ). words)
+          (c .before .before .before .before .before .before .before .before .before .before .before .before .before .before .before .before .before .layout-refusal .ensures)
+          (c .before .before .before .before .before .before .before .before .before .before .before .before .before .before .before .before .if1 .left)
+          (c .before .before .before .before .before .before .before .before .before .before .before .before .before .load-session .ensures)
+          (c .before .before .before .before .before .before .before .before .before .before .reclaim .ensures .1
+          ∙ ap (λ (e : IsoEvent). reclaimedRing loaded (a .id) e (a .ring .now) (length (a .results .now)))
+          (c .before .before .before .before .before .before .before .before .before .before .before .before .before .before .before .event-of .ensures)),
+      done (a .session .now) (λ (n : ℕ). (a .results .now))
+          (λ (s : IsoChannelState). reclaimedResults s (a .id) (eventOf (a .reported) (a .unplugged) (a .hcint)) (a .ring .now) (a .results .now))
+          (λ (words : List ℕ). words)
+          (c .before .before .before .before .before .before .before .before .before .before .before .before .before .before .before .before .before .layout-refusal .ensures)
+          (c .before .before .before .before .before .before .before .before .before .before .before .before .before .before .before .before .if1 .left)
+          (c .before .before .before .before .before .before .before .before .before .before .before .before .before .load-session .ensures)
+          (c .before .before .before .before .before .before .before .before .before .before .reclaim .ensures .2
+          ∙ ap (λ (e : IsoEvent). reclaimedResults loaded (a .id) e (a .ring .now) (a .results .now))
+          (c .before .before .before .before .before .before .before .before .before .before .before .before .before .before .before .event-of .ensures)),
+    )
 
 pub dwc2-iso-reclaim-spec : {M : Type 1} → statement M
 dwc2-iso-reclaim-spec =

@@ -1,3 +1,4 @@
+-- Refused at the bytes, or loaded, recovered and saved: the law of calls by bytes at each way out, once more for the ring.
 use mathlib.Core.List.{List}
 use Prim.Native.Nat.{ℕ}
 use lib.ListN.{length}
@@ -19,8 +20,13 @@ same-length c = search needs
 
 returns : tie.Need-returns
 returns c =
-    let both = reply-refused (c .before .before .before .before .before .before .args .session .now) (λ (s : IsoChannelState). recovered s (length (c .before .before .before .before .before .before .args .ring .now))) (c .before .before .layout-refusal .ensures) (c .before .if1 .taken) (c .reply-refused .ensures) in
-    (both .0, both .1, refused (c .before .before .before .before .before .before .args .session .now) (λ (n : ℕ). (c .before .before .before .before .before .before .args .ring .now)) (λ (s : IsoChannelState). recoveredRing s (c .before .before .before .before .before .before .args .ring .now)) (c .before .before .layout-refusal .ensures) (c .before .if1 .taken))
+    let a = c .before .before .before .before .before .before .args in
+    let both =
+    reply-refused (a .session .now) (λ (s : IsoChannelState). recovered s (length (a .ring .now))) (c .before .before .layout-refusal .ensures) (c .before .if1 .taken) (c .reply-refused .ensures) in (
+      both .0,
+      both .1,
+      refused (a .session .now) (λ (n : ℕ). (a .ring .now)) (λ (s : IsoChannelState). recoveredRing s (a .ring .now)) (c .before .before .layout-refusal .ensures) (c .before .if1 .taken),
+    )
 
 load-session-requires : tie.Need-load-session-requires
 load-session-requires c κs = long-enough (c .before .before .before .before .before .before .args .session .now) (c .before .before .layout-refusal .ensures) (c .before .if1 .left)
@@ -29,7 +35,10 @@ recover-requires : tie.Need-recover-requires
 recover-requires c κs = search needs
 
 save-session-requires : tie.Need-save-session-requires
-save-session-requires c κs = long-enough (c .before .before .before .before .before .before .before .before .before .before .before .before .before .args .session .now) (c .before .before .before .before .before .before .before .before .before .layout-refusal .ensures) (c .before .before .before .before .before .before .before .before .if1 .left)
+save-session-requires c κs =
+    long-enough (c .before .before .before .before .before .before .before .before .before .before .before .before .before .args .session .now)
+    (c .before .before .before .before .before .before .before .before .before .layout-refusal .ensures)
+    (c .before .before .before .before .before .before .before .before .if1 .left)
 
 reply-port-requires : tie.Need-reply-port-requires
 reply-port-requires c κs = search needs
@@ -42,8 +51,22 @@ same-length-3 c = search needs
 
 returns-2 : tie.Need-returns-2
 returns-2 c =
-    let both = reply-done (c .before .before .before .before .before .before .before .before .before .before .before .before .before .before .before .before .before .args .session .now) (λ (s : IsoChannelState). recovered s (length (c .before .before .before .before .before .before .before .before .before .before .before .before .before .before .before .before .before .args .ring .now))) (c .before .before .before .before .before .before .before .before .before .before .before .before .before .layout-refusal .ensures) (c .before .before .before .before .before .before .before .before .before .before .before .before .if1 .left) (c .before .before .before .before .before .before .before .before .before .before .load-session .ensures) (c .before .before .before .before .before .before .before .before .recover .ensures .0) (c .reply-port .ensures) (c .before .before .before .save-session .ensures) in
-    (both .0, both .1, done (c .before .before .before .before .before .before .before .before .before .before .before .before .before .before .before .before .before .args .session .now) (λ (n : ℕ). (c .before .before .before .before .before .before .before .before .before .before .before .before .before .before .before .before .before .args .ring .now)) (λ (s : IsoChannelState). recoveredRing s (c .before .before .before .before .before .before .before .before .before .before .before .before .before .before .before .before .before .args .ring .now)) (λ (words : List ℕ). words) (c .before .before .before .before .before .before .before .before .before .before .before .before .before .layout-refusal .ensures) (c .before .before .before .before .before .before .before .before .before .before .before .before .if1 .left) (c .before .before .before .before .before .before .before .before .before .before .load-session .ensures) (c .before .before .before .before .before .before .before .before .recover .ensures .1))
+    let a = c .before .before .before .before .before .before .before .before .before .before .before .before .before .before .before .before .before .args in
+    let both =
+    reply-done (a .session .now) (λ (s : IsoChannelState). recovered s (length (a .ring .now)))
+    (c .before .before .before .before .before .before .before .before .before .before .before .before .before .layout-refusal .ensures)
+    (c .before .before .before .before .before .before .before .before .before .before .before .before .if1 .left)
+    (c .before .before .before .before .before .before .before .before .before .before .load-session .ensures)
+    (c .before .before .before .before .before .before .before .before .recover .ensures .0) (c .reply-port .ensures)
+    (c .before .before .before .save-session .ensures) in (
+      both .0,
+      both .1,
+      done (a .session .now) (λ (n : ℕ). (a .ring .now)) (λ (s : IsoChannelState). recoveredRing s (a .ring .now)) (λ (words : List ℕ). words)
+          (c .before .before .before .before .before .before .before .before .before .before .before .before .before .layout-refusal .ensures)
+          (c .before .before .before .before .before .before .before .before .before .before .before .before .if1 .left)
+          (c .before .before .before .before .before .before .before .before .before .before .load-session .ensures)
+          (c .before .before .before .before .before .before .before .before .recover .ensures .1),
+    )
 
 pub dwc2-iso-recover-spec : {M : Type 1} → statement M
 dwc2-iso-recover-spec =

@@ -1,3 +1,4 @@
+-- Refused at the bytes, or loaded, reset and saved: the law of calls by bytes at each way out.
 use borrow.Author.Needs.{needs}
 use Rattle.session.specs.Poll.{resetReply}
 use Rattle.port.proofs.Laws.Calls.{long-enough, reply-refused, reply-done}
@@ -23,7 +24,9 @@ reset-requires : tie.Need-reset-requires
 reset-requires c κs = search needs
 
 save-session-requires : tie.Need-save-session-requires
-save-session-requires c κs = long-enough (c .before .before .before .before .before .before .before .before .before .args .session .now) (c .before .before .before .before .before .before .layout-refusal .ensures) (c .before .before .before .before .before .if1 .left)
+save-session-requires c κs =
+    long-enough (c .before .before .before .before .before .before .before .before .before .args .session .now)
+    (c .before .before .before .before .before .before .layout-refusal .ensures) (c .before .before .before .before .before .if1 .left)
 
 reply-port-requires : tie.Need-reply-port-requires
 reply-port-requires c κs = search needs
@@ -32,7 +35,13 @@ same-length-2 : tie.Need-same-length-2
 same-length-2 c = search needs
 
 returns-2 : tie.Need-returns-2
-returns-2 c = reply-done (c .before .before .before .before .before .before .before .before .before .before .before .before .before .args .session .now) resetReply (c .before .before .before .before .before .before .before .before .before .before .layout-refusal .ensures) (c .before .before .before .before .before .before .before .before .before .if1 .left) (c .before .before .before .before .before .before .before .load-session .ensures) (c .before .before .before .before .before .before .reset .ensures) (c .reply-port .ensures) (c .before .before .before .save-session .ensures)
+returns-2 c =
+    reply-done
+    (c .before .before .before .before .before .before .before .before .before .before .before .before .before .args .session .now) resetReply
+    (c .before .before .before .before .before .before .before .before .before .before .layout-refusal .ensures)
+    (c .before .before .before .before .before .before .before .before .before .if1 .left)
+    (c .before .before .before .before .before .before .before .load-session .ensures)
+    (c .before .before .before .before .before .before .reset .ensures) (c .reply-port .ensures) (c .before .before .before .save-session .ensures)
 
 pub dwc2-iso-reset-spec : {M : Type 1} → statement M
 dwc2-iso-reset-spec =

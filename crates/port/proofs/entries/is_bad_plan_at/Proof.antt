@@ -1,3 +1,4 @@
+-- The status alone can be bad: its test is the test of the entry.
 use borrow.Author.Needs.{needs}
 use Rattle.port.proofs.Laws.Entries.{bad-plan-at}
 use Rattle.port.proofs.entries.is_bad_plan_at.Statement.{statement}

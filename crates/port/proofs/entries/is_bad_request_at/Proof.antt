@@ -1,3 +1,4 @@
+-- The outcome alone can be bad: its test is the test of the entry.
 use borrow.Author.Needs.{needs}
 use Rattle.port.proofs.Laws.Entries.{bad-request-at}
 use Rattle.port.proofs.entries.is_bad_request_at.Statement.{statement}
@@ -13,7 +14,9 @@ is-bad-tagged-requires : tie.Need-is-bad-tagged-requires
 is-bad-tagged-requires c κs = search needs
 
 returns : tie.Need-returns
-returns c = bad-request-at (c .before .before .before .args .bytes .now) (c .before .before .before .args .at) (c .before .tagged-at .result) (c .is-bad-tagged .result) (c .before .tagged-at .ensures) (c .is-bad-tagged .ensures)
+returns c =
+    let a = c .before .before .before .args in
+    bad-request-at (a .bytes .now) (a .at) (c .before .tagged-at .result) (c .is-bad-tagged .result) (c .before .tagged-at .ensures) (c .is-bad-tagged .ensures)
 
 pub is-bad-request-at-spec : {M : Type 1} → statement M
 is-bad-request-at-spec =

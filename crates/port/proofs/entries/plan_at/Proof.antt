@@ -1,3 +1,4 @@
+-- Fields read one behind the other: one law says that together they are the plan.
 use borrow.Author.Needs.{needs}
 use Rattle.port.proofs.Laws.Entries.{plan-at}
 use Rattle.port.proofs.entries.plan_at.Statement.{statement}
@@ -28,7 +29,11 @@ status-of-requires : tie.Need-status-of-requires
 status-of-requires c κs = search needs
 
 returns : tie.Need-returns
-returns c = plan-at (c .before .before .before .before .before .before .args .bytes .now) (c .before .before .before .before .before .before .args .at) (c .before .before .before .before .u16-at .result) (c .before .before .before .u16-at2 .result) (c .before .before .u16-at3 .result) (c .before .byte-at .result) (c .status-of .result) (c .before .before .before .before .u16-at .ensures) (c .before .before .before .u16-at2 .ensures) (c .before .before .u16-at3 .ensures) (c .before .byte-at .ensures) (c .status-of .ensures)
+returns c =
+    let a = c .before .before .before .before .before .before .args in
+    plan-at (a .bytes .now) (a .at) (c .before .before .before .before .u16-at .result) (c .before .before .before .u16-at2 .result)
+    (c .before .before .u16-at3 .result) (c .before .byte-at .result) (c .status-of .result) (c .before .before .before .before .u16-at .ensures)
+    (c .before .before .before .u16-at2 .ensures) (c .before .before .u16-at3 .ensures) (c .before .byte-at .ensures) (c .status-of .ensures)
 
 pub plan-at-spec : {M : Type 1} → statement M
 plan-at-spec =

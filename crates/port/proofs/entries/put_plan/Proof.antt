@@ -1,3 +1,4 @@
+-- Fields written one behind the other: one law says that together they are the plan's bytes.
 use borrow.Author.Needs.{needs}
 use Rattle.port.proofs.Laws.Entries.{plan-put}
 use Rattle.port.proofs.entries.put_plan.Statement.{statement}
@@ -31,7 +32,13 @@ same-length : tie.Need-same-length
 same-length c = search needs
 
 returns : tie.Need-returns
-returns c = plan-put (c .before .before .before .before .before .before .before .before .before .before .before .before .before .before .before .before .before .before .args .bytes .now) (c .before .before .before .before .before .before .before .before .before .before .before .before .before .before .before .before .before .before .args .at) (c .before .before .before .before .before .before .before .before .before .before .before .before .before .before .before .before .before .before .args .plan) (c .before .before .before .status-tag .result) (c .before .before .before .before .before .before .before .before .before .before .before .before .before .before .before .put-u16 .ensures) (c .before .before .before .before .before .before .before .before .before .before .before .put-u162 .ensures) (c .before .before .before .before .before .before .before .put-u163 .ensures) (c .before .before .before .status-tag .ensures) (c .before .before .put-byte .ensures)
+returns c =
+    let a = c .before .before .before .before .before .before .before .before .before .before .before .before .before .before .before .before .before .before .args in
+    plan-put (a .bytes .now) (a .at) (a .plan) (c .before .before .before .status-tag .result)
+    (c .before .before .before .before .before .before .before .before .before .before .before .before .before .before .before .put-u16 .ensures)
+    (c .before .before .before .before .before .before .before .before .before .before .before .put-u162 .ensures)
+    (c .before .before .before .before .before .before .before .put-u163 .ensures) (c .before .before .before .status-tag .ensures)
+    (c .before .before .put-byte .ensures)
 
 pub put-plan-spec : {M : Type 1} → statement M
 put-plan-spec =

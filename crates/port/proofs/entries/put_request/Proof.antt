@@ -1,3 +1,4 @@
+-- Fields written one behind the other: one law says that together they are the request's bytes.
 use borrow.Author.Needs.{needs}
 use Rattle.port.proofs.Laws.Entries.{request-put}
 use Rattle.port.proofs.entries.put_request.Statement.{statement}
@@ -31,7 +32,13 @@ same-length : tie.Need-same-length
 same-length c = search needs
 
 returns : tie.Need-returns
-returns c = request-put (c .before .before .before .before .before .before .before .before .before .before .before .before .before .before .before .before .before .before .args .bytes .now) (c .before .before .before .before .before .before .before .before .before .before .before .before .before .before .before .before .before .before .args .at) (c .before .before .before .before .before .before .before .before .before .before .before .before .before .before .before .before .before .before .args .request) (c .before .before .before .outcome-tagged .result) (c .before .before .before .before .before .before .before .before .before .before .before .before .before .before .before .put-u64 .ensures) (c .before .before .before .before .before .before .before .before .before .before .before .put-u32 .ensures) (c .before .before .before .before .before .before .before .put-u16 .ensures) (c .before .before .before .outcome-tagged .ensures) (c .before .before .put-tagged .ensures)
+returns c =
+    let a = c .before .before .before .before .before .before .before .before .before .before .before .before .before .before .before .before .before .before .args in
+    request-put (a .bytes .now) (a .at) (a .request) (c .before .before .before .outcome-tagged .result)
+    (c .before .before .before .before .before .before .before .before .before .before .before .before .before .before .before .put-u64 .ensures)
+    (c .before .before .before .before .before .before .before .before .before .before .before .put-u32 .ensures)
+    (c .before .before .before .before .before .before .before .put-u16 .ensures) (c .before .before .before .outcome-tagged .ensures)
+    (c .before .before .put-tagged .ensures)
 
 pub put-request-spec : {M : Type 1} → statement M
 put-request-spec =

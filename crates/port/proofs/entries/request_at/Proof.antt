@@ -1,3 +1,4 @@
+-- Fields read one behind the other: one law says that together they are the request.
 use borrow.Author.Needs.{needs}
 use Rattle.port.proofs.Laws.Entries.{request-at}
 use Rattle.port.proofs.entries.request_at.Statement.{statement}
@@ -28,7 +29,11 @@ outcome-of-requires : tie.Need-outcome-of-requires
 outcome-of-requires c κs = search needs
 
 returns : tie.Need-returns
-returns c = request-at (c .before .before .before .before .before .before .args .bytes .now) (c .before .before .before .before .before .before .args .at) (c .before .before .before .before .u64-at .result) (c .before .before .before .u16-at .result) (c .before .before .u32-at .result) (c .before .tagged-at .result) (c .outcome-of .result) (c .before .before .before .before .u64-at .ensures) (c .before .before .before .u16-at .ensures) (c .before .before .u32-at .ensures) (c .before .tagged-at .ensures) (c .outcome-of .ensures)
+returns c =
+    let a = c .before .before .before .before .before .before .args in
+    request-at (a .bytes .now) (a .at) (c .before .before .before .before .u64-at .result) (c .before .before .before .u16-at .result)
+    (c .before .before .u32-at .result) (c .before .tagged-at .result) (c .outcome-of .result) (c .before .before .before .before .u64-at .ensures)
+    (c .before .before .before .u16-at .ensures) (c .before .before .u32-at .ensures) (c .before .tagged-at .ensures) (c .outcome-of .ensures)
 
 pub request-at-spec : {M : Type 1} → statement M
 request-at-spec =

@@ -22,7 +22,10 @@ is-bad-request-at-requires : tie.Need-is-bad-request-at-requires Inv-loop μ-loo
 is-bad-request-at-requires c κs = omega arith
 
 returns : tie.Need-returns Inv-loop μ-loop
-returns c = any-found isBadRequestBytes 20 64 (c .before .before .before .loop .i) (c .before .before .before .loop .at) (c .before .before .before .before .before .args .bytes .now) (omega arith) (c .before .is-bad-request-at .ensures) (c .if1 .taken) ∙ c .before .before .before .loop .inv .2
+returns c =
+    any-found isBadRequestBytes 20 64 (c .before .before .before .loop .i) (c .before .before .before .loop .at)
+    (c .before .before .before .before .before .args .bytes .now) (omega arith) (c .before .is-bad-request-at .ensures) (c .if1 .taken)
+    ∙ c .before .before .before .loop .inv .2
 
 add-at : tie.Need-add-at Inv-loop μ-loop
 add-at c = omega arith
@@ -34,7 +37,13 @@ loop-less : tie.Need-loop-less Inv-loop μ-loop
 loop-less c = omega arith
 
 loop-again : tie.Need-loop-again Inv-loop μ-loop
-loop-again c = (omega arith, omega arith, any-more isBadRequestBytes 20 64 (c .before .before .before .loop .i) (c .before .before .before .loop .at) (c .before .before .before .before .before .args .bytes .now) (omega arith) (c .before .is-bad-request-at .ensures) (c .if1 .left) ∙ c .before .before .before .loop .inv .2)
+loop-again c = (
+  omega arith,
+  omega arith,
+  any-more isBadRequestBytes 20 64 (c .before .before .before .loop .i) (c .before .before .before .loop .at)
+      (c .before .before .before .before .before .args .bytes .now) (omega arith) (c .before .is-bad-request-at .ensures) (c .if1 .left)
+      ∙ c .before .before .before .loop .inv .2,
+)
 
 returns-2 : tie.Need-returns-2 Inv-loop μ-loop
 returns-2 c = any-end isBadRequestBytes 20 64 (c .before .loop .i) (drop (c .before .loop .at) (c .before .before .before .args .bytes .now)) (omega arith) ∙ c .before .loop .inv .2

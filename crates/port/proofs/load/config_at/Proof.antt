@@ -1,3 +1,4 @@
+-- The configuration's fields as they are read: one law says that together they are the configuration of the bytes.
 use borrow.Author.Needs.{needs}
 use Rattle.port.proofs.Laws.Head.{config-at}
 use Rattle.port.proofs.load.config_at.Statement.{statement}
@@ -37,7 +38,15 @@ mode-of-requires : tie.Need-mode-of-requires
 mode-of-requires c κs = search needs
 
 returns : tie.Need-returns
-returns c = config-at (c .before .before .before .before .before .before .before .before .before .before .before .before .args .bytes .now) (c .before .before .before .before .before .before .before .before .before .before .byte-at .ensures) (c .before .before .before .before .before .before .before .before .before .speed-of .ensures) (c .before .before .before .before .before .before .before .before .byte-at2 .ensures) (c .before .before .before .before .before .before .before .direction-of .ensures) (c .before .before .before .before .before .before .u16-at .ensures) (c .before .before .before .before .before .byte-at3 .ensures) (c .before .before .before .before .byte-at4 .ensures) (c .before .before .before .u16-at2 .ensures) (c .before .before .byte-at5 .ensures) (c .before .byte-at6 .ensures) (c .mode-of .ensures)
+returns c =
+    config-at (c .before .before .before .before .before .before .before .before .before .before .before .before .args .bytes .now)
+    (c .before .before .before .before .before .before .before .before .before .before .byte-at .ensures)
+    (c .before .before .before .before .before .before .before .before .before .speed-of .ensures)
+    (c .before .before .before .before .before .before .before .before .byte-at2 .ensures)
+    (c .before .before .before .before .before .before .before .direction-of .ensures)
+    (c .before .before .before .before .before .before .u16-at .ensures) (c .before .before .before .before .before .byte-at3 .ensures)
+    (c .before .before .before .before .byte-at4 .ensures) (c .before .before .before .u16-at2 .ensures) (c .before .before .byte-at5 .ensures)
+    (c .before .byte-at6 .ensures) (c .mode-of .ensures)
 
 pub config-at-spec : {M : Type 1} → statement M
 config-at-spec =

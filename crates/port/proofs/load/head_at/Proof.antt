@@ -1,3 +1,4 @@
+-- The head's fields as they are read: one law says that together they are the head of the bytes.
 use borrow.Author.Needs.{needs}
 use Rattle.port.proofs.Laws.Head.{head-at}
 use Rattle.port.proofs.load.head_at.Statement.{statement}
@@ -22,7 +23,10 @@ u16-at-requires-3 : tie.Need-u16-at-requires-3
 u16-at-requires-3 c κs = search needs
 
 returns : tie.Need-returns
-returns c = head-at (c .before .before .before .before .before .before .before .args .bytes .now) (c .before .before .before .before .before .u64-at .ensures) (c .before .before .before .before .byte-at .ensures) (c .before .before .before .u16-at .ensures) (c .before .before .u32-at .ensures) (c .before .u16-at2 .ensures) (c .u16-at3 .ensures)
+returns c =
+    head-at (c .before .before .before .before .before .before .before .args .bytes .now) (c .before .before .before .before .before .u64-at .ensures)
+    (c .before .before .before .before .byte-at .ensures) (c .before .before .before .u16-at .ensures) (c .before .before .u32-at .ensures)
+    (c .before .u16-at2 .ensures) (c .u16-at3 .ensures)
 
 pub head-at-spec : {M : Type 1} → statement M
 head-at-spec =

@@ -1,3 +1,4 @@
+-- The head's bytes and its reason as they are read: one law says that their tests are the test of the head.
 use borrow.Author.Needs.{needs}
 use Rattle.port.proofs.Laws.Head.{bad-head-at}
 use Rattle.port.proofs.load.is_bad_head.Statement.{statement}
@@ -22,7 +23,10 @@ is-bad-tagged-requires : tie.Need-is-bad-tagged-requires
 is-bad-tagged-requires c κs = search needs
 
 returns : tie.Need-returns
-returns c = bad-head-at (c .before .before .before .before .before .before .before .args .bytes .now) (c .before .before .before .before .before .byte-at .ensures) (c .before .before .before .before .byte-at2 .ensures) (c .before .before .before .byte-at3 .ensures) (c .before .before .byte-at4 .ensures) (c .before .tagged-at .ensures) (c .is-bad-tagged .ensures)
+returns c =
+    bad-head-at (c .before .before .before .before .before .before .before .args .bytes .now)
+    (c .before .before .before .before .before .byte-at .ensures) (c .before .before .before .before .byte-at2 .ensures)
+    (c .before .before .before .byte-at3 .ensures) (c .before .before .byte-at4 .ensures) (c .before .tagged-at .ensures) (c .is-bad-tagged .ensures)
 
 pub is-bad-head-spec : {M : Type 1} → statement M
 is-bad-head-spec =

@@ -1,3 +1,4 @@
+-- The session's parts as they are read: one law says that together they are the session of the bytes.
 use borrow.Author.Needs.{needs}
 use Rattle.port.proofs.Laws.Loaded.{session-at}
 use Rattle.port.proofs.load.load_session.Statement.{statement}
@@ -22,7 +23,10 @@ plans-at-requires : tie.Need-plans-at-requires
 plans-at-requires c κs = search needs
 
 returns : tie.Need-returns
-returns c = session-at (c .before .before .before .before .before .before .before .args .bytes .now) (c .before .before .before .before .before .config-at .ensures) (c .before .before .before .before .head-at .ensures) (c .before .before .before .tagged-at .ensures) (c .before .before .fatal-of .ensures) (c .before .requests-at .ensures) (c .plans-at .ensures)
+returns c =
+    session-at (c .before .before .before .before .before .before .before .args .bytes .now)
+    (c .before .before .before .before .before .config-at .ensures) (c .before .before .before .before .head-at .ensures)
+    (c .before .before .before .tagged-at .ensures) (c .before .before .fatal-of .ensures) (c .before .requests-at .ensures) (c .plans-at .ensures)
 
 pub load-session-spec : {M : Type 1} → statement M
 load-session-spec =

@@ -40,10 +40,18 @@ loop-less : tie.Need-loop-less Inv-loop μ-loop
 loop-less c = omega arith
 
 loop-again : tie.Need-loop-again Inv-loop μ-loop
-loop-again c = (omega arith, omega arith, simp length-set (c .before .before .loop .inv .2), read-more requestOf 20 64 (c .before .before .loop .i) (c .before .before .loop .at) (c .before .before .before .before .args .bytes .now) (c .before .before .loop .table) (c .request-at .result) (omega arith) (c .request-at .ensures) ∙ c .before .before .loop .inv .3)
+loop-again c = (
+  omega arith,
+  omega arith,
+  simp length-set (c .before .before .loop .inv .2),
+  read-more requestOf 20 64 (c .before .before .loop .i) (c .before .before .loop .at) (c .before .before .before .before .args .bytes .now)
+      (c .before .before .loop .table) (c .request-at .result) (omega arith) (c .request-at .ensures)
+      ∙ c .before .before .loop .inv .3,
+)
 
 returns : tie.Need-returns Inv-loop μ-loop
-returns c = sym (read-end requestOf 20 64 (c .before .loop .i) (drop (c .before .loop .at) (c .before .before .before .args .bytes .now)) (c .before .loop .table) (omega arith)) ∙ c .before .loop .inv .3
+returns c =
+    sym (read-end requestOf 20 64 (c .before .loop .i) (drop (c .before .loop .at) (c .before .before .before .args .bytes .now)) (c .before .loop .table) (omega arith)) ∙ c .before .loop .inv .3
 
 pub requests-at-spec : {M : Type 1} → statement M
 requests-at-spec =

@@ -1,3 +1,4 @@
+-- The byte at an offset is the first one of the rest from there.
 use borrow.Author.Needs.{needs}
 use Rattle.port.proofs.Laws.Numbers.{byte-at}
 use Rattle.port.proofs.numbers.byte_at.Statement.{statement}

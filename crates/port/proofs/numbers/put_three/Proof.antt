@@ -1,3 +1,4 @@
+-- Three stores, one behind the other.
 use native.Mathlib.Omega.{arith}
 use lib.ListN.{length-set}
 use borrow.Author.Needs.{needs}

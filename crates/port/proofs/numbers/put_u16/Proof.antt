@@ -1,3 +1,4 @@
+-- Two stores, the low byte first.
 use native.Mathlib.Omega.{arith}
 use lib.ListN.{length-set}
 use borrow.Author.Needs.{needs}

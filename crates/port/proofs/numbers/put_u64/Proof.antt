@@ -1,3 +1,4 @@
+-- Two halves, the low one first.
 use borrow.Author.Needs.{needs}
 use Rattle.port.proofs.Laws.Numbers.{u64-put}
 use Rattle.port.proofs.numbers.put_u64.Statement.{statement}
@@ -22,7 +23,10 @@ same-length : tie.Need-same-length
 same-length c = search needs
 
 returns : tie.Need-returns
-returns c = u64-put (c .before .before .before .before .before .before .before .before .before .args .bytes .now) (c .before .before .before .before .before .before .put-u32 .last .0) (c .before .before .put-u322 .last .0) (c .before .before .before .before .before .before .before .before .before .args .at) (c .before .before .before .before .before .before .before .before .before .args .x) (c .before .before .before .before .before .before .put-u32 .ensures) (c .before .before .put-u322 .ensures)
+returns c =
+    let a = c .before .before .before .before .before .before .before .before .before .args in
+    u64-put (a .bytes .now) (c .before .before .before .before .before .before .put-u32 .last .0) (c .before .before .put-u322 .last .0) (a .at)
+    (a .x) (c .before .before .before .before .before .before .put-u32 .ensures) (c .before .before .put-u322 .ensures)
 
 pub put-u64-spec : {M : Type 1} → statement M
 put-u64-spec =

@@ -1,3 +1,4 @@
+-- Two bytes, the low one first.
 use borrow.Author.Needs.{needs}
 use Rattle.port.proofs.Laws.Numbers.{u16-at}
 use Rattle.port.proofs.numbers.u16_at.Statement.{statement}
@@ -25,7 +26,9 @@ add-result : tie.Need-add-result
 add-result c = search needs
 
 returns : tie.Need-returns
-returns c = u16-at (c .before .before .before .before .before .args .bytes .now) (c .before .before .before .before .before .args .at) (c .before .before .wide .result) (c .wide2 .result) (c .before .before .wide .ensures .0) (c .wide2 .ensures .0)
+returns c =
+    let a = c .before .before .before .before .before .args in
+    u16-at (a .bytes .now) (a .at) (c .before .before .wide .result) (c .wide2 .result) (c .before .before .wide .ensures .0) (c .wide2 .ensures .0)
 
 pub u16-at-spec : {M : Type 1} → statement M
 u16-at-spec =

@@ -1,3 +1,4 @@
+-- Two halves, the low one first.
 use borrow.Author.Needs.{needs}
 use Rattle.port.proofs.Laws.Numbers.{u32-at}
 use Rattle.port.proofs.numbers.u32_at.Statement.{statement}
@@ -25,7 +26,9 @@ add-result : tie.Need-add-result
 add-result c = search needs
 
 returns : tie.Need-returns
-returns c = u32-at (c .before .before .before .args .bytes .now) (c .before .before .before .args .at) (c .before .u16-at .result) (c .u16-at2 .result) (c .before .u16-at .ensures) (c .u16-at2 .ensures)
+returns c =
+    let a = c .before .before .before .args in
+    u32-at (a .bytes .now) (a .at) (c .before .u16-at .result) (c .u16-at2 .result) (c .before .u16-at .ensures) (c .u16-at2 .ensures)
 
 pub u32-at-spec : {M : Type 1} → statement M
 u32-at-spec =

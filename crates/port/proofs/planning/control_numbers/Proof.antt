@@ -6,8 +6,8 @@ use Rattle.port.proofs.planning.control_numbers.Tie as tie
 answer-number-requires : tie.Need-answer-number-requires
 answer-number-requires c κs = search needs
 
-flag-number-requires : tie.Need-flag-number-requires
-flag-number-requires c κs = search needs
+flag-requires : tie.Need-flag-requires
+flag-requires c κs = search needs
 
 stage-numbers-requires : tie.Need-stage-numbers-requires
 stage-numbers-requires c κs = search needs
@@ -24,7 +24,7 @@ returns c =
       c .stage-numbers3 .ensures,
       c .before .stage-numbers2 .ensures,
       c .before .before .stage-numbers .ensures,
-      c .before .before .before .flag-number .ensures,
+      c .before .before .before .flag .ensures,
       c .before .before .before .before .answer-number .ensures,
     )
 
@@ -33,7 +33,7 @@ control-numbers-spec =
     tie.close
     (tie.spec
     answer-number-requires
-    flag-number-requires
+    flag-requires
     stage-numbers-requires
     stage-numbers-requires-2
     stage-numbers-requires-3

@@ -12,8 +12,8 @@ long c = sym (length-map (c .args .t1 .stages) _) ∙ c .good .0 .1 .1 .1 .1 .1 
 answer-number-requires : tie.Need-answer-number-requires
 answer-number-requires c κs = search needs
 
-flag-number-requires : tie.Need-flag-number-requires
-flag-number-requires c κs = search needs
+flag-requires : tie.Need-flag-requires
+flag-requires c κs = search needs
 
 element-copy-out-stage-numbers : tie.Need-element-copy-out-stage-numbers
 element-copy-out-stage-numbers c = search needs
@@ -45,7 +45,7 @@ returns c =
     (c .before .before .before .before .before .before .before .before .before .before .before .args .t1)
     (long (c .before .before .before .before .before .before .before .before .before .before .before))
     (c .before .before .before .before .before .before .before .before .before .answer-number .ensures)
-    (c .before .before .before .before .before .before .before .before .flag-number .ensures)
+    (c .before .before .before .before .before .before .before .before .flag .ensures)
     (c .before .before .before .before .before .before .stage-numbers .ensures)
     (c .before .before .before .before .stage-numbers2 .ensures)
     (c .before .before .stage-numbers3 .ensures)
@@ -56,7 +56,7 @@ data-numbers-spec =
     tie.close
     (tie.spec
     answer-number-requires
-    flag-number-requires
+    flag-requires
     element-copy-out-stage-numbers
     stage-numbers-requires
     element-copy-out-stage-numbers-2

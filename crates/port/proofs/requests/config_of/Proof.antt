@@ -1,3 +1,4 @@
+-- The fields as they came, and the cases that the numbers name.
 use borrow.Author.Needs.{needs}
 use Rattle.port.proofs.requests.config_of.Statement.{statement}
 use Rattle.port.proofs.requests.config_of.Tie as tie

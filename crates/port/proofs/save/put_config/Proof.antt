@@ -1,3 +1,4 @@
+-- Fields written one behind the other: one law says that together they are the configuration's bytes.
 use borrow.Author.Needs.{needs}
 use Rattle.port.proofs.Laws.Head.{config-put}
 use Rattle.port.proofs.save.put_config.Statement.{statement}
@@ -28,7 +29,15 @@ same-length : tie.Need-same-length
 same-length c = search needs
 
 returns : tie.Need-returns
-returns c = config-put (c .before .before .before .before .before .before .before .before .before .before .before .before .before .before .before .before .before .before .before .before .args .bytes .now) (c .before .before .before .before .before .before .before .before .before .before .before .before .before .before .before .before .before .before .before .before .args .cfg) (c .before .before .before .before .before .before .before .before .before .before .before .before .before .before .before .before .before .speed-tag .ensures) (c .before .before .before .before .before .before .before .before .before .before .before .before .before .before .before .before .direction-tag .ensures) (c .before .before .before .before .before .before .before .before .before .before .before .before .before .before .before .mode-tag .ensures) (c .before .before .before .before .before .before .before .before .before .before .before .before .before .before .put-three .ensures) (c .before .before .before .before .before .before .before .before .before .before .put-u16 .ensures) (c .before .before .before .before .before .before .put-u162 .ensures) (c .before .before .put-three2 .ensures)
+returns c =
+    let a = c .before .before .before .before .before .before .before .before .before .before .before .before .before .before .before .before .before .before .before .before .args in
+    config-put (a .bytes .now) (a .cfg)
+    (c .before .before .before .before .before .before .before .before .before .before .before .before .before .before .before .before .before .speed-tag .ensures)
+    (c .before .before .before .before .before .before .before .before .before .before .before .before .before .before .before .before .direction-tag .ensures)
+    (c .before .before .before .before .before .before .before .before .before .before .before .before .before .before .before .mode-tag .ensures)
+    (c .before .before .before .before .before .before .before .before .before .before .before .before .before .before .put-three .ensures)
+    (c .before .before .before .before .before .before .before .before .before .before .put-u16 .ensures)
+    (c .before .before .before .before .before .before .put-u162 .ensures) (c .before .before .put-three2 .ensures)
 
 pub put-config-spec : {M : Type 1} → statement M
 put-config-spec =

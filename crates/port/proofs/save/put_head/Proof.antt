@@ -1,3 +1,4 @@
+-- Fields written one behind the other: one law says that together they are the head's bytes.
 use borrow.Author.Needs.{needs}
 use Rattle.port.proofs.Laws.Head.{head-put}
 use Rattle.port.proofs.save.put_head.Statement.{statement}
@@ -28,7 +29,16 @@ same-length : tie.Need-same-length
 same-length c = search needs
 
 returns : tie.Need-returns
-returns c = head-put (c .before .before .before .before .before .before .before .before .before .before .before .before .before .before .before .before .before .before .before .before .before .before .before .before .before .before .args .bytes .now) (c .before .before .before .before .before .before .before .before .before .before .before .before .before .before .before .before .before .before .before .before .before .before .before .before .before .before .args .head) (c .before .before .before .before .before .before .before .before .before .before .before .before .before .before .before .before .before .before .before .before .before .before .before .flag-tag .ensures) (c .before .before .before .before .before .before .before .before .before .before .before .before .before .before .before .before .before .before .before .before .before .before .put-byte .ensures) (c .before .before .before .before .before .before .before .before .before .before .before .before .before .before .before .before .before .before .put-u64 .ensures) (c .before .before .before .before .before .before .before .before .before .before .before .before .before .before .put-u32 .ensures) (c .before .before .before .before .before .before .before .before .before .before .put-u16 .ensures) (c .before .before .before .before .before .before .put-u162 .ensures) (c .before .before .put-u163 .ensures)
+returns c =
+    let early = c .before .before .before .before .before .before .before .before .before .before .before .before .before .before .before .before .before .before in
+    let a = early .before .before .before .before .before .before .before .before .args in
+    head-put (a .bytes .now) (a .head)
+    (early .before .before .before .before .before .flag-tag .ensures)
+    (early .before .before .before .before .put-byte .ensures)
+    (early .put-u64 .ensures)
+    (c .before .before .before .before .before .before .before .before .before .before .before .before .before .before .put-u32 .ensures)
+    (c .before .before .before .before .before .before .before .before .before .before .put-u16 .ensures)
+    (c .before .before .before .before .before .before .put-u162 .ensures) (c .before .before .put-u163 .ensures)
 
 pub put-head-spec : {M : Type 1} → statement M
 put-head-spec =

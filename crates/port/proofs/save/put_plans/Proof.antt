@@ -45,19 +45,24 @@ loop-less c = omega arith
 
 loop-again : tie.Need-loop-again Inv-loop μ-loop
 loop-again c =
+    let a = c .before .before .before .before .before .before .before .before .args in
     let now = c .before .before .before .before .before .before .loop in
-    let many : length (c .before .before .before .before .before .before .before .before .args .t2) ≡ 1024 = long ((c .before .before .before .before .before .before .before .before)) in (
+    let many : length (a .t2) ≡ 1024 = long ((c .before .before .before .before .before .before .before .before)) in (
       omega arith,
       omega arith,
       c .before .before .put-plan .kept .0 ∙ now .inv .2,
-      write-more planBytes 7 (now .i) (now .at) (c .before .before .before .before .before .before .before .before .args .t2) blankPlan (getD (c .before .before .before .before .before .before .before .before .args .t2) (now .i) blankPlan) (now .bytes) (omega arith) refl (length-plan _) (c .before .before .put-plan .ensures) ∙ now .inv .3,
+      write-more planBytes 7 (now .i) (now .at) (a .t2) blankPlan (getD (a .t2) (now .i) blankPlan) (now .bytes) (omega arith) refl (length-plan _) (c .before .before .put-plan .ensures)
+          ∙ now .inv .3,
     )
 
 same-length : tie.Need-same-length Inv-loop μ-loop
 same-length c = c .before .loop .inv .2
 
 returns : tie.Need-returns Inv-loop μ-loop
-returns c = let many : length (c .before .before .before .args .t2) ≡ 1024 = long ((c .before .before .before)) in sym (write-end planBytes 7 (c .before .loop .i) (c .before .loop .at) (c .before .before .before .args .t2) (c .before .loop .bytes) (omega arith)) ∙ c .before .loop .inv .3
+returns c =
+    let a = c .before .before .before .args in
+    let many : length (a .t2) ≡ 1024 = long ((c .before .before .before)) in
+    sym (write-end planBytes 7 (c .before .loop .i) (c .before .loop .at) (a .t2) (c .before .loop .bytes) (omega arith)) ∙ c .before .loop .inv .3
 
 pub put-plans-spec : {M : Type 1} → statement M
 put-plans-spec =

@@ -1,3 +1,4 @@
+-- Parts written one behind the other: one law says that together they are the session's bytes.
 use mathlib.Core.Path.{_≡_, _∙_, sym}
 use lib.ListN.{length, length-map}
 use borrow.Author.Needs.{needs}
@@ -33,7 +34,17 @@ same-length : tie.Need-same-length
 same-length c = search needs
 
 returns : tie.Need-returns
-returns c = session-put (c .before .before .before .before .before .before .before .before .before .before .before .before .before .before .before .before .before .before .before .before .before .before .before .before .before .before .before .before .before .before .args .bytes .now) (c .before .before .before .before .before .before .before .before .before .before .before .before .before .before .before .before .before .before .before .before .before .before .before .before .before .before .before .before .before .before .args .session) (long ((c .before .before .before .before .before .before .before .before .before .before .before .before .before .before .before .before .before .before .before .before .before .before .before .before .before .before .before .before .before .before))) (c .before .before .before .before .before .before .before .before .before .before .before .before .before .before .before .before .before .before .before .before .before .before .before .put-mark .ensures) (c .before .before .before .before .before .before .before .before .before .before .before .before .before .before .before .before .before .before .before .put-config .ensures) (c .before .before .before .before .before .before .before .before .before .before .before .before .before .before .before .put-head .ensures) (c .before .before .before .before .before .before .before .before .before .before .before .fatal-tagged .ensures) (c .before .before .before .before .before .before .before .before .before .before .put-tagged .ensures) (c .before .before .before .before .before .before .put-requests .ensures) (c .before .before .put-plans .ensures)
+returns c =
+    let early = c .before .before .before .before .before .before .before .before .before .before .before .before .before .before .before .before .before .before .before in
+    let a = early .before .before .before .before .before .before .before .before .before .before .before .args in
+    session-put (a .bytes .now) (a .session)
+    (long (early .before .before .before .before .before .before .before .before .before .before .before))
+    (early .before .before .before .before .put-mark .ensures)
+    (early .put-config .ensures)
+    (c .before .before .before .before .before .before .before .before .before .before .before .before .before .before .before .put-head .ensures)
+    (c .before .before .before .before .before .before .before .before .before .before .before .fatal-tagged .ensures)
+    (c .before .before .before .before .before .before .before .before .before .before .put-tagged .ensures)
+    (c .before .before .before .before .before .before .put-requests .ensures) (c .before .before .put-plans .ensures)
 
 pub save-session-spec : {M : Type 1} → statement M
 save-session-spec =

@@ -17,7 +17,9 @@ fault-of-requires : tie.Need-fault-of-requires
 fault-of-requires c κs = search needs
 
 returns-3 : tie.Need-returns-3
-returns-3 c = last-fatal (c .before .before .before .before .before .args .t .tag) (c .before .before .before .before .before .args .t .kind) (c .before .before .before .before .before .args .t .word) (c .fault-of .result) (c .before .before .before .if1 .left) (c .before .if2 .left) (c .fault-of .ensures)
+returns-3 c =
+    let a = c .before .before .before .before .before .args in
+    last-fatal (a .t .tag) (a .t .kind) (a .t .word) (c .fault-of .result) (c .before .before .before .if1 .left) (c .before .if2 .left) (c .fault-of .ensures)
 
 pub fatal-of-spec : {M : Type 1} → statement M
 fatal-of-spec = tie.close (tie.spec returns returns-2 fault-of-requires returns-3)

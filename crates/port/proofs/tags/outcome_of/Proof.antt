@@ -16,16 +16,26 @@ returns-2 : tie.Need-returns-2
 returns-2 c = sym (ap (λ (n : ℕ). outcomeOf (tagged n (c .before .before .before .before .args .t .kind) (c .before .before .before .before .args .t .word))) (c .if2 .taken))
 
 returns-3 : tie.Need-returns-3
-returns-3 c = sym (ap (λ (n : ℕ). outcomeOf (tagged n (c .before .before .before .before .before .before .args .t .kind) (c .before .before .before .before .before .before .args .t .word))) (c .if3 .taken))
+returns-3 c =
+    let a = c .before .before .before .before .before .before .args in
+    sym (ap (λ (n : ℕ). outcomeOf (tagged n (a .t .kind) (a .t .word))) (c .if3 .taken))
 
 fault-of-requires : tie.Need-fault-of-requires
 fault-of-requires c κs = search needs
 
 returns-4 : tie.Need-returns-4
-returns-4 c = ap (λ (k : Dwc2TransferFault). Fault k (c .before .before .before .before .before .before .before .before .before .args .t .word)) (c .fault-of .ensures) ∙ sym (ap (λ (n : ℕ). outcomeOf (tagged n (c .before .before .before .before .before .before .before .before .before .args .t .kind) (c .before .before .before .before .before .before .before .before .before .args .t .word))) (c .before .if4 .taken))
+returns-4 c =
+    let a = c .before .before .before .before .before .before .before .before .before .args in
+    ap (λ (k : Dwc2TransferFault). Fault k (a .t .word)) (c .fault-of .ensures) ∙ sym (ap (λ (n : ℕ). outcomeOf (tagged n (a .t .kind) (a .t .word))) (c .before .if4 .taken))
 
 returns-5 : tie.Need-returns-5
-returns-5 c = simp (ne-eqb _ _ (c .before .before .before .before .before .before .if1 .left), ne-eqb _ _ (c .before .before .before .before .if2 .left), ne-eqb _ _ (c .before .before .if3 .left), ne-eqb _ _ (c .if4 .left))
+returns-5 c =
+    simp (
+      ne-eqb _ _ (c .before .before .before .before .before .before .if1 .left),
+      ne-eqb _ _ (c .before .before .before .before .if2 .left),
+      ne-eqb _ _ (c .before .before .if3 .left),
+      ne-eqb _ _ (c .if4 .left),
+    )
 
 pub outcome-of-spec : {M : Type 1} → statement M
 outcome-of-spec =

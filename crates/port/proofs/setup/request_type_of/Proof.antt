@@ -2,8 +2,8 @@
 use borrow.Author.Tests.{ne-eqb}
 use mathlib.Core.Path.{sym, ap}
 use Rattle.port.specs.Planning.{requestTypeOf}
-use Rattle.port.proofs.planning.request_type_of.Statement.{statement}
-use Rattle.port.proofs.planning.request_type_of.Tie as tie
+use Rattle.port.proofs.setup.request_type_of.Statement.{statement}
+use Rattle.port.proofs.setup.request_type_of.Tie as tie
 
 returns : tie.Need-returns
 returns c = sym (ap requestTypeOf (c .if1 .taken))

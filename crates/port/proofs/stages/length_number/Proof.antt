@@ -2,8 +2,8 @@
 use mathlib.Core.Path.{sym, ap}
 use Rattle.port.specs.Planning.{lengthNumber}
 use borrow.Author.Needs.{needs}
-use Rattle.port.proofs.planning.length_number.Statement.{statement}
-use Rattle.port.proofs.planning.length_number.Tie as tie
+use Rattle.port.proofs.stages.length_number.Statement.{statement}
+use Rattle.port.proofs.stages.length_number.Tie as tie
 
 enum-known-length : tie.Need-enum-known-length
 enum-known-length c = search needs

@@ -1,7 +1,7 @@
 -- The fields as they came, and what the numbers name.
 use borrow.Author.Needs.{needs}
-use Rattle.port.proofs.planning.setup_of.Statement.{statement}
-use Rattle.port.proofs.planning.setup_of.Tie as tie
+use Rattle.port.proofs.setup.setup_of.Statement.{statement}
+use Rattle.port.proofs.setup.setup_of.Tie as tie
 
 request-type-of-requires : tie.Need-request-type-of-requires
 request-type-of-requires c κs = search needs

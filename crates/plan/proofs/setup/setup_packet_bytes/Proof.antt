@@ -1,8 +1,8 @@
 -- `setup_packet_bytes` is its definition on either side of the test on the length.
 use borrow.Author.Needs.{needs}
 use borrow.Author.Tests.{lt-ltb, le-ltb}
-use Rattle.plan.proofs.control.setup_packet_bytes.Statement.{statement}
-use Rattle.plan.proofs.control.setup_packet_bytes.Tie as tie
+use Rattle.plan.proofs.setup.setup_packet_bytes.Statement.{statement}
+use Rattle.plan.proofs.setup.setup_packet_bytes.Tie as tie
 
 returns : tie.Need-returns
 returns c = rw (lt-ltb 65_535 (c .before .args .len) (c .if1 .taken))

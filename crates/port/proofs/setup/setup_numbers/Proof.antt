@@ -1,7 +1,7 @@
 -- The fields as they came, and the numbers of the enums.
 use borrow.Author.Needs.{needs}
-use Rattle.port.proofs.planning.setup_numbers.Statement.{statement}
-use Rattle.port.proofs.planning.setup_numbers.Tie as tie
+use Rattle.port.proofs.setup.setup_numbers.Statement.{statement}
+use Rattle.port.proofs.setup.setup_numbers.Tie as tie
 
 answer-number-requires : tie.Need-answer-number-requires
 answer-number-requires c κs = search needs

@@ -7,8 +7,8 @@ use Rattle.words.specs.declared.types.Direction.{Direction}
 use Rattle.words.specs.declared.types.Direction.the-variants.{Out, In}
 use Rattle.words.specs.Numbers.{directionNumber}
 use Rattle.plan.specs.DataStages.{isIn}
-use Rattle.plan.proofs.control.request_type_byte.Statement.{statement}
-use Rattle.plan.proofs.control.request_type_byte.Tie as tie
+use Rattle.plan.proofs.setup.request_type_byte.Statement.{statement}
+use Rattle.plan.proofs.setup.request_type_byte.Tie as tie
 
 -- the bit of a direction
 in-bit : (d : Direction) → isIn d ≡ true → directionNumber d ≡ 1

@@ -3,8 +3,8 @@ use borrow.Author.Tests.{lt-ltb, le-ltb}
 use mathlib.Core.Path.{refl}
 use Rattle.port.proofs.Laws.Planning.{first-of, second-of}
 use borrow.Author.Needs.{needs}
-use Rattle.port.proofs.planning.dwc2_stage_actual_length.Statement.{statement}
-use Rattle.port.proofs.planning.dwc2_stage_actual_length.Tie as tie
+use Rattle.port.proofs.stages.dwc2_stage_actual_length.Statement.{statement}
+use Rattle.port.proofs.stages.dwc2_stage_actual_length.Tie as tie
 
 returns : tie.Need-returns
 returns c = first-of _ _ refl (lt-ltb _ _ (c .if1 .taken)) refl

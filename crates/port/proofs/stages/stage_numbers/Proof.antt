@@ -1,7 +1,7 @@
 -- The fields as they came, and the numbers of the enums.
 use borrow.Author.Needs.{needs}
-use Rattle.port.proofs.planning.stage_numbers.Statement.{statement}
-use Rattle.port.proofs.planning.stage_numbers.Tie as tie
+use Rattle.port.proofs.stages.stage_numbers.Statement.{statement}
+use Rattle.port.proofs.stages.stage_numbers.Tie as tie
 
 role-number-requires : tie.Need-role-number-requires
 role-number-requires c κs = search needs

@@ -2,8 +2,8 @@
 use borrow.Author.Tests.{ne-eqb}
 use mathlib.Core.Path.{sym, ap}
 use Rattle.port.specs.Planning.{roleOf}
-use Rattle.port.proofs.planning.role_of.Statement.{statement}
-use Rattle.port.proofs.planning.role_of.Tie as tie
+use Rattle.port.proofs.stages.role_of.Statement.{statement}
+use Rattle.port.proofs.stages.role_of.Tie as tie
 
 returns : tie.Need-returns
 returns c = sym (ap roleOf (c .if1 .taken))

@@ -1,8 +1,8 @@
 -- The packet of crate `plan` for what the numbers name.
 use Rattle.port.proofs.Laws.Planning.{first-of, second-of}
 use borrow.Author.Needs.{needs}
-use Rattle.port.proofs.planning.dwc2_setup_packet_bytes.Statement.{statement}
-use Rattle.port.proofs.planning.dwc2_setup_packet_bytes.Tie as tie
+use Rattle.port.proofs.setup.dwc2_setup_packet_bytes.Statement.{statement}
+use Rattle.port.proofs.setup.dwc2_setup_packet_bytes.Tie as tie
 
 is-bad-setup-requires : tie.Need-is-bad-setup-requires
 is-bad-setup-requires c κs = search needs

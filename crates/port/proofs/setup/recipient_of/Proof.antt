@@ -2,8 +2,8 @@
 use borrow.Author.Tests.{ne-eqb}
 use mathlib.Core.Path.{sym, ap}
 use Rattle.port.specs.Planning.{recipientOf}
-use Rattle.port.proofs.planning.recipient_of.Statement.{statement}
-use Rattle.port.proofs.planning.recipient_of.Tie as tie
+use Rattle.port.proofs.setup.recipient_of.Statement.{statement}
+use Rattle.port.proofs.setup.recipient_of.Tie as tie
 
 returns : tie.Need-returns
 returns c = sym (ap recipientOf (c .if1 .taken))

@@ -1,7 +1,7 @@
 -- The fields as they came, and what the numbers name.
 use borrow.Author.Needs.{needs}
-use Rattle.port.proofs.planning.stage_of.Statement.{statement}
-use Rattle.port.proofs.planning.stage_of.Tie as tie
+use Rattle.port.proofs.stages.stage_of.Statement.{statement}
+use Rattle.port.proofs.stages.stage_of.Tie as tie
 
 role-of-requires : tie.Need-role-of-requires
 role-of-requires c κs = search needs

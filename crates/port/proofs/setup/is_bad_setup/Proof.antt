@@ -1,7 +1,7 @@
 -- One number or another.
 use borrow.Author.Needs.{needs}
-use Rattle.port.proofs.planning.is_bad_setup.Statement.{statement}
-use Rattle.port.proofs.planning.is_bad_setup.Tie as tie
+use Rattle.port.proofs.setup.is_bad_setup.Statement.{statement}
+use Rattle.port.proofs.setup.is_bad_setup.Tie as tie
 
 is-bad-direction-requires : tie.Need-is-bad-direction-requires
 is-bad-direction-requires c κs = search needs
