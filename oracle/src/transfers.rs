@@ -4,13 +4,14 @@ use crate::backend::kmod::{
     Kernel,
     dwc2::channel::non_iso::{NonIsoChannelState, access},
 };
+use crate::board::{Board, set_board, with_board};
 use crate::calls::*;
 use crate::camera::{direction_of, speed_of};
 use crate::descriptor::EndpointType;
 use crate::endpoint::{RequestId, TransferBuffer, TransferRequest};
 use crate::err::TransferError;
 use crate::host::ControlSetup;
-use crate::shim_board::{Board, ChannelConfig, Dwc2Stats, EndpointAddress, EndpointInfo, HostChannelPool, set_board, with_board};
+use crate::shim_board::{ChannelConfig, Dwc2Stats, EndpointAddress, EndpointInfo, HostChannelPool};
 use crate::shim_regs::Dwc2Registers;
 use crate::transfer::{Recipient, RequestType};
 

@@ -12,7 +12,7 @@ use crate::shim_board::{ChannelConfig, ChannelLease, Dwc2Stats, EndpointAddress,
 use crate::shim_regs::Dwc2Registers;
 use crate::transfer::{Direction, Recipient, RequestType};
 
-pub use crate::shim_dma::SMALL_ARRAY;
+pub use crate::board::SMALL_ARRAY;
 
 pub struct Planner {
     state: NonIsoChannelState,
