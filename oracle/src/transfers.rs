@@ -107,6 +107,18 @@ impl Transferred {
         access::touch(&self.state, desc as usize, word);
     }
 
+    /// the controller's counts for a plan of which every byte came
+    pub fn all_came(&mut self, plan: &Plan, array: &[u32]) {
+        for (stage, (_, lengths)) in plan.stages.iter().zip(&self.stages) {
+            for (i, length) in lengths.iter().enumerate() {
+                let desc = stage.desc_base + i as u32;
+                let asked = array[2 * desc as usize] & 0x1_ffff;
+                let word = if stage.hcchar & 1 << 15 != 0 { asked - *length as u32 } else { 0 };
+                access::touch(&self.state, desc as usize, word);
+            }
+        }
+    }
+
     /// what stage `i` moved
     pub fn moved(&self, i: usize) -> u64 {
         access::moved(&self.state, i) as u64
