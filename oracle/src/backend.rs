@@ -18,12 +18,12 @@ pub(crate) mod kmod {
         }
 
         pub(crate) mod stats {
-            pub(crate) use crate::shim_board::Dwc2Stats;
+            pub(crate) use crate::shim_channel::Dwc2Stats;
         }
 
         #[allow(dead_code, unused)]
         pub(crate) mod channel {
-            pub(crate) use crate::shim_board::{ChannelConfig, ChannelLease, HostChannelPool};
+            pub(crate) use crate::shim_channel::{ChannelConfig, ChannelLease, HostChannelPool};
             include!(concat!(env!("OUT_DIR"), "/channel_mods.rs"));
         }
     }

@@ -28,7 +28,7 @@ mod backend;
 #[cfg(lifted)]
 mod board;
 #[cfg(lifted)]
-mod shim_board;
+mod shim_channel;
 #[cfg(lifted)]
 mod shim_dma;
 #[cfg(lifted)]

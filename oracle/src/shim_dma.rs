@@ -101,7 +101,7 @@ impl Dwc2DmaBuffer {
     pub fn new(
         _kernel: &Kernel,
         _pool: &mut Dwc2DmaBufferPool,
-        _stats: &crate::shim_board::Dwc2Stats,
+        _stats: &crate::shim_channel::Dwc2Stats,
         buffer: Option<TransferBuffer>,
         _direction: Direction,
         alloc_len: usize,

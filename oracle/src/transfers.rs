@@ -11,7 +11,7 @@ use crate::descriptor::EndpointType;
 use crate::endpoint::{RequestId, TransferBuffer, TransferRequest};
 use crate::err::TransferError;
 use crate::host::ControlSetup;
-use crate::shim_board::{ChannelConfig, Dwc2Stats, EndpointAddress, EndpointInfo, HostChannelPool};
+use crate::shim_channel::{ChannelConfig, Dwc2Stats, EndpointAddress, EndpointInfo, HostChannelPool};
 use crate::shim_regs::Dwc2Registers;
 use crate::transfer::{Recipient, RequestType};
 

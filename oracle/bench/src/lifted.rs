@@ -16,8 +16,8 @@ mod shim_macros;
 #[path = "../../src/backend.rs"]
 mod backend;
 mod board;
-#[path = "../../src/shim_board.rs"]
-mod shim_board;
+#[path = "../../src/shim_channel.rs"]
+mod shim_channel;
 #[path = "../../src/shim_dma.rs"]
 mod shim_dma;
 #[path = "../../src/shim_regs.rs"]

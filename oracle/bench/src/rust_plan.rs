@@ -8,7 +8,7 @@ use crate::backend::kmod::{
 use crate::descriptor::EndpointType;
 use crate::endpoint::{TransferBuffer, TransferRequest};
 use crate::host::{ControlSetup, hub::Speed};
-use crate::shim_board::{ChannelConfig, ChannelLease, Dwc2Stats, EndpointAddress, EndpointInfo, HostChannelPool};
+use crate::shim_channel::{ChannelConfig, ChannelLease, Dwc2Stats, EndpointAddress, EndpointInfo, HostChannelPool};
 use crate::shim_regs::Dwc2Registers;
 use crate::transfer::{Direction, Recipient, RequestType};
 

@@ -8,7 +8,7 @@ use crate::backend::kmod::{
 use crate::board::with_board;
 use crate::endpoint::{IsoPacket, RequestId, TransferBuffer, TransferCompletion, TransferRequest};
 use crate::err::TransferError;
-use crate::shim_board::{ChannelConfig, Dwc2Stats, EndpointAddress, EndpointInfo, HostChannelPool};
+use crate::shim_channel::{ChannelConfig, Dwc2Stats, EndpointAddress, EndpointInfo, HostChannelPool};
 use crate::shim_regs::Dwc2Registers;
 
 pub struct RustSession {
