@@ -1,18 +1,10 @@
-// Behind non_iso.rs: reaches its private items. No logic of its own.
+// Behind non_iso.rs: its private items as the oracle compares them. No logic of its own.
 use super::*;
 use crate::calls::{Role, Stage};
 
-pub(crate) fn split(len: usize, packet: u16) -> Vec<usize> {
-    split_dma_lengths(len, packet)
-}
-
-pub(crate) fn packets(len: usize, packet: u16) -> u32 {
-    packet_count(len, packet)
-}
-
-pub(crate) fn setup_bytes(setup: &ControlSetup, direction: Direction, len: usize) -> [u8; 8] {
-    setup_packet_bytes(setup, direction, len)
-}
+#[path = "access_non_iso_shared.rs"]
+mod shared;
+pub(crate) use shared::*;
 
 pub(crate) fn set_toggle(state: &mut NonIsoChannelState, toggle: bool) {
     state.data_toggle = DataToggle(toggle);
@@ -52,7 +44,7 @@ pub(crate) fn planned(state: &NonIsoChannelState) -> Planned {
     });
     Planned {
         stages: stages.collect(),
-        words: active.descs.read_all().iter().flat_map(|d| [d.status.get(), d.paddr]).collect(),
+        words: words_of(active),
         setup: active._setup_dma.as_ref().map(|a| a.content.clone()),
     }
 }
@@ -65,9 +57,7 @@ pub(crate) fn touch(state: &NonIsoChannelState, desc: usize, word: u32) {
 
 /// the length that stage `i` of the request in flight moved
 pub(crate) fn moved(state: &NonIsoChannelState, i: usize) -> usize {
-    let active = state.active.as_ref().expect("a request in flight");
-    let stage = &active.stages[i].stage;
-    stage_actual_length(stage, active.descs.read_descs(stage.desc_base, stage.descs.len()))
+    moved_by(state.active.as_ref().expect("a request in flight"), i)
 }
 
 /// so that `Drop` leaks nothing

@@ -66,6 +66,24 @@ pub struct Transfer {
     pub words: u32,
 }
 
+impl Transfer {
+    /// open gates, readings 0, and a buffer at 0 for these lengths
+    pub fn plain(lengths: &[u32]) -> Transfer {
+        Transfer {
+            isochronous: true,
+            has_buffer: true,
+            buffer_len: lengths.iter().sum(),
+            base: 0,
+            start_reading: 0,
+            frame_reading: 0,
+            channel_free: true,
+            gate_program: true,
+            gate_enable: true,
+            words: u32::MAX,
+        }
+    }
+}
+
 #[derive(Clone, Copy, PartialEq, Eq, Debug, Hash)]
 pub struct Event {
     pub reported: bool,

@@ -4,10 +4,11 @@ use crate::backend::kmod::{
     Kernel,
     dwc2::channel::iso::{IsoChannelState, access},
 };
+use crate::board::{Board, set_board, with_board};
 use crate::calls::*;
 use crate::endpoint::{IsoPacket, RequestId, TransferBuffer, TransferRequest};
 use crate::err::TransferError;
-use crate::shim_board::{Board, ChannelConfig, Dwc2Stats, EndpointAddress, EndpointInfo, HostChannelPool, set_board, with_board};
+use crate::shim_channel::{ChannelConfig, Dwc2Stats, EndpointAddress, EndpointInfo, HostChannelPool};
 use crate::shim_regs::Dwc2Registers;
 use crate::shim_words::Dwc2TransferFault;
 use crate::source::ISO_ERRORS;

@@ -54,18 +54,6 @@ fn read_back(
     Ok(())
 }
 
-/// the counts of a transfer in which every byte came
-fn all_came(plan: &Plan, array: &[u32], rust: &mut rust::Transferred) {
-    let lengths: Vec<Vec<usize>> = rust.stages.iter().map(|(_, l)| l.clone()).collect();
-    for (stage, lengths) in plan.stages.iter().zip(lengths) {
-        for (i, length) in lengths.iter().enumerate() {
-            let desc = stage.desc_base + i as u32;
-            let asked = array[2 * desc as usize] & 0x1_ffff;
-            rust.touch(desc, if stage.hcchar & 1 << 15 != 0 { asked - *length as u32 } else { 0 });
-        }
-    }
-}
-
 fn data(rng: &mut Rng, r: DataRequest) -> Result<bool, String> {
     let mut array = vec![BLANK; 2_048];
     let plan = model::data_plan(&r, &mut array);
@@ -81,7 +69,7 @@ fn data(rng: &mut Rng, r: DataRequest) -> Result<bool, String> {
     if rng.one_in(2) {
         read_back(&r, rng, &plan, &mut array, &mut lifted)?;
     } else {
-        all_came(&plan, &array, &mut lifted);
+        lifted.all_came(&plan, &array);
         let (moved, toggle) = lifted.finish();
         if moved != r.len || toggle != plan.toggle {
             return Err(format!("{r:?}\n  after the transfer: model {} {}, Rust {moved} {toggle}", r.len, plan.toggle));
@@ -116,7 +104,7 @@ fn control(rng: &mut Rng, r: ControlRequest) -> Result<bool, String> {
     if rng.one_in(2) {
         read_back(&r, rng, &plan, &mut array, &mut lifted)?;
     } else {
-        all_came(&plan, &array, &mut lifted);
+        lifted.all_came(&plan, &array);
         let (moved, _) = lifted.finish();
         if moved != r.len {
             return Err(format!("{r:?}\n  after the transfer: model {}, Rust {moved}", r.len));

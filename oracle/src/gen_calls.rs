@@ -53,19 +53,10 @@ const ALL_RING: u32 = u32::MAX;
 /// a first submission of one packet that a gate turns away
 pub fn shut(rng: &mut Rng) -> Call {
     let first = rng.one_in(2);
-    let transfer = Transfer {
-        isochronous: true,
-        has_buffer: true,
-        buffer_len: 1,
-        base: 0,
-        start_reading: rng.word(),
-        frame_reading: rng.word(),
-        channel_free: true,
-        gate_program: !first,
-        gate_enable: first,
-        words: u32::MAX,
-    };
-    Call::Submit { transfer, lengths: vec![1], ring_len: ALL_RING }
+    let lengths = vec![1];
+    let (start_reading, frame_reading) = (rng.word(), rng.word());
+    let transfer = Transfer { start_reading, frame_reading, gate_program: !first, gate_enable: first, ..Transfer::plain(&lengths) };
+    Call::Submit { transfer, lengths, ring_len: ALL_RING }
 }
 
 impl Source {

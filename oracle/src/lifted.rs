@@ -24,7 +24,11 @@ extern crate self as usb_if;
 #[macro_use]
 mod shim_macros;
 #[cfg(lifted)]
-mod shim_board;
+mod backend;
+#[cfg(lifted)]
+mod board;
+#[cfg(lifted)]
+mod shim_channel;
 #[cfg(lifted)]
 mod shim_dma;
 #[cfg(lifted)]
@@ -51,40 +55,6 @@ pub use source::{ISO_SOURCE, NON_ISO_SOURCE};
 pub const ISO_SOURCE: &str = "iso.rs: not at hand";
 #[cfg(not(lifted))]
 pub const NON_ISO_SOURCE: &str = "non_iso.rs: not at hand";
-
-// the places at which the two files look for their neighbours
-#[cfg(lifted)]
-mod backend {
-    pub(crate) mod kmod {
-        pub(crate) use crate::shim_dma::Kernel;
-
-        pub(crate) mod dwc2 {
-            pub(crate) use crate::shim_words::{
-                Dwc2EpType, Dwc2Pid, Dwc2TransferFault, dma_addr32, endpoint_number, fault_to_transfer_error, hcchar, hcint_fault,
-                hctsiz_ddma,
-            };
-
-            pub(crate) mod dma {
-                pub(crate) use crate::shim_dma::{DmaDescriptors, Dwc2DmaBuffer, Dwc2DmaBufferPool};
-                pub(crate) use crate::shim_words::{DmaDescriptor, initial_len};
-            }
-
-            pub(crate) mod reg {
-                pub(crate) use crate::shim_regs::*;
-            }
-
-            pub(crate) mod stats {
-                pub(crate) use crate::shim_board::Dwc2Stats;
-            }
-
-            #[allow(dead_code, unused)]
-            pub(crate) mod channel {
-                pub(crate) use crate::shim_board::{ChannelConfig, ChannelLease, HostChannelPool};
-                include!(concat!(env!("OUT_DIR"), "/channel_mods.rs"));
-            }
-        }
-    }
-}
 
 #[cfg(lifted)]
 mod camera;

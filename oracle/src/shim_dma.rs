@@ -1,23 +1,20 @@
-//! Memory for DMA: descriptor arrays, buffers and small arrays. Nothing is allocated for the data; addresses are handed in.
+//! Memory for DMA. The descriptors and the small arrays are allocated, as the Rust does; the data is not. Addresses are handed in.
 
-use crate::{endpoint::TransferBuffer, err::TransferError, shim_board::with_board, shim_words::DmaDescriptor, transfer::Direction};
+use crate::{
+    board::{DmaAddr, with_board},
+    endpoint::TransferBuffer,
+    err::TransferError,
+    shim_words::DmaDescriptor,
+    transfer::Direction,
+};
 use core::cell::UnsafeCell;
 
 #[derive(Clone)]
 pub struct Kernel;
 
-#[derive(Clone, Copy)]
-pub struct DmaAddr(u64);
-
-impl DmaAddr {
-    pub fn as_u64(self) -> u64 {
-        self.0
-    }
-}
-
 pub struct CoherentArray<T> {
     pub content: Vec<T>,
-    address: u64,
+    address: DmaAddr,
 }
 
 impl<T> CoherentArray<T> {
@@ -26,14 +23,13 @@ impl<T> CoherentArray<T> {
     }
 
     pub fn dma_addr(&self) -> DmaAddr {
-        DmaAddr(self.address)
+        self.address
     }
 }
 
 impl Kernel {
     pub fn coherent_array_zero_with_align<T: Clone + Default>(&self, len: usize, _align: usize) -> Result<CoherentArray<T>, String> {
-        let address = with_board(|b| b.arrays.pop_front()).expect("an address for each small array");
-        Ok(CoherentArray { content: vec![T::default(); len], address })
+        Ok(CoherentArray { content: vec![T::default(); len], address: with_board(|b| b.array()) })
     }
 }
 
@@ -53,27 +49,28 @@ impl DmaDescriptors {
         0x1000
     }
 
+    #[inline(always)]
     pub fn write_descs(&self, index: usize, descs: &[DmaDescriptor]) {
         // SAFETY: one thread, and no slice handed out by `read_descs` lives across a write
         let cells = unsafe { &mut *self.cells.get() };
         cells[index..index + descs.len()].clone_from_slice(descs);
     }
 
+    #[inline(always)]
     pub fn read_descs(&self, index: usize, count: usize) -> &[DmaDescriptor] {
         // SAFETY: as above
         let cells = unsafe { &*self.cells.get() };
         &cells[index..index + count]
     }
 
+    #[inline(always)]
     pub fn clear(&self, index: usize) {
         self.write_descs(index, &[DmaDescriptor { status: 0.into(), paddr: 0 }]);
     }
 
     pub fn clear_all(&self) {
-        let count = self.read_all().len();
-        for index in 0..count {
-            self.clear(index);
-        }
+        // SAFETY: as above
+        unsafe { &mut *self.cells.get() }.fill(DmaDescriptor { status: 0.into(), paddr: 0 });
     }
 
     pub fn read_all(&self) -> &[DmaDescriptor] {
@@ -84,8 +81,7 @@ impl DmaDescriptors {
 
 impl Drop for DmaDescriptors {
     fn drop(&mut self) {
-        let dirty = self.cells.get_mut().iter().any(|d| d.status.get() != 0 || d.paddr != 0);
-        with_board(|b| b.dropped_dirty = dirty);
+        with_board(|b| b.note_dropped(self.cells.get_mut()));
     }
 }
 
@@ -105,12 +101,12 @@ impl Dwc2DmaBuffer {
     pub fn new(
         _kernel: &Kernel,
         _pool: &mut Dwc2DmaBufferPool,
-        _stats: &crate::shim_board::Dwc2Stats,
+        _stats: &crate::shim_channel::Dwc2Stats,
         buffer: Option<TransferBuffer>,
         _direction: Direction,
         alloc_len: usize,
     ) -> Result<Dwc2DmaBuffer, TransferError> {
-        with_board(|b| b.alloc_len = alloc_len);
+        with_board(|b| b.note_buffer(alloc_len));
         Ok(Dwc2DmaBuffer { address: with_board(|b| b.base), len: buffer.map_or(0, |b| b.len) })
     }
 

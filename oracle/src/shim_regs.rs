@@ -1,6 +1,6 @@
 //! Modelled registers: a write is noted on the board, a reading comes from it.
 
-use crate::shim_board::with_board;
+use crate::board::with_board;
 use core::ops::BitAnd;
 
 pub const HCINT_XFERCOMPL: u32 = 1 << 0;
@@ -34,7 +34,7 @@ pub struct ChannelRegisters;
 
 impl Dwc2Registers {
     pub fn frame_number(&self) -> u32 {
-        with_board(|b| b.readings.pop_front()).expect("a reading for each look at the frame number")
+        with_board(|b| b.reading())
     }
 
     pub fn periodic_odd_frame_bit(&self) -> u32 {

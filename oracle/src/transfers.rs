@@ -4,13 +4,14 @@ use crate::backend::kmod::{
     Kernel,
     dwc2::channel::non_iso::{NonIsoChannelState, access},
 };
+use crate::board::{Board, set_board, with_board};
 use crate::calls::*;
 use crate::camera::{direction_of, speed_of};
 use crate::descriptor::EndpointType;
 use crate::endpoint::{RequestId, TransferBuffer, TransferRequest};
 use crate::err::TransferError;
 use crate::host::ControlSetup;
-use crate::shim_board::{Board, ChannelConfig, Dwc2Stats, EndpointAddress, EndpointInfo, HostChannelPool, set_board, with_board};
+use crate::shim_channel::{ChannelConfig, Dwc2Stats, EndpointAddress, EndpointInfo, HostChannelPool};
 use crate::shim_regs::Dwc2Registers;
 use crate::transfer::{Recipient, RequestType};
 
@@ -104,6 +105,18 @@ impl Transferred {
     /// the controller's word for a descriptor
     pub fn touch(&mut self, desc: u32, word: u32) {
         access::touch(&self.state, desc as usize, word);
+    }
+
+    /// the controller's counts for a plan of which every byte came
+    pub fn all_came(&mut self, plan: &Plan, array: &[u32]) {
+        for (stage, (_, lengths)) in plan.stages.iter().zip(&self.stages) {
+            for (i, length) in lengths.iter().enumerate() {
+                let desc = stage.desc_base + i as u32;
+                let asked = array[2 * desc as usize] & 0x1_ffff;
+                let word = if stage.hcchar & 1 << 15 != 0 { asked - *length as u32 } else { 0 };
+                access::touch(&self.state, desc as usize, word);
+            }
+        }
     }
 
     /// what stage `i` moved

@@ -49,18 +49,7 @@ fn camera(speed: Speed, interval: u16, mode: Mode) -> Config {
 }
 
 fn submission(start_reading: u32, frame_reading: u32, lengths: &[u32]) -> Call {
-    let transfer = Transfer {
-        isochronous: true,
-        has_buffer: true,
-        buffer_len: lengths.iter().sum(),
-        base: 4_096,
-        start_reading,
-        frame_reading,
-        channel_free: true,
-        gate_program: true,
-        gate_enable: true,
-        words: u32::MAX,
-    };
+    let transfer = Transfer { base: 4_096, start_reading, frame_reading, ..Transfer::plain(lengths) };
     Call::Submit { transfer, lengths: lengths.to_vec(), ring_len: u32::MAX }
 }
 

@@ -8,11 +8,11 @@ use crate::backend::kmod::{
 use crate::descriptor::EndpointType;
 use crate::endpoint::{TransferBuffer, TransferRequest};
 use crate::host::{ControlSetup, hub::Speed};
-use crate::shim_board::{ChannelConfig, ChannelLease, Dwc2Stats, EndpointAddress, EndpointInfo, HostChannelPool};
+use crate::shim_channel::{ChannelConfig, ChannelLease, Dwc2Stats, EndpointAddress, EndpointInfo, HostChannelPool};
 use crate::shim_regs::Dwc2Registers;
 use crate::transfer::{Direction, Recipient, RequestType};
 
-pub use crate::shim_dma::SMALL_ARRAY;
+pub use crate::board::SMALL_ARRAY;
 
 pub struct Planner {
     state: NonIsoChannelState,

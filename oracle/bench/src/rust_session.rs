@@ -5,9 +5,10 @@ use crate::backend::kmod::{
     Kernel,
     dwc2::channel::iso::{IsoChannelState, access},
 };
+use crate::board::with_board;
 use crate::endpoint::{IsoPacket, RequestId, TransferBuffer, TransferCompletion, TransferRequest};
 use crate::err::TransferError;
-use crate::shim_board::{ChannelConfig, Dwc2Stats, EndpointAddress, EndpointInfo, HostChannelPool, Reading, with_board};
+use crate::shim_channel::{ChannelConfig, Dwc2Stats, EndpointAddress, EndpointInfo, HostChannelPool};
 use crate::shim_regs::Dwc2Registers;
 
 pub struct RustSession {
@@ -24,7 +25,7 @@ impl Drop for RustSession {
 /// what the registers and the interrupt handler say to the next call
 pub fn set_board(frame: u32, base: u64, event: Option<u32>) {
     with_board(|b| {
-        b.readings = Reading(frame);
+        b.frame = frame;
         b.base = base;
         b.event = event;
         b.disabled = 0;

@@ -41,19 +41,9 @@ fn tiny_transfers(st: &State, alphabet: &Alphabet) -> Vec<(Transfer, Vec<u32>)> 
         for frame_reading in 0..ring {
             for start_reading in 0..starts {
                 for base in alphabet.bases {
-                    let transfer = Transfer {
-                        isochronous: true,
-                        has_buffer: true,
-                        buffer_len: n as u32,
-                        base: *base,
-                        start_reading,
-                        frame_reading,
-                        channel_free: true,
-                        gate_program: true,
-                        gate_enable: true,
-                        words: u32::MAX,
-                    };
-                    all.push((transfer, vec![1; n as usize]));
+                    let lengths = vec![1; n as usize];
+                    let transfer = Transfer { base: *base, start_reading, frame_reading, ..Transfer::plain(&lengths) };
+                    all.push((transfer, lengths));
                 }
             }
         }

@@ -17,22 +17,6 @@ const FULL: Config = Config {
     tiny: 0,
 };
 
-/// open gates, readings 0, and a buffer at 0 for these lengths
-fn plain(lengths: &[u32]) -> Transfer {
-    Transfer {
-        isochronous: true,
-        has_buffer: true,
-        buffer_len: lengths.iter().sum(),
-        base: 0,
-        start_reading: 0,
-        frame_reading: 0,
-        channel_free: true,
-        gate_program: true,
-        gate_enable: true,
-        words: u32::MAX,
-    }
-}
-
 fn submit(transfer: Transfer, lengths: &[u32]) -> Call {
     Call::Submit { transfer, lengths: lengths.to_vec(), ring_len: u32::MAX }
 }
@@ -85,16 +69,16 @@ pub(super) fn session(list: &mut List) {
 
 fn limits(list: &mut List) {
     let mut both = Both::open(FULL);
-    let (ours, rust) = both.answers(&submit(Transfer { base: 4_294_967_295, ..plain(&ONE) }, &ONE));
+    let (ours, rust) = both.answers(&submit(Transfer { base: 4_294_967_295, ..Transfer::plain(&ONE) }, &ONE));
     list.entry("S4", "camera: one packet of 1 byte at 4,294,967,295", (ours, "Refused(11)"), (rust, "Accepted(1)"));
     list.ask_session(&both);
 
     let mut both = Both::open(FULL);
     for _ in 0..64 {
-        both.call(&submit(plain(&ONE), &ONE));
+        both.call(&submit(Transfer::plain(&ONE), &ONE));
         both.call(&Call::Poll { event: Event { reported: true, unplugged: false, hcint: 1 }, ring_len: u32::MAX });
     }
-    let (ours, rust) = both.answers(&submit(plain(&ONE), &ONE));
+    let (ours, rust) = both.answers(&submit(Transfer::plain(&ONE), &ONE));
     list.entry("S3", "camera: the 65th request that is not reclaimed", (ours, "Refused(8)"), (rust, "Accepted(65)"));
     list.ask_session(&both);
 }
@@ -102,11 +86,11 @@ fn limits(list: &mut List) {
 /// P6: slots 10 and 11 pending and served, cursor 12, raw 71
 fn overrun(list: &mut List) {
     let mut both = Both::open(Config { mode: Mode::Guarded, ..FULL });
-    both.call(&submit(Transfer { start_reading: 8, frame_reading: 8, ..plain(&TWO) }, &TWO));
+    both.call(&submit(Transfer { start_reading: 8, frame_reading: 8, ..Transfer::plain(&TWO) }, &TWO));
     for slot in [10, 11] {
         both.call(&Call::Controller { slot, word: 0 });
     }
-    let (ours, rust) = both.answers(&submit(Transfer { frame_reading: 71, ..plain(&TWO) }, &TWO));
+    let (ours, rust) = both.answers(&submit(Transfer { frame_reading: 71, ..Transfer::plain(&TWO) }, &TWO));
     list.entry("S5", "camera, guarded: P6", (ours, "Refused(13)"), (rust, "Accepted(2)"));
     let (ours, rust) = both.slots();
     list.entry("S5", "camera: P6, the slots of the pending requests", (ours, "[10, 11]"), (rust, "[10, 11, 9, 10]"));
@@ -115,7 +99,7 @@ fn overrun(list: &mut List) {
 
 fn second_gate(list: &mut List) {
     let mut both = Both::open(FULL);
-    let (ours, rust) = both.call(&submit(Transfer { gate_enable: false, ..plain(&ONE) }, &ONE));
+    let (ours, rust) = both.call(&submit(Transfer { gate_enable: false, ..Transfer::plain(&ONE) }, &ONE));
     let halts = lifted::halts_tried();
     list.entry(
         "S7",
@@ -128,9 +112,9 @@ fn second_gate(list: &mut List) {
 
 fn two_intervals(list: &mut List) {
     let mut both = Both::open(FULL);
-    both.call(&submit(plain(&TWO), &TWO));
+    both.call(&submit(Transfer::plain(&TWO), &TWO));
     both.rust.set_interval(2);
-    both.call(&submit(plain(&TWO), &TWO));
+    both.call(&submit(Transfer::plain(&TWO), &TWO));
     let (ours, rust) = both.slots();
     list.entry("S1", "camera: two submissions of one session, intervals 1 and 2", (ours, "[2, 3, 4, 5]"), (rust, "[2, 3, 4, 6]"));
     list.ask_session(&both);
@@ -138,7 +122,7 @@ fn two_intervals(list: &mut List) {
 
 fn failed_request(list: &mut List) {
     let mut both = Both::open(FULL);
-    both.call(&submit(plain(&TWO), &TWO));
+    both.call(&submit(Transfer::plain(&TWO), &TWO));
     both.call(&Call::Poll { event: Event { reported: true, unplugged: true, hcint: 0 }, ring_len: u32::MAX });
     let (ours, rust) = both.answers(&Call::Reclaim {
         id: 1,

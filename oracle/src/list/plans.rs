@@ -62,18 +62,6 @@ fn read_back(list: &mut List, rng: &mut Rng, plan: &Plan, array: &mut [u32], rus
     Ok(())
 }
 
-/// the counts of a transfer in which every byte came
-fn all_came(plan: &Plan, array: &[u32], rust: &mut transfers::Transferred) {
-    let lengths: Vec<Vec<usize>> = rust.stages.iter().map(|(_, l)| l.clone()).collect();
-    for (stage, lengths) in plan.stages.iter().zip(lengths) {
-        for (i, length) in lengths.iter().enumerate() {
-            let desc = stage.desc_base + i as u32;
-            let asked = array[2 * desc as usize] & 0x1_ffff;
-            rust.touch(desc, if stage.hcchar & 1 << 15 != 0 { asked - *length as u32 } else { 0 });
-        }
-    }
-}
-
 fn data_numbers(r: &DataRequest) -> [u64; 10] {
     [
         r.base,
@@ -108,7 +96,7 @@ fn data(list: &mut List, rng: &mut Rng, r: DataRequest) -> Result<(), String> {
         return Ok(());
     }
     let mut ended = transfers::data(&r).map_err(|n| format!("{r:?}: the Rust refuses as {n}"))?;
-    all_came(&plan, &array, &mut ended);
+    ended.all_came(&plan, &array);
     let (moved, toggle) = ended.finish();
     if (moved, toggle) != (r.len, plan.toggle) {
         return Err(format!("{r:?}: model {} {}, Rust {moved} {toggle}", r.len, plan.toggle));

@@ -1,47 +1,10 @@
-//! The board on which the lifted Rust runs: what it reads (frame numbers, gates, events, addresses) and what it wrote. One for
-//! each thread, set before each call; a session keeps nothing here.
+//! The channels that the lifted Rust leases and what goes with them, over the board.
 
-use crate::{descriptor::EndpointType, err::TransferError, host::hub::Speed, shim_regs::Dwc2Registers, shim_words::Dwc2TransferFault};
-use core::{cell::RefCell, sync::atomic::AtomicBool, task::Context};
-use std::collections::VecDeque;
-
-#[derive(Default)]
-pub struct Board {
-    // read
-    pub readings: VecDeque<u32>,
-    pub gates: VecDeque<bool>,
-    /// whether the port is connected where no gate is asked for
-    pub connected: bool,
-    pub channel_free: bool,
-    pub event: Option<u32>,
-    pub unplugged: bool,
-    pub base: u64,
-    pub arrays: VecDeque<u64>,
-    pub odd: bool,
-    // written
-    pub asked: u32,
-    pub disabled: u32,
-    pub hcsplt: Option<u32>,
-    pub hcintmsk: Option<u32>,
-    pub hctsiz: Option<u32>,
-    pub hcdma: Option<u32>,
-    pub hcchar: Option<u32>,
-    pub frames: Option<Vec<usize>>,
-    pub alloc_len: usize,
-    pub dropped_dirty: bool,
-}
-
-thread_local! {
-    static BOARD: RefCell<Board> = RefCell::new(Board::default());
-}
-
-pub fn with_board<T>(act: impl FnOnce(&mut Board) -> T) -> T {
-    BOARD.with(|b| act(&mut b.borrow_mut()))
-}
-
-pub fn set_board(board: Board) {
-    with_board(|b| *b = board);
-}
+use crate::{
+    board::with_board, descriptor::EndpointType, err::TransferError, host::hub::Speed, shim_regs::Dwc2Registers,
+    shim_words::Dwc2TransferFault,
+};
+use core::{sync::atomic::AtomicBool, task::Context};
 
 pub struct EndpointInfo {
     pub address: EndpointAddress,
@@ -79,6 +42,7 @@ impl Gate {
 pub struct Completions;
 
 impl Completions {
+    #[inline(always)]
     pub fn take(&self, _channel: u8) -> Option<u32> {
         with_board(|b| b.event.take())
     }
@@ -89,13 +53,9 @@ impl Completions {
 
     pub fn register_waker(&self, _channel: u8, _cx: &mut Context<'_>) {}
 
+    #[inline(always)]
     pub fn with_connected<T>(&self, act: impl FnOnce() -> Result<T, TransferError>) -> Result<T, TransferError> {
-        let open = with_board(|b| {
-            b.asked += 1;
-            let connected = b.connected;
-            b.gates.pop_front().unwrap_or(connected)
-        });
-        if open { act() } else { Err(TransferError::Disconnected) }
+        if with_board(|b| b.gate()) { act() } else { Err(TransferError::Disconnected) }
     }
 }
 
@@ -105,11 +65,11 @@ impl Periodic {
     pub fn ensure_enabled(&self, _regs: Dwc2Registers) {}
 
     pub fn set_channel(&self, _channel: u8, frames: &[usize]) {
-        with_board(|b| b.frames = Some(frames.to_vec()));
+        with_board(|b| b.set_frames(Some(frames)));
     }
 
     pub fn clear_channel(&self, _channel: u8) {
-        with_board(|b| b.frames = None);
+        with_board(|b| b.set_frames(None));
     }
 }
 
@@ -135,7 +95,7 @@ impl HostChannelPool {
     }
 
     pub fn acquire(&self, _control: bool) -> Result<ChannelLease, TransferError> {
-        if with_board(|b| b.channel_free) {
+        if with_board(|b| b.lends_channel()) {
             Ok(ChannelLease { channel: 1, hardware_active: AtomicBool::new(false), completions: Completions, gate: Gate })
         } else {
             Err(TransferError::NoChannel)
