@@ -13,9 +13,8 @@ use Rattle.words.specs.Words.{isSet, active}
 use Rattle.session.specs.declared.types.IsoConfig.{IsoConfig}
 use Rattle.session.specs.declared.types.IsoChannelState.{IsoChannelState}
 use Rattle.session.specs.Session.{slots, ringWords}
-use Rattle.session.specs.Poll.{pickWords}
 use Rattle.laws.specs.Drawing.{Laid, drawn, slotOf, Among, Absent, Distinct}
-use Rattle.laws.specs.Run.{State, Controller, Touch, mayTouch, touched, touchedBy, restated, pickLaid, step}
+use Rattle.laws.specs.Run.{State, Controller, Touch, mayTouch, touched, touchedBy, restated, step}
 use Rattle.laws.specs.Invariant.{Fits, Invariant}
 use Rattle.laws.proofs.Lists.{absent-head, absent-tail, distinct-head, distinct-tail, among-or-absent}
 use Rattle.laws.proofs.Drawn.{one, drawn-set}
@@ -89,7 +88,7 @@ module _ {s : IsoChannelState} {ring : List ℕ} {put : List Laid} (f : Fits s r
       ⊎-elim (λ h. h) (λ h. absurd (inactive (getD ring (2 * x .slot) 0) (other-zero f (x .slot) (2 * x .slot) below (omega arith) (omega arith) h) (t .1)))
       (among-or-absent (x .slot) (map slotOf put))
 
-  touch-fits : (b : Bool) → mayTouch (s .cfg) x ring ≡ b → Fits s (pickWords b (set ring (2 * x .slot) (x .word)) ring) (pickLaid b (map (restated x) put) put)
+  touch-fits : (b : Bool) → mayTouch (s .cfg) x ring ≡ b → Fits s (cond b (set ring (2 * x .slot) (x .word)) ring) (cond b (map (restated x) put) put)
   touch-fits true e =
       record {
         sound = f .sound;
@@ -110,7 +109,7 @@ controller st x v = record { guarded = v .guarded; fits = touch-fits (v .fits) x
 pub length-touched : (cfg : IsoConfig) (x : Touch) (ring : List ℕ) → length (touched cfg x ring) ≡ length ring
 length-touched cfg x ring = by (mayTouch cfg x ring)
   where
-    by : (b : Bool) → length (pickWords b (set ring (2 * x .slot) (x .word)) ring) ≡ length ring
+    by : (b : Bool) → length (cond b (set ring (2 * x .slot) (x .word)) ring) ≡ length ring
     by true = length-set ring (2 * x .slot) (x .word)
     by false = refl
 
@@ -123,7 +122,7 @@ pub behind-touched : (cfg : IsoConfig) (x : Touch) (ring : List ℕ) → drop (r
 behind-touched cfg x ring = by (ltb (x .slot) (slots cfg)) refl (isSet active (getD ring (2 * x .slot) 0))
   where
     by : (a : Bool) → ltb (x .slot) (slots cfg) ≡ a → (b : Bool)
-        → drop (ringWords cfg) (pickWords (a && b) (set ring (2 * x .slot) (x .word)) ring) ≡ drop (ringWords cfg) ring
+        → drop (ringWords cfg) (cond (a && b) (set ring (2 * x .slot) (x .word)) ring) ≡ drop (ringWords cfg) ring
     by false e b = refl
     by true e false = refl
     by true e true =

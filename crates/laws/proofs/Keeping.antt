@@ -1,6 +1,6 @@
 -- What a call must leave for the invariant to be kept; and that cancelling, reset and recovery leave it.
 use mathlib.Core.Path.{_≡_, refl, _∙_, sym, ap, subst⁻¹}
-use mathlib.Core.Bool.{Bool, true, false}
+use mathlib.Core.Bool.{Bool, true, false, cond}
 use mathlib.Core.List.{List, _∷_, map}
 use Prim.Native.Nat.{ℕ, _-_}
 use native.Mathlib.Omega.{arith}
@@ -21,7 +21,7 @@ use Rattle.session.specs.Session.{blankRequest, ringWords, packetsOf, allPacket
 use Rattle.session.specs.Record.{isBadRecord}
 use Rattle.session.specs.Way.{pendingPlans}
 use Rattle.session.specs.End.{withOutcome}
-use Rattle.session.specs.Poll.{reply, pickReply, pickWords, refusedReply, withReason, isEmpty, atStart, resetReply}
+use Rattle.session.specs.Poll.{reply, refusedReply, withReason, isEmpty, atStart, resetReply}
 use Rattle.session.specs.Cancel.{requestAt, withCancelled, cancelled}
 use Rattle.session.proofs.Laws.Record.{Sound}
 use Rattle.session.proofs.Laws.Ended.{packets, packets-kept, reset-sound, amended-sound, reason-sound}
@@ -41,7 +41,7 @@ pub record Keeps (st : State) (s : IsoChannelState) (ring : List ℕ) : Type 0 w
   pub numbered : Numbered s (st .numbers)
 
 -- one number more does no harm
-pub numbered-more : (s : IsoChannelState) (b : Bool) (n : ℕ) (numbers : List ℕ) → Numbered s numbers → Numbered s (pickWords b numbers (n ∷ numbers))
+pub numbered-more : (s : IsoChannelState) (b : Bool) (n : ℕ) (numbers : List ℕ) → Numbered s numbers → Numbered s (cond b numbers (n ∷ numbers))
 numbered-more s true n numbers h = h
 numbered-more s false n numbers h = record { used = λ i k. among-later (requestOf i s .id) n numbers (h .used i k); differ = h .differ }
 
@@ -109,7 +109,7 @@ keeps-none st v =
 
 -- ---- a choice by a test
 
-pub picked : (P : IsoChannelState → Type 0) (b : Bool) (x y : IsoReply) → (b ≡ true → P (x .session)) → (b ≡ false → P (y .session)) → P (pickReply b x y .session)
+pub picked : (P : IsoChannelState → Type 0) (b : Bool) (x y : IsoReply) → (b ≡ true → P (x .session)) → (b ≡ false → P (y .session)) → P (cond b x y .session)
 picked P true x y f g = f refl
 picked P false x y f g = g refl
 
@@ -155,11 +155,11 @@ module _ (st : State) (v : Invariant st) where
       let amended-reply = reply answer.Done false false (withCancelled at s) in
       let stands = reply answer.Done false false s in
       let halting = reply answer.Done false true (withReason reason.Cancelled s) in
-      let pending = pickReply (hasReason (s .fatal)) stands halting in
-      let known = pickReply (ltb at (s .head .count)) pending (refusedReply 15 s) in
+      let pending = cond (hasReason (s .fatal)) stands halting in
+      let known = cond (ltb at (s .head .count)) pending (refusedReply 15 s) in
       let none : Keeps st s (st .ring) = keeps-none st v in
       left-invariant st (cancelled s id .session) (st .ring)
-      (picked P (isBadRecord s) (refusedReply 18 s) (pickReply (ltb at (s .head .done)) amended-reply known) (λ b. none)
+      (picked P (isBadRecord s) (refusedReply 18 s) (cond (ltb at (s .head .done)) amended-reply known) (λ b. none)
       (λ b. picked P (ltb at (s .head .done)) amended-reply known (λ e. keeps-amended at)
       (λ e. picked P (ltb at (s .head .count)) pending (refusedReply 15 s)
       (λ u. picked P (hasReason (s .fatal)) stands halting (λ f. none)
@@ -183,5 +183,5 @@ module _ (st : State) (v : Invariant st) where
       let empty = reply answer.Done false false (atStart s) in
       let none : Keeps st s (st .ring) = keeps-none st v in
       left-invariant st (resetReply s .session) (st .ring)
-      (picked P (isBadRecord s) (refusedReply 18 s) (pickReply (isEmpty s) empty (refusedReply 16 s)) (λ b. none)
+      (picked P (isBadRecord s) (refusedReply 18 s) (cond (isEmpty s) empty (refusedReply 16 s)) (λ b. none)
       (λ b. picked P (isEmpty s) empty (refusedReply 16 s) (λ e. keeps-start) (λ e. none)))

@@ -1,6 +1,6 @@
 -- The invariant holds where an opening was accepted.
 use mathlib.Core.Path.{_≡_, refl, ap}
-use mathlib.Core.Bool.{Bool, true, false}
+use mathlib.Core.Bool.{Bool, true, false, cond}
 use mathlib.Core.List.{List}
 use Prim.Native.Nat.{ℕ}
 use native.Mathlib.Omega.{arith}
@@ -14,13 +14,13 @@ use Rattle.session.specs.declared.types.IsoRequest.{IsoRequest}
 use Rattle.session.specs.declared.types.IsoPacketPlan.{IsoPacketPlan}
 use Rattle.session.specs.Session.{blankRequest, blankPlan, ringWords, idleSession}
 use Rattle.session.specs.Record.{isBadConfig}
-use Rattle.session.specs.Open.{pickOpen, opened, ringAfter}
+use Rattle.session.specs.Open.{opened, ringAfter}
 use Rattle.session.proofs.Laws.Record.{sound, idle-sound}
 use Rattle.laws.specs.Run.{start}
 use Rattle.laws.specs.Invariant.{Invariant}
 use Rattle.laws.proofs.Lists.{distinct-none}
 
-good-config : (short bad : Bool) → pickOpen short ShortRing (pickOpen bad BadConfig Opened) ≡ Opened → bad ≡ false
+good-config : (short bad : Bool) → cond short ShortRing (cond bad BadConfig Opened) ≡ Opened → bad ≡ false
 good-config true bad e = let z : _≡_ {A = ℕ} 0 1 = cc in absurd (omega arith)
 good-config false true e = let z : _≡_ {A = ℕ} 0 1 = cc in absurd (omega arith)
 good-config false false e = refl

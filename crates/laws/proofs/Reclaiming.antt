@@ -1,6 +1,6 @@
 -- Reclaiming keeps the invariant: its poll does, and what is pending does not change where a completed request goes.
 use mathlib.Core.Path.{_≡_, refl, _∙_, sym, ap, subst⁻¹}
-use mathlib.Core.Bool.{Bool, true, false}
+use mathlib.Core.Bool.{Bool, true, false, cond}
 use mathlib.Core.List.{List, map}
 use Prim.Native.Nat.{ℕ, _+_, _-_, _≤_, _<_}
 use native.Mathlib.Omega.{arith}
@@ -16,9 +16,9 @@ use Rattle.session.specs.declared.reply.Reclaimed.{Reclaimed}
 use Rattle.session.specs.declared.reply.ReclaimAnswer.the-variants as reclaim
 use Rattle.session.specs.Session.{blankRequest, packetsOf}
 use Rattle.session.specs.Record.{isBadRecord}
-use Rattle.session.specs.Poll.{reply, pickReply, pickWords, pollWay, polledBy, polledRingBy}
+use Rattle.session.specs.Poll.{reply, pollWay, polledBy, polledRingBy}
 use Rattle.session.specs.Cancel.{requestAt}
-use Rattle.session.specs.Reclaim.{isFound, looked, lookedRing, requestOf, removed, handedAnswer, reclaimReply, pickReclaimed, pickAnswer, lookedAgain, isShort, reclaimed, reclaimedRing}
+use Rattle.session.specs.Reclaim.{isFound, looked, lookedRing, requestOf, removed, handedAnswer, reclaimReply, lookedAgain, isShort, reclaimed, reclaimedRing}
 use Rattle.session.proofs.Laws.Lists.{getD-slice, getD-sets-before, getD-sets-in}
 use Rattle.session.proofs.Laws.Record.{Sound}
 use Rattle.session.proofs.Laws.Removed.{removed-pending, removed-sound}
@@ -98,8 +98,8 @@ looked-keeps : (st : State) → Invariant st → (id : ℕ) (e : IsoEvent)
 looked-keeps st v id e = by (isFound id (st .session))
   where
     by : (b : Bool)
-        → Keeps st (pickReply b (reply answer.Done false false (st .session)) (polledBy (pollWay (st .session) e) (st .session) (st .ring)) .session)
-        (pickWords b (st .ring) (polledRingBy (pollWay (st .session) e) (st .session) (st .ring)))
+        → Keeps st (cond b (reply answer.Done false false (st .session)) (polledBy (pollWay (st .session) e) (st .session) (st .ring)) .session)
+        (cond b (st .ring) (polledRingBy (pollWay (st .session) e) (st .session) (st .ring)))
     by true = keeps-none st v
     by false = polling st v e
 
@@ -109,14 +109,14 @@ again-keeps : (st : State) (s : IsoChannelState) (ring : List ℕ) → Keeps st 
 again-keeps st s ring k id taken halt = by (isFound id s) refl
   where
     by : (b : Bool) → isFound id s ≡ b
-        → Keeps st (pickReclaimed b (reclaimReply (handedAnswer (requestOf (requestAt id s) s)) taken halt (removed (requestAt id s) s))
-        (reclaimReply (pickAnswer (ltb (requestAt id s) (s .head .count)) reclaim.NotYet (reclaim.Refused 15)) taken halt s) .session) ring
+        → Keeps st (cond b (reclaimReply (handedAnswer (requestOf (requestAt id s) s)) taken halt (removed (requestAt id s) s))
+        (reclaimReply (cond (ltb (requestAt id s) (s .head .count)) reclaim.NotYet (reclaim.Refused 15)) taken halt s) .session) ring
     by true e = removed-keeps st s ring k (requestAt id s) (ltb-true (requestAt id s) (s .head .done) e)
     by false e = k
 
 chosen :
     (st : State) (b : Bool) (x y : Reclaimed) (u w : List ℕ) → Keeps st (x .session) u → Keeps st (y .session) w
-    → Keeps st (pickReclaimed b x y .session) (pickWords b u w)
+    → Keeps st (cond b x y .session) (cond b u w)
 chosen st true x y u w f g = f
 chosen st false x y u w f g = g
 
@@ -129,6 +129,6 @@ reclaiming st id e results v =
     let short : Reclaimed = reclaimReply (reclaim.Refused 17) false false s in
     let bad : Reclaimed = reclaimReply (reclaim.Refused 18) false false s in
     left-invariant st (reclaimed s id e (st .ring) results .session) (reclaimedRing s id e (st .ring) results)
-    (chosen st (isShort s (length (st .ring)) results) short (pickReclaimed (isBadRecord s) bad last) (st .ring)
-    (pickWords (isBadRecord s) (st .ring) ring) (keeps-none st v)
+    (chosen st (isShort s (length (st .ring)) results) short (cond (isBadRecord s) bad last) (st .ring)
+    (cond (isBadRecord s) (st .ring) ring) (keeps-none st v)
     (chosen st (isBadRecord s) bad last (st .ring) ring (keeps-none st v) (again-keeps st (r .session) ring (looked-keeps st v id e) id (r .taken) (r .halt))))

@@ -1,6 +1,6 @@
 -- Settling the oldest request keeps the invariant: its slots become zero, what was put for it goes.
 use mathlib.Core.Path.{_≡_, refl, _∙_, sym, ap, subst, subst⁻¹}
-use mathlib.Core.Bool.{Bool, true, false, _||_}
+use mathlib.Core.Bool.{Bool, true, false, _||_, cond}
 use mathlib.Core.List.{List, [], _∷_, _++_, map}
 use Prim.Native.Nat.{ℕ, zero, suc, _+_, _-_, _*_, _≤_, _<_}
 use native.Mathlib.Omega.{arith}
@@ -10,7 +10,7 @@ use Rattle.session.specs.declared.types.IsoPacketPlan.{IsoPacketPlan}
 use Rattle.session.specs.declared.types.IsoChannelState.{IsoChannelState}
 use Rattle.session.specs.Session.{blankRequest, ringWords, packetsOf, allPackets, pendingPackets}
 use Rattle.session.specs.Way.{pendingPlans}
-use Rattle.session.specs.Settle.{Drained, settledPlan, oldest, oldestFrom, oldestTo, oldestPlans, settledPlans, settledRequest, settledSession, slotsCleared, settledRing, isServed, pickDrained, drain}
+use Rattle.session.specs.Settle.{Drained, settledPlan, oldest, oldestFrom, oldestTo, oldestPlans, settledPlans, settledRequest, settledSession, slotsCleared, settledRing, isServed, drain}
 use Rattle.session.proofs.Laws.Sums.{packets-next, packets-split}
 use Rattle.session.proofs.Laws.Lists.{slice-after-set, slice-split}
 use Rattle.session.proofs.Laws.Settled.{oldest-in, all-settled, settled-sound}
@@ -173,8 +173,8 @@ keeps-after st v u s ring k =
     }
 
 turn : (st : State) → Invariant st → (next : Drained) (b : Bool) → Keeps st (next .session) (next .ring)
-    → Keeps st (pickDrained b next (record { session = st .session; ring = st .ring }) .session)
-    (pickDrained b next (record { session = st .session; ring = st .ring }) .ring)
+    → Keeps st (cond b next (record { session = st .session; ring = st .ring }) .session)
+    (cond b next (record { session = st .session; ring = st .ring }) .ring)
 turn st v next true n = n
 turn st v next false n = keeps-none st v
 

@@ -1,6 +1,6 @@
 -- A submission keeps the invariant, whatever it answers, where the number that it uses up was not used up before.
 use mathlib.Core.Path.{_≡_, refl, _∙_, sym, ap, subst, subst⁻¹}
-use mathlib.Core.Bool.{Bool, true, false}
+use mathlib.Core.Bool.{Bool, true, false, cond}
 use mathlib.Core.List.{List, [], _∷_, _++_, map}
 use mathlib.Core.Logic.{inl, inr}
 use Prim.Native.Nat.{ℕ, _+_, _-_, _<_}
@@ -17,7 +17,6 @@ use Rattle.session.specs.declared.transfer.IsoTransfer.{IsoTransfer}
 use Rattle.session.specs.declared.transfer.SubmitWay.{SubmitWay}
 use Rattle.session.specs.declared.transfer.SubmitWay.the-variants.{Refuse, TooLong, Spend, Early, Cut, Late, Accept}
 use Rattle.session.specs.Session.{blankRequest, slots, ringWords, cleared, allPackets, pendingPackets}
-use Rattle.session.specs.Poll.{pickWords}
 use Rattle.ring.specs.Stores.{Store, stored}
 use Rattle.session.specs.Place.{insertOf, stepOf, storesOf, plansFrom}
 use Rattle.session.specs.Way.{pendingPlans, submitWay}
@@ -182,7 +181,7 @@ module _ (st : State) (t : IsoTransfer) (lengths : List ℕ) (v : Invariant st) 
           fresh (a .0) (a .1) (a .2 ∙ same)
 
   accepted-used : usedUp s (accepted s t lengths (st .ring)) (st .numbers) ≡ next ∷ st .numbers
-  accepted-used = ap (λ (b : Bool). pickWords b (st .numbers) (next ∷ st .numbers)) (ne-eqb next (nextNumber next) (next-differs next))
+  accepted-used = ap (λ (b : Bool). cond b (st .numbers) (next ∷ st .numbers)) (ne-eqb next (nextNumber next) (next-differs next))
 
 -- ---- each way
 

@@ -1,6 +1,6 @@
 -- The invariant holds in every guarded run, and with it demand 3.
 use mathlib.Core.Path.{_≡_, _∙_, ap}
-use mathlib.Core.Bool.{Bool, true, false}
+use mathlib.Core.Bool.{Bool, true, false, cond}
 use mathlib.Core.List.{List, [], _∷_}
 use Prim.Native.Nat.{ℕ, _<_}
 use lib.Dec.{eqb}
@@ -11,7 +11,7 @@ use Rattle.session.specs.declared.transfer.SubmitAnswer.{SubmitAnswer}
 use Rattle.session.specs.declared.transfer.SubmitAnswer.the-variants as answer
 use Rattle.session.specs.Session.{ringWords}
 use Rattle.session.specs.Submit.{submitted, submittedRing}
-use Rattle.session.specs.Poll.{pickWords, polled, recovered, resetReply}
+use Rattle.session.specs.Poll.{polled, recovered, resetReply}
 use Rattle.session.specs.Cancel.{cancelled}
 use Rattle.session.specs.Reclaim.{reclaimed}
 use Rattle.laws.specs.Drawing.{Laid, drawn, Distinct}
@@ -42,7 +42,7 @@ step-kept st (Controller x) v d = controller st x v
 
 -- ---- numbers used up stay used up
 
-used-before : (b : Bool) (n : ℕ) (numbers : List ℕ) → Distinct (pickWords b numbers (n ∷ numbers)) → Distinct numbers
+used-before : (b : Bool) (n : ℕ) (numbers : List ℕ) → Distinct (cond b numbers (n ∷ numbers)) → Distinct numbers
 used-before true n numbers d = d
 used-before false n numbers d = distinct-tail n numbers d
 

@@ -20,7 +20,7 @@ use Rattle.session.specs.Session.{slots, pendingPackets}
 use Rattle.session.specs.Open.{opened, openedRing}
 use Rattle.session.specs.Place.{insertOf, stepOf}
 use Rattle.session.specs.Submit.{submitted, submittedRing}
-use Rattle.session.specs.Poll.{pickWords, polled, polledRing, recovered, recoveredRing, resetReply}
+use Rattle.session.specs.Poll.{polled, polledRing, recovered, recoveredRing, resetReply}
 use Rattle.session.specs.Cancel.{cancelled}
 use Rattle.session.specs.Reclaim.{reclaimed, reclaimedRing}
 use Rattle.laws.specs.Drawing.{Laid, plannedFrom, Distinct}
@@ -38,7 +38,7 @@ mayTouch cfg x ring = ltb (x .slot) (slots cfg) && isSet active (getD ring (2 * 
 
 -- then the word is stored, else nothing: where no slot is written that is not active, none becomes active
 abbrev pub touched : IsoConfig → Touch → List ℕ → List ℕ
-touched cfg x ring = pickWords (mayTouch cfg x ring) (set ring (2 * x .slot) (x .word)) ring
+touched cfg x ring = cond (mayTouch cfg x ring) (set ring (2 * x .slot) (x .word)) ring
 
 abbrev pub touchedBy : IsoConfig → List Touch → List ℕ → List ℕ
 touchedBy cfg [] ring = ring
@@ -48,12 +48,8 @@ touchedBy cfg (x ∷ xs) ring = touchedBy cfg xs (touched cfg x ring)
 abbrev pub restated : Touch → Laid → Laid
 restated x p = record { slot = p .slot; address = p .address; status = cond (eqb (p .slot) (x .slot)) (x .word) (p .status) }
 
-abbrev pub pickLaid : Bool → List Laid → List Laid → List Laid
-pickLaid true a b = a
-pickLaid false a b = b
-
 abbrev pub putTouched : IsoConfig → Touch → List ℕ → List Laid → List Laid
-putTouched cfg x ring put = pickLaid (mayTouch cfg x ring) (map (restated x) put) put
+putTouched cfg x ring put = cond (mayTouch cfg x ring) (map (restated x) put) put
 
 -- ---- the state of a run, and its steps
 
@@ -87,7 +83,7 @@ stillPut s put = drop (length put - pendingPackets s) put
 -- a call after which the next number is another has used up the one before it
 abbrev pub usedUp : IsoChannelState → IsoChannelState → List ℕ → List ℕ
 usedUp before after numbers =
-    pickWords (eqb (before .head .«next_request_id») (after .head .«next_request_id»)) numbers (before .head .«next_request_id» ∷ numbers)
+    cond (eqb (before .head .«next_request_id») (after .head .«next_request_id»)) numbers (before .head .«next_request_id» ∷ numbers)
 
 -- the state after a call that left this session and this ring
 abbrev pub left : State → IsoChannelState → List ℕ → State

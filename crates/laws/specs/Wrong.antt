@@ -1,6 +1,6 @@
 -- Definitions that no code has: wrong rules, each with the name of the right one. An edit of must-fail/ puts it in the right one's place, and a fact for the
 -- reader, which is false of it, is refused.
-use mathlib.Core.Bool.{Bool, false, _||_}
+use mathlib.Core.Bool.{Bool, false, _||_, cond}
 use mathlib.Core.List.{List}
 use Prim.Native.Nat.{ℕ, zero, suc, _-_}
 use lib.Dec.{ltb}
@@ -15,8 +15,8 @@ use Rattle.session.specs.Record.{isBadRecord}
 use Rattle.session.specs.Submit.{withHead}
 use Rattle.session.specs.End.{endedRing}
 use Rattle.session.specs.Settle as right
-use Rattle.session.specs.Settle.{oneMore, Drained, pickDrained}
-use Rattle.session.specs.Poll.{pickWords, pickReply, refusedReply, reply, isEmpty}
+use Rattle.session.specs.Settle.{oneMore, Drained}
+use Rattle.session.specs.Poll.{refusedReply, reply, isEmpty}
 
 -- clash_with_newest_only: the plans of the newest request alone
 abbrev pub pendingPlans : IsoChannelState → List IsoPacketPlan
@@ -47,7 +47,7 @@ isServed s ring = right.isServed (newest s) ring
 abbrev pub drain : ℕ → Bool → IsoChannelState → List ℕ → Drained
 drain zero bit s ring = record { session = s; ring = ring }
 drain (suc k) bit s ring =
-    pickDrained (bit || isServed s ring) (drain k false (settledSession s ring) (settledRing s ring)) (record { session = s; ring = ring })
+    cond (bit || isServed s ring) (drain k false (settledSession s ring) (settledRing s ring)) (record { session = s; ring = ring })
 
 abbrev pub drained : Bool → IsoChannelState → List ℕ → Drained
 drained bit s ring = drain (s .head .count - s .head .done) bit s ring
@@ -55,7 +55,7 @@ drained bit s ring = drain (s .head .count - s .head .done) bit s ring
 -- recovery_leaves_an_idle_ring: recovery zeroes the ring of a live channel only
 abbrev pub recoveredRing : IsoChannelState → List ℕ → List ℕ
 recoveredRing s ring =
-    pickWords (ltb (length ring) (ringWords (s .cfg))) ring (pickWords (isBadRecord s) ring (pickWords (s .head .live) (endedRing s ring) ring))
+    cond (ltb (length ring) (ringWords (s .cfg))) ring (cond (isBadRecord s) ring (cond (s .head .live) (endedRing s ring) ring))
 
 -- reset_zeroes_the_start: reset sets cursor and start to 0
 abbrev pub atStart : IsoChannelState → IsoChannelState
@@ -72,4 +72,4 @@ atStart s =
 
 abbrev pub resetReply : IsoChannelState → IsoReply
 resetReply s =
-    pickReply (isBadRecord s) (refusedReply 18 s) (pickReply (isEmpty s) (reply answer.Done false false (atStart s)) (refusedReply 16 s))
+    cond (isBadRecord s) (refusedReply 18 s) (cond (isEmpty s) (reply answer.Done false false (atStart s)) (refusedReply 16 s))

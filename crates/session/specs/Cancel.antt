@@ -15,7 +15,7 @@ use Rattle.session.specs.declared.reply.IsoReply.{IsoReply}
 use Rattle.session.specs.Session.{blankRequest, hasReason}
 use Rattle.session.specs.Record.{isBadRecord}
 use Rattle.session.specs.End.{withOutcome}
-use Rattle.session.specs.Poll.{reply, pickReply, refusedReply, withReason}
+use Rattle.session.specs.Poll.{reply, refusedReply, withReason}
 
 -- the place of the first request with the number, or the number of requests
 abbrev pub placeOf : ℕ → List IsoRequest → ℕ
@@ -40,8 +40,8 @@ withCancelled at s =
 -- 15: unknown number
 abbrev pub cancelled : IsoChannelState → ℕ → IsoReply
 cancelled s id =
-    pickReply (isBadRecord s) (refusedReply 18 s)
-    (pickReply (ltb (requestAt id s) (s .head .done)) (reply answer.Done false false (withCancelled (requestAt id s) s))
-    (pickReply (ltb (requestAt id s) (s .head .count))
-    (pickReply (hasReason (s .fatal)) (reply answer.Done false false s) (reply answer.Done false true (withReason reason.Cancelled s)))
+    cond (isBadRecord s) (refusedReply 18 s)
+    (cond (ltb (requestAt id s) (s .head .done)) (reply answer.Done false false (withCancelled (requestAt id s) s))
+    (cond (ltb (requestAt id s) (s .head .count))
+    (cond (hasReason (s .fatal)) (reply answer.Done false false s) (reply answer.Done false true (withReason reason.Cancelled s)))
     (refusedReply 15 s)))

@@ -1,6 +1,6 @@
 -- Opening: document 01, "The session". "One endpoint configuration is fixed at opening, which zeroes the ring; refused, it stores nothing and gives
 -- an idle session of what was offered."
-use mathlib.Core.Bool.{Bool, true, false}
+use mathlib.Core.Bool.{Bool, true, false, cond}
 use mathlib.Core.List.{List}
 use Prim.Native.Nat.{ℕ}
 use lib.Dec.{ltb}
@@ -12,13 +12,9 @@ use Rattle.session.specs.declared.types.OpenAnswer.the-variants as answe
 use Rattle.session.specs.Session.{ringWords, cleared, idleSession}
 use Rattle.session.specs.Record.{isBadConfig}
 
-abbrev pub pickOpen : Bool → OpenAnswer → OpenAnswer → OpenAnswer
-pickOpen true a b = a
-pickOpen false a b = b
-
 -- 17, then 18
 abbrev pub openAnswer : IsoConfig → ℕ → OpenAnswer
-openAnswer cfg words = pickOpen (ltb words (ringWords cfg)) answer.ShortRing (pickOpen (isBadConfig cfg) answer.BadConfig answer.Opened)
+openAnswer cfg words = cond (ltb words (ringWords cfg)) answer.ShortRing (cond (isBadConfig cfg) answer.BadConfig answer.Opened)
 
 abbrev pub opened : IsoConfig → ℕ → Opened
 opened cfg words = record { answer = openAnswer cfg words; session = idleSession cfg }

@@ -1,5 +1,5 @@
 -- Polling and recovery: document 01, "Poll", "Reset" and "Recovery", in their order.
-use mathlib.Core.Bool.{Bool, true, false, not, _||_}
+use mathlib.Core.Bool.{Bool, true, false, not, _||_, cond}
 use mathlib.Core.List.{List}
 use Prim.Native.Nat.{ℕ}
 use lib.Dec.{eqb, ltb}
@@ -30,25 +30,21 @@ abbrev pub outcomeOf : IsoHaltReason → IsoOutcome
 outcomeOf reason.Cancelled = outcome.Cancelled
 outcomeOf (reason.Fault kind word) = outcome.Fault kind word
 
-abbrev pub pickPoll : Bool → PollWay → PollWay → PollWay
-pickPoll true a b = a
-pickPoll false a b = b
-
 -- "with a reason, wait for halted; halted without a reason ends it; else settle"
 abbrev pub wayByReason : IsoFatal → ℕ → PollWay
-wayByReason fatal.Nothing word = pickPoll (isSet halted word) (End (outcome.UnexpectedHalt word)) (Settle (isSet complete word))
-wayByReason (fatal.Reason r) word = pickPoll (isSet halted word) (End (outcomeOf r)) Wait
+wayByReason fatal.Nothing word = cond (isSet halted word) (End (outcome.UnexpectedHalt word)) (Settle (isSet complete word))
+wayByReason (fatal.Reason r) word = cond (isSet halted word) (End (outcomeOf r)) Wait
 
 -- "a fault ends it if halted, else becomes the halt reason, replacing an earlier one, and asks for a halt"
 abbrev pub wayByFault : HcintFault → IsoFatal → ℕ → PollWay
 wayByFault fault.Nothing f word = wayByReason f word
-wayByFault (fault.Fault kind) f word = pickPoll (isSet halted word) (End (outcome.Fault kind word)) (Halt (reason.Fault kind word))
+wayByFault (fault.Fault kind) f word = cond (isSet halted word) (End (outcome.Fault kind word)) (Halt (reason.Fault kind word))
 
 -- "Poll changes nothing without a live channel or a reported event (0 may be one)"; "unplugged ends the session with that error"
 abbrev pub pollWay : IsoChannelState → IsoEvent → PollWay
 pollWay s e =
-    pickPoll (not (s .head .live) || not (e .reported)) Nothing
-    (pickPoll (e .unplugged) (End outcome.Disconnected) (wayByFault (hcintFault (e .hcint)) (s .fatal) (e .hcint)))
+    cond (not (s .head .live) || not (e .reported)) Nothing
+    (cond (e .unplugged) (End outcome.Disconnected) (wayByFault (hcintFault (e .hcint)) (s .fatal) (e .hcint)))
 
 abbrev pub withReason : IsoHaltReason → IsoChannelState → IsoChannelState
 withReason r s = record { cfg = s .cfg; head = s .head; fatal = fatal.Reason r; requests = s .requests; plans = s .plans }
@@ -72,34 +68,26 @@ polledRingBy (Settle bit) s ring = drained bit s ring .ring
 
 -- "The other session calls test 17 and 18, then their own."
 
-abbrev pub pickReply : Bool → IsoReply → IsoReply → IsoReply
-pickReply true a b = a
-pickReply false a b = b
-
 abbrev pub refusedReply : ℕ → IsoChannelState → IsoReply
 refusedReply n s = reply (answer.Refused n) false false s
 
-abbrev pub pickWords : Bool → List ℕ → List ℕ → List ℕ
-pickWords true a b = a
-pickWords false a b = b
-
 abbrev pub polled : IsoChannelState → IsoEvent → List ℕ → IsoReply
 polled s e ring =
-    pickReply (ltb (length ring) (ringWords (s .cfg))) (refusedReply 17 s)
-    (pickReply (isBadRecord s) (refusedReply 18 s) (polledBy (pollWay s e) s ring))
+    cond (ltb (length ring) (ringWords (s .cfg))) (refusedReply 17 s)
+    (cond (isBadRecord s) (refusedReply 18 s) (polledBy (pollWay s e) s ring))
 
 abbrev pub polledRing : IsoChannelState → IsoEvent → List ℕ → List ℕ
 polledRing s e ring =
-    pickWords (ltb (length ring) (ringWords (s .cfg))) ring (pickWords (isBadRecord s) ring (polledRingBy (pollWay s e) s ring))
+    cond (ltb (length ring) (ringWords (s .cfg))) ring (cond (isBadRecord s) ring (polledRingBy (pollWay s e) s ring))
 
 -- "Recovery takes the record from before a cut call and acts as unplugged, zeroing the ring also where no channel was live"
 abbrev pub recovered : IsoChannelState → ℕ → IsoReply
 recovered s words =
-    pickReply (ltb words (ringWords (s .cfg))) (refusedReply 17 s)
-    (pickReply (isBadRecord s) (refusedReply 18 s) (reply answer.Done false false (ended outcome.Disconnected s)))
+    cond (ltb words (ringWords (s .cfg))) (refusedReply 17 s)
+    (cond (isBadRecord s) (refusedReply 18 s) (reply answer.Done false false (ended outcome.Disconnected s)))
 
 abbrev pub recoveredRing : IsoChannelState → List ℕ → List ℕ
-recoveredRing s ring = pickWords (ltb (length ring) (ringWords (s .cfg))) ring (pickWords (isBadRecord s) ring (endedRing s ring))
+recoveredRing s ring = cond (ltb (length ring) (ringWords (s .cfg))) ring (cond (isBadRecord s) ring (endedRing s ring))
 
 -- "Reset, when all is empty, sets the cursor to 0." 16: reset while not empty
 abbrev pub isEmpty : IsoChannelState → Bool
@@ -125,4 +113,4 @@ atStart s =
 
 abbrev pub resetReply : IsoChannelState → IsoReply
 resetReply s =
-    pickReply (isBadRecord s) (refusedReply 18 s) (pickReply (isEmpty s) (reply answer.Done false false (atStart s)) (refusedReply 16 s))
+    cond (isBadRecord s) (refusedReply 18 s) (cond (isEmpty s) (reply answer.Done false false (atStart s)) (refusedReply 16 s))

@@ -22,7 +22,7 @@ use Rattle.session.specs.declared.reply.ReclaimAnswer.the-variants as re
 use Rattle.session.specs.declared.reply.Reclaimed.{Reclaimed}
 use Rattle.session.specs.Session.{blankRequest, ringWords, packetsOf, allPackets}
 use Rattle.session.specs.Record.{isBadRecord}
-use Rattle.session.specs.Poll.{reply, pickReply, pickWords, pollWay, polledBy, polledRingBy}
+use Rattle.session.specs.Poll.{reply, pollWay, polledBy, polledRingBy}
 use Rattle.session.specs.Cancel.{requestAt}
 
 -- all other outcomes are errors
@@ -47,10 +47,10 @@ isFound id s = ltb (requestAt id s) (s .head .done)
 
 -- "looks, polls if it found nothing"
 abbrev pub looked : ℕ → IsoEvent → IsoChannelState → List ℕ → IsoReply
-looked id e s ring = pickReply (isFound id s) (reply answer.Done false false s) (polledBy (pollWay s e) s ring)
+looked id e s ring = cond (isFound id s) (reply answer.Done false false s) (polledBy (pollWay s e) s ring)
 
 abbrev pub lookedRing : ℕ → IsoEvent → IsoChannelState → List ℕ → List ℕ
-lookedRing id e s ring = pickWords (isFound id s) ring (polledRingBy (pollWay s e) s ring)
+lookedRing id e s ring = cond (isFound id s) ring (polledRingBy (pollWay s e) s ring)
 
 -- the request at a place, and where its plans begin and end
 abbrev pub requestOf : ℕ → IsoChannelState → IsoRequest
@@ -97,27 +97,19 @@ handedAnswer r = reclaim.Completed (r .outcome) (handedLength r) (r .packets)
 
 abbrev pub handedResults : ℕ → IsoChannelState → List ℕ → List ℕ
 handedResults at s results =
-    pickWords (isDone (requestOf at s .outcome)) (sets results 0 (map resultWord (slice (plansBegin at s) (plansEnd at s) (s .plans)))) results
+    cond (isDone (requestOf at s .outcome)) (sets results 0 (map resultWord (slice (plansBegin at s) (plansEnd at s) (s .plans)))) results
 
 abbrev pub reclaimReply : ReclaimAnswer → Bool → Bool → IsoChannelState → Reclaimed
 reclaimReply a taken halt s = record { answer = a; taken = taken; halt = halt; session = s }
 
-abbrev pub pickReclaimed : Bool → Reclaimed → Reclaimed → Reclaimed
-pickReclaimed true a b = a
-pickReclaimed false a b = b
-
-abbrev pub pickAnswer : Bool → ReclaimAnswer → ReclaimAnswer → ReclaimAnswer
-pickAnswer true a b = a
-pickAnswer false a b = b
-
 -- "looks again; a pending number answers "not yet""; 15: unknown number, what the poll did is kept
 abbrev pub lookedAgain : ℕ → Bool → Bool → IsoChannelState → Reclaimed
 lookedAgain id taken halt s =
-    pickReclaimed (isFound id s) (reclaimReply (handedAnswer (requestOf (requestAt id s) s)) taken halt (removed (requestAt id s) s))
-    (reclaimReply (pickAnswer (ltb (requestAt id s) (s .head .count)) reclaim.NotYet (reclaim.Refused 15)) taken halt s)
+    cond (isFound id s) (reclaimReply (handedAnswer (requestOf (requestAt id s) s)) taken halt (removed (requestAt id s) s))
+    (reclaimReply (cond (ltb (requestAt id s) (s .head .count)) reclaim.NotYet (reclaim.Refused 15)) taken halt s)
 
 abbrev pub lookedResults : ℕ → IsoChannelState → List ℕ → List ℕ
-lookedResults id s results = pickWords (isFound id s) (handedResults (requestAt id s) s results) results
+lookedResults id s results = cond (isFound id s) (handedResults (requestAt id s) s results) results
 
 -- "results under 255"
 abbrev pub isShort : IsoChannelState → ℕ → ℕ → Bool
@@ -125,15 +117,15 @@ isShort s words results = ltb words (ringWords (s .cfg)) || ltb results 255
 
 abbrev pub reclaimed : IsoChannelState → ℕ → IsoEvent → List ℕ → ℕ → Reclaimed
 reclaimed s id e ring results =
-    pickReclaimed (isShort s (length ring) results) (reclaimReply (reclaim.Refused 17) false false s)
-    (pickReclaimed (isBadRecord s) (reclaimReply (reclaim.Refused 18) false false s)
+    cond (isShort s (length ring) results) (reclaimReply (reclaim.Refused 17) false false s)
+    (cond (isBadRecord s) (reclaimReply (reclaim.Refused 18) false false s)
     (lookedAgain id (looked id e s ring .taken) (looked id e s ring .halt) (looked id e s ring .session)))
 
 abbrev pub reclaimedRing : IsoChannelState → ℕ → IsoEvent → List ℕ → ℕ → List ℕ
 reclaimedRing s id e ring results =
-    pickWords (isShort s (length ring) results) ring (pickWords (isBadRecord s) ring (lookedRing id e s ring))
+    cond (isShort s (length ring) results) ring (cond (isBadRecord s) ring (lookedRing id e s ring))
 
 abbrev pub reclaimedResults : IsoChannelState → ℕ → IsoEvent → List ℕ → List ℕ → List ℕ
 reclaimedResults s id e ring results =
-    pickWords (isShort s (length ring) (length results)) results
-    (pickWords (isBadRecord s) results (lookedResults id (looked id e s ring .session) results))
+    cond (isShort s (length ring) (length results)) results
+    (cond (isBadRecord s) results (lookedResults id (looked id e s ring .session) results))

@@ -1,6 +1,6 @@
 -- Settling: document 01, "Poll". "The complete bit settles the oldest request whatever its descriptors say; after it, or with no bit, each oldest one
 -- whose last descriptor is inactive."
-use mathlib.Core.Bool.{Bool, true, false, not, _||_}
+use mathlib.Core.Bool.{Bool, true, false, not, _||_, cond}
 use mathlib.Core.List.{List, [], _∷_, map}
 use Prim.Native.Nat.{ℕ, zero, suc, _+_, _-_, _*_}
 use lib.ListN.{getD, set}
@@ -95,15 +95,11 @@ pub record Drained : Type 0 where
   pub session : IsoChannelState
   pub ring : List ℕ
 
-abbrev pub pickDrained : Bool → Drained → Drained → Drained
-pickDrained true a b = a
-pickDrained false a b = b
-
 -- at most so many requests, the first of them at once where the bit is set
 abbrev pub drain : ℕ → Bool → IsoChannelState → List ℕ → Drained
 drain zero bit s ring = record { session = s; ring = ring }
 drain (suc k) bit s ring =
-    pickDrained (bit || isServed s ring) (drain k false (settledSession s ring) (settledRing s ring)) (record { session = s; ring = ring })
+    cond (bit || isServed s ring) (drain k false (settledSession s ring) (settledRing s ring)) (record { session = s; ring = ring })
 
 abbrev pub drained : Bool → IsoChannelState → List ℕ → Drained
 drained bit s ring = drain (s .head .count - s .head .done) bit s ring

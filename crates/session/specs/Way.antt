@@ -113,21 +113,17 @@ spendChecks s t lengths ring =
 abbrev pub spendRefusal : IsoChannelState → IsoTransfer → List ℕ → List ℕ → ℕ
 spendRefusal s t lengths ring = firstOf (spendChecks s t lengths ring)
 
-abbrev pub pickWay : Bool → SubmitWay → SubmitWay → SubmitWay
-pickWay true a b = a
-pickWay false a b = b
-
 -- "A submission that finds no live channel .. passes two connection gates, before programming and before enabling"; between them the words are
 -- stored, and "below 2n .. it stops there"
 abbrev pub gateAt : Bool → IsoTransfer → ℕ → SubmitWay
 gateAt live t n =
-    pickWay (not live && not (t .«gate_program»)) Early (pickWay (ltb (t .words) (2 * n)) Cut (pickWay (not live && not (t .«gate_enable»)) Late Accept))
+    cond (not live && not (t .«gate_program»)) Early (cond (ltb (t .words) (2 * n)) Cut (cond (not live && not (t .«gate_enable»)) Late Accept))
 
 abbrev pub gateWay : IsoChannelState → IsoTransfer → ℕ → SubmitWay
 gateWay s t n = gateAt (s .head .live) t n
 
 abbrev pub submitWay : IsoChannelState → IsoTransfer → List ℕ → List ℕ → SubmitWay
 submitWay s t lengths ring =
-    pickWay (not (eqb (entryRefusal s t (length lengths) (length ring)) 0)) (Refuse (entryRefusal s t (length lengths) (length ring)))
-    (pickWay (ltb (tooLong s lengths) (length lengths)) (TooLong (tooLong s lengths))
-    (pickWay (not (eqb (spendRefusal s t lengths ring) 0)) (Spend (spendRefusal s t lengths ring)) (gateWay s t (length lengths))))
+    cond (not (eqb (entryRefusal s t (length lengths) (length ring)) 0)) (Refuse (entryRefusal s t (length lengths) (length ring)))
+    (cond (ltb (tooLong s lengths) (length lengths)) (TooLong (tooLong s lengths))
+    (cond (not (eqb (spendRefusal s t lengths ring) 0)) (Spend (spendRefusal s t lengths ring)) (gateWay s t (length lengths))))

@@ -30,33 +30,33 @@ pub struct RecordScan {
     pub held: [bool; 256],
 }
 
-pub(crate) fn is_bad_config(cfg: IsoConfig) -> bool
+pub fn is_bad_config(cfg: IsoConfig) -> bool
     ensures { λ r. ⌜ r ≡ isBadConfig cfg ⌝ }
 {
     (cfg.endpoint > 15) | ((cfg.device > 127) | ((cfg.max_packet_size > 2_047) | (cfg.mult > 3)))
 }
 
 // The most packets in flight.
-pub(crate) fn room(cfg: IsoConfig) -> u16
+pub fn room(cfg: IsoConfig) -> u16
     ensures { λ r. ⌜ r ≡ Session·room cfg ⌝ }
 {
     let speed = cfg.speed;
     iso_max_packets(cfg.interval, speed)
 }
 
-fn is_bad_request(request: IsoRequest) -> bool
+pub fn is_bad_request(request: IsoRequest) -> bool
     ensures { λ r. ⌜ r ≡ isBadRequest request ⌝ }
 {
     (request.packets == 0) | (request.packets > 255)
 }
 
-fn is_bad_plan(limit: u16, slots: u16, plan: IsoPacketPlan) -> bool
+pub fn is_bad_plan(limit: u16, slots: u16, plan: IsoPacketPlan) -> bool
     ensures { λ r. ⌜ r ≡ isBadPlan limit slots plan ⌝ }
 {
     (plan.planned > limit) | ((plan.actual > plan.planned) | (plan.desc_index >= slots))
 }
 
-pub(crate) fn has_reason(fatal: IsoFatal) -> bool
+pub fn has_reason(fatal: IsoFatal) -> bool
     ensures { λ r. ⌜ r ≡ hasReason fatal ⌝ }
 {
     match fatal {
@@ -66,7 +66,7 @@ pub(crate) fn has_reason(fatal: IsoFatal) -> bool
 }
 
 // The cursor beyond the ring, or requests pending or a reason without a live channel.
-fn is_bad_state(head: IsoHead, slots: u16, fatal: IsoFatal) -> bool
+pub fn is_bad_state(head: IsoHead, slots: u16, fatal: IsoFatal) -> bool
     ensures { λ r. ⌜ r ≡ leb slots (head .«td_last») || not (head .live) && (ltb (head .done) (head .count) || hasReason fatal) ⌝ }
 {
     (head.td_last >= slots) | (!head.live & ((head.done < head.count) | has_reason(fatal)))

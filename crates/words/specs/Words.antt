@@ -1,6 +1,6 @@
 -- Document 01, "Words": each field by its place and width, and each word by its fields, in 01's order.
 use Prim.Native.Nat.{ℕ, _+_, _-_, _*_, _/_, max}
-use mathlib.Core.Bool.{Bool, true, false}
+use mathlib.Core.Bool.{Bool, true, false, cond}
 use mathlib.Core.List.{List, [], _∷_}
 use lib.Dec.{eqb, ltb}
 use Rattle.words.specs.Field.{Field, Entry, bits, bit, _≔_, get, word}
@@ -148,13 +148,9 @@ abbrev pub faultField : Dwc2TransferFault → Field
 faultField f = bit (faultBit f)
 
 -- "The fault is the first set of 2, 3, 8, 7, 9, 10."
-abbrev pub pickFault : Bool → Dwc2TransferFault → HcintFault → HcintFault
-pickFault true f g = Fault f
-pickFault false f g = g
-
 abbrev pub firstFault : List Dwc2TransferFault → ℕ → HcintFault
 firstFault [] w = Nothing
-firstFault (f ∷ fs) w = pickFault (isSet (faultField f) w) f (firstFault fs w)
+firstFault (f ∷ fs) w = cond (isSet (faultField f) w) (Fault f) (firstFault fs w)
 
 abbrev pub faultOrder : List Dwc2TransferFault
 faultOrder = Ahb ∷ Stall ∷ Babble ∷ Transaction ∷ FrameOverrun ∷ DataToggle ∷ []

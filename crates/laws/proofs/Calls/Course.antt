@@ -2,7 +2,7 @@
 -- submission. `cancel` and `reset` are lent no ring; what opening, a session's end and recovery leave of it, its definitions say outright. Each is a fact of
 -- the session's definitions, and so, by the promises of the calls, of the code. Results.antt and HandedOut.antt go on from here.
 use mathlib.Core.Path.{_≡_, refl, _∙_, sym, ap, subst⁻¹}
-use mathlib.Core.Bool.{Bool, true, false, _||_}
+use mathlib.Core.Bool.{Bool, true, false, _||_, cond}
 use mathlib.Core.List.{List, [], map}
 use mathlib.Core.Logic.{_≢_, _⊎_, inl, inr, ⊎-elim}
 use Prim.Native.Nat.{ℕ, _+_, _-_, _*_, _/_, _≤_, _<_}
@@ -29,7 +29,7 @@ use Rattle.session.specs.End.{withOutcome, ended}
 use Rattle.session.specs.Place.{stepOf, insertOf}
 use Rattle.session.specs.Way.{submitWay}
 use Rattle.session.specs.Submit.{newRequest, answerOf, sessionAfter, ringAfter, submitted, submittedRing}
-use Rattle.session.specs.Poll.{reply, pickReply, refusedReply, pickWords, pollWay, polledBy, polledRingBy, polled, polledRing, recovered, recoveredRing}
+use Rattle.session.specs.Poll.{reply, refusedReply, pollWay, polledBy, polledRingBy, polled, polledRing, recovered, recoveredRing}
 use Rattle.session.specs.Reclaim.{isFound, reclaimedRing}
 use Rattle.laws.proofs.Calls.WellFormed.{WellFormed, facts, Call, Submit, Poll, Reclaim, Cancel, Reset, Recover}
 use Rattle.session.proofs.Laws.Record.{Sound}
@@ -159,8 +159,8 @@ module _ (s : IsoChannelState) (e : IsoEvent) (ring : List ℕ) where
       by = polledRingBy (pollWay s e) s ring
 
       go :
-          (a b c d : Bool) → (pickWords (a || b) ring (pickWords c ring (pickWords d ring by)) ≡ ring)
-          ⊎ (pickWords (a || b) ring (pickWords c ring (pickWords d ring by)) ≡ pickWords a ring (pickWords c ring by))
+          (a b c d : Bool) → (cond (a || b) ring (cond c ring (cond d ring by)) ≡ ring)
+          ⊎ (cond (a || b) ring (cond c ring (cond d ring by)) ≡ cond a ring (cond c ring by))
       go true b c d = inl refl
       go false true c d = inl refl
       go false false true d = inl refl
@@ -243,8 +243,8 @@ recover-order s words well =
     let over = reply answer.Done false false (ended outcome.Disconnected s) in
     let same = order-same s (facts s well) in
     let P : IsoReply → Type 0 = λ r. InOrder s (r .session) in
-    chosen pickReply P (ltb words (ringWords (s .cfg))) (refusedReply 17 s) (pickReply (isBadRecord s) (refusedReply 18 s) over) (λ u. same)
-    (λ u. chosen pickReply P (isBadRecord s) (refusedReply 18 s) over (λ b. same) (λ b. ended-order outcome.Disconnected s (facts s well)))
+    chosen P (ltb words (ringWords (s .cfg))) (refusedReply 17 s) (cond (isBadRecord s) (refusedReply 18 s) over) (λ u. same)
+    (λ u. chosen P (isBadRecord s) (refusedReply 18 s) over (λ b. same) (λ b. ended-order outcome.Disconnected s (facts s well)))
 
 -- A submission changes no request in use, whatever it answers.
 pub submit-order :

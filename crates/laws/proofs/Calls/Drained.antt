@@ -14,7 +14,7 @@ use Rattle.session.specs.declared.types.IsoPacketPlan.{IsoPacketPlan}
 use Rattle.session.specs.declared.types.IsoRequest.{IsoRequest}
 use Rattle.session.specs.declared.types.IsoChannelState.{IsoChannelState}
 use Rattle.session.specs.Session.{blankRequest, blankPlan}
-use Rattle.session.specs.Settle.{settledPlan, oldest, oldestFrom, oldestTo, oldestPlans, settledPlans, settledRequest, slotsCleared, Drained, pickDrained}
+use Rattle.session.specs.Settle.{settledPlan, oldest, oldestFrom, oldestTo, oldestPlans, settledPlans, settledRequest, slotsCleared, Drained}
 use Rattle.session.specs.Settle.{settledSession, settledRing, isServed, drain, drained}
 use Rattle.session.proofs.Laws.Lists.{getD-slice, getD-sets-before}
 use Rattle.session.proofs.Laws.Sums.{packets-next, packets-past, packets-split}
@@ -142,7 +142,7 @@ drain-leaves :
 drain-leaves zero bit s ring g h = none s ring g
 drain-leaves (suc k) bit s ring g h =
     let rest = drain k false (settledSession s ring) (settledRing s ring) in
-    chosen pickDrained (Drains s ring) (bit || isServed s ring) rest (record { session = s; ring = ring })
+    chosen (Drains s ring) (bit || isServed s ring) rest (record { session = s; ring = ring })
     (λ e. one-more s ring rest g (omega arith)
     (drain-leaves k false (settledSession s ring) (settledRing s ring) (settled-sound s ring g (omega arith)) (omega arith)))
     (λ e. none s ring g)

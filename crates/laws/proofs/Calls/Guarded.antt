@@ -1,6 +1,6 @@
 -- What guarded mode adds: the test of 13 is the last, and it holds just where a planned slot belongs to a pending packet.
 use mathlib.Core.Path.{_≡_, refl, _∙_, ap}
-use mathlib.Core.Bool.{Bool, true, false, not, _||_, or-true}
+use mathlib.Core.Bool.{Bool, true, false, not, _||_, or-true, cond}
 use mathlib.Core.List.{List, [], _∷_}
 use mathlib.Core.Logic.{_⊎_, inl, inr, ⊎-elim}
 use Prim.Native.Nat.{ℕ, zero, suc, _<_}
@@ -12,7 +12,7 @@ use Rattle.session.specs.declared.types.IsoPacketPlan.{IsoPacketPlan}
 use Rattle.session.specs.declared.transfer.SubmitWay.{SubmitWay}
 use Rattle.session.specs.declared.transfer.SubmitWay.the-variants.{Spend}
 use Rattle.session.specs.Session.{blankPlan}
-use Rattle.session.specs.Way.{isHeld, anyHeld, spendNumber, pickWay}
+use Rattle.session.specs.Way.{isHeld, anyHeld, spendNumber}
 
 -- of two tests one holds, the first or the second
 one-side : (a b : Bool) → (a || b) ≡ true → (a ≡ true) ⊎ (b ≡ true)
@@ -57,7 +57,7 @@ any-held-where ps (slot ∷ l) (suc i) h e =
 -- the way by the tests of 10 to 13, the last of which guarded mode adds
 abbrev pub wayBy : SubmitWay → SubmitWay → SubmitWay → Bool → Bool → Bool → Bool → Bool → Bool → SubmitWay
 wayBy x y g p q a b c d =
-    pickWay p x (pickWay q y (pickWay (not (eqb (spendNumber a b c d) 0)) (Spend (spendNumber a b c d)) g))
+    cond p x (cond q y (cond (not (eqb (spendNumber a b c d) 0)) (Spend (spendNumber a b c d)) g))
 
 -- without 13 it is the way without that test
 pub without-last : (x y g : SubmitWay) (p q a b c d : Bool) → (wayBy x y g p q a b c d ≡ Spend 13 → ⊥) → wayBy x y g p q a b c d ≡ wayBy x y g p q a b c false

@@ -1,7 +1,7 @@
 -- Reclaim hands out each completed request once and frees exactly its packets; the other results are as they were, in order. Each is a fact of the session's
 -- definitions, and so, by the promise of `reclaim`, of the call.
 use mathlib.Core.Path.{_≡_, _∙_, sym, ap, subst}
-use mathlib.Core.Bool.{Bool, true, false}
+use mathlib.Core.Bool.{Bool, true, false, cond}
 use mathlib.Core.List.{List, _++_}
 use mathlib.Core.Logic.{_⊎_, inl, inr}
 use Prim.Native.Nat.{ℕ, _+_, _-_, _≤_, _<_}
@@ -23,9 +23,9 @@ use Rattle.session.specs.Session.{ringWords, packetsOf, allPackets, pendingRequ
 use Rattle.session.specs.Record.{isBadRecord}
 use Rattle.session.specs.Settle.{oldestFrom}
 use Rattle.session.specs.Way.{pendingPlans}
-use Rattle.session.specs.Poll.{reply, pickReply, pollWay, polledBy}
+use Rattle.session.specs.Poll.{reply, pollWay, polledBy}
 use Rattle.session.specs.Cancel.{requestAt}
-use Rattle.session.specs.Reclaim.{isFound, looked, requestOf, plansBegin, plansEnd, removed, handedAnswer, reclaimReply, pickReclaimed, pickAnswer, lookedAgain, isShort, reclaimed}
+use Rattle.session.specs.Reclaim.{isFound, looked, requestOf, plansBegin, plansEnd, removed, handedAnswer, reclaimReply, lookedAgain, isShort, reclaimed}
 use Rattle.laws.proofs.Calls.WellFormed.{WellFormed, facts}
 use Rattle.laws.proofs.Calls.Results.{ResultsKept, results-same, way-results, reply-results}
 use Rattle.laws.proofs.Calls.Course.{InOrder, order-same, way-order}
@@ -75,14 +75,14 @@ looked-results id e s ring g =
 
 looked-order : (id : ℕ) (e : IsoEvent) (s : IsoChannelState) (ring : List ℕ) → Sound s → InOrder s (looked id e s ring .session)
 looked-order id e s ring g =
-    chosen pickReply (λ (r : IsoReply). InOrder s (r .session)) (isFound id s) (reply answer.Done false false s) (polledBy (pollWay s e) s ring)
+    chosen (λ (r : IsoReply). InOrder s (r .session)) (isFound id s) (reply answer.Done false false s) (polledBy (pollWay s e) s ring)
     (λ f. order-same s g) (λ f. way-order (pollWay s e) s ring g)
 
 -- a refusal, "not yet" and 15 hand nothing out
 refusal-none : (k : ℕ) (o : IsoOutcome) (total n : ℕ) → reclaim.Refused k ≡ reclaim.Completed o total n → ⊥
 refusal-none k o total n e = let z : _≡_ {A = ℕ} 0 1 = cc in absurd (omega arith)
 
-none-handed : (b : Bool) (o : IsoOutcome) (total n : ℕ) → pickAnswer b reclaim.NotYet (reclaim.Refused 15) ≡ reclaim.Completed o total n → ⊥
+none-handed : (b : Bool) (o : IsoOutcome) (total n : ℕ) → cond b reclaim.NotYet (reclaim.Refused 15) ≡ reclaim.Completed o total n → ⊥
 none-handed true o total n e = let z : _≡_ {A = ℕ} 0 1 = cc in absurd (omega arith)
 none-handed false o total n e = refusal-none 15 o total n e
 
@@ -103,10 +103,10 @@ unknown s id e ring results g gone long wide =
     let first-refusal = reclaimReply (reclaim.Refused 17) false false s in
     let bad = reclaimReply (reclaim.Refused 18) false false s in
     ap (λ (x : Reclaimed). x .answer)
-    (in-turn pickReclaimed first-refusal bad (lookedAgain id (k .taken) (k .halt) l) enough (not-bad s g)
-    ∙ second pickReclaimed (isFound id l) out (stays (pickAnswer (ltb at within) reclaim.NotYet (reclaim.Refused 15)))
+    (in-turn first-refusal bad (lookedAgain id (k .taken) (k .halt) l) enough (not-bad s g)
+    ∙ second (isFound id l) out (stays (cond (ltb at within) reclaim.NotYet (reclaim.Refused 15)))
     (le-ltb at (l .head .done) (omega (arith, none-at, order .within)))
-    ∙ ap stays (second pickAnswer (ltb at within) reclaim.NotYet (reclaim.Refused 15) (le-ltb at within (omega (arith, none-at)))))
+    ∙ ap stays (second (ltb at within) reclaim.NotYet (reclaim.Refused 15) (le-ltb at within (omega (arith, none-at)))))
 
 module _ (s : IsoChannelState) (id : ℕ) (e : IsoEvent) (ring : List ℕ) (results : ℕ) (well : WellFormed s) where
   -- the session after the first look and its poll, the place of the number in it, and the session after the call
@@ -126,19 +126,19 @@ module _ (s : IsoChannelState) (id : ℕ) (e : IsoEvent) (ring : List ℕ) (resu
   by-look :
       (P : Reclaimed → Type 0) → ((n : ℕ) → P (reclaimReply (reclaim.Refused n) false false s))
       → (at < l .head .done → P (reclaimReply (handedAnswer (requestOf at l)) (looked id e s ring .taken) (looked id e s ring .halt) (removed at l)))
-      → ((b : Bool) → P (reclaimReply (pickAnswer b reclaim.NotYet (reclaim.Refused 15)) (looked id e s ring .taken) (looked id e s ring .halt) l))
+      → ((b : Bool) → P (reclaimReply (cond b reclaim.NotYet (reclaim.Refused 15)) (looked id e s ring .taken) (looked id e s ring .halt) l))
       → P (reclaimed s id e ring results)
   by-look P refused found left =
       let taken = looked id e s ring .taken in
       let halt = looked id e s ring .halt in
       let again = lookedAgain id taken halt l in
       let out = reclaimReply (handedAnswer (requestOf at l)) taken halt (removed at l) in
-      let stays = reclaimReply (pickAnswer (ltb at (l .head .count)) reclaim.NotYet (reclaim.Refused 15)) taken halt l in
+      let stays = reclaimReply (cond (ltb at (l .head .count)) reclaim.NotYet (reclaim.Refused 15)) taken halt l in
       let bad = reclaimReply (reclaim.Refused 18) false false s in
-      chosen pickReclaimed P (isShort s (length ring) results) (reclaimReply (reclaim.Refused 17) false false s) (pickReclaimed (isBadRecord s) bad again)
+      chosen P (isShort s (length ring) results) (reclaimReply (reclaim.Refused 17) false false s) (cond (isBadRecord s) bad again)
       (λ h. refused 17)
-      (λ h. chosen pickReclaimed P (isBadRecord s) bad again (λ b. refused 18)
-      (λ b. chosen pickReclaimed P (isFound id l) out stays (λ f. found (ltb-true at (l .head .done) f)) (λ f. left (ltb at (l .head .count)))))
+      (λ h. chosen P (isBadRecord s) bad again (λ b. refused 18)
+      (λ b. chosen P (isFound id l) out stays (λ f. found (ltb-true at (l .head .done) f)) (λ f. left (ltb at (l .head .count)))))
 
   -- Reclaim changes none that it leaves: it hands one out, or leaves all of them.
   pub reclaim-results : ResultsKept s r ⊎ (ResultsKept s l × Without at l r)

@@ -1,7 +1,7 @@
 -- What reset leaves: the cursor at 0 and all else as it came; refused, everything as it came. Each is a fact of the session's definitions, and so, by the
 -- promise of `reset`, of the call.
 use mathlib.Core.Path.{_≡_, refl}
-use mathlib.Core.Bool.{Bool, true, false}
+use mathlib.Core.Bool.{Bool, true, false, cond}
 use Prim.Native.Nat.{ℕ}
 use native.Mathlib.Omega.{arith}
 use Rattle.session.specs.declared.types.IsoChannelState.{IsoChannelState}
@@ -9,7 +9,7 @@ use Rattle.session.specs.declared.reply.IsoAnswer.the-variants as answer
 use Rattle.session.specs.declared.reply.IsoReply.{IsoReply}
 use Rattle.session.specs.Record.{isBadRecord}
 use Rattle.session.specs.Poll.{atStart, resetReply}
-use Rattle.session.specs.Poll.{reply, pickReply, refusedReply, isEmpty}
+use Rattle.session.specs.Poll.{reply, refusedReply, isEmpty}
 
 -- r is s with the cursor at 0: every other field is as it came
 pub record CursorZero (s r : IsoChannelState) : Type 0 where
@@ -27,7 +27,7 @@ pub record CursorZero (s r : IsoChannelState) : Type 0 where
 module _ (s : IsoChannelState) where
   -- the reply by its two tests
   abbrev replied : Bool → Bool → IsoReply
-  replied bad empty = pickReply bad (refusedReply 18 s) (pickReply empty (reply answer.Done false false (atStart s)) (refusedReply 16 s))
+  replied bad empty = cond bad (refusedReply 18 s) (cond empty (reply answer.Done false false (atStart s)) (refusedReply 16 s))
 
   -- Where it is done, the cursor is 0 and nothing else changes.
   pub reset-leaves : resetReply s .answer ≡ answer.Done → CursorZero s (resetReply s .session)

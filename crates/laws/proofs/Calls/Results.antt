@@ -1,7 +1,7 @@
 -- A completed result never changes again except by cancel: what each call leaves of the completed requests and their plans. For reclaim see
 -- HandedOut.antt. Each is a fact of the session's definitions, and so, by the promises of the calls, of the code.
 use mathlib.Core.Path.{_≡_, refl}
-use mathlib.Core.Bool.{Bool, true, false}
+use mathlib.Core.Bool.{Bool, true, false, cond}
 use mathlib.Core.List.{List, map}
 use mathlib.Core.Logic.{_≢_, _⊎_, inl, inr}
 use Prim.Native.Nat.{ℕ, _≤_, _<_}
@@ -30,7 +30,7 @@ use Rattle.session.specs.End.{withOutcome, ended}
 use Rattle.session.specs.Place.{stepOf, insertOf, plansFrom}
 use Rattle.session.specs.Way.{submitWay}
 use Rattle.session.specs.Submit.{withHead, spent, unplugged, newRequest, accepted, sessionAfter, submitted}
-use Rattle.session.specs.Poll.{reply, pickReply, refusedReply, withReason, pollWay, polledBy, polled, recovered, isEmpty, atStart, resetReply}
+use Rattle.session.specs.Poll.{reply, refusedReply, withReason, pollWay, polledBy, polled, recovered, isEmpty, atStart, resetReply}
 use Rattle.session.specs.Cancel.{requestAt, withCancelled, cancelled}
 use Rattle.laws.proofs.Calls.WellFormed.{WellFormed, facts}
 use Rattle.session.proofs.Laws.Sums.{packets-split}
@@ -113,20 +113,20 @@ poll-results s e ring well =
 
 pub reply-results :
     (s : IsoChannelState) (b : Bool) (x y : IsoReply) → ResultsKept s (x .session) → ResultsKept s (y .session)
-    → ResultsKept s (pickReply b x y .session)
-reply-results s b x y f g = chosen pickReply (λ (r : IsoReply). ResultsKept s (r .session)) b x y (λ u. f) (λ u. g)
+    → ResultsKept s (cond b x y .session)
+reply-results s b x y f g = chosen (λ (r : IsoReply). ResultsKept s (r .session)) b x y (λ u. f) (λ u. g)
 
 -- Nor does a reset, nor recovery.
 pub reset-results : (s : IsoChannelState) → ResultsKept s (resetReply s .session)
 reset-results s =
     let empty = reply answer.Done false false (atStart s) in
-    reply-results s (isBadRecord s) (refusedReply 18 s) (pickReply (isEmpty s) empty (refusedReply 16 s)) (results-same s)
+    reply-results s (isBadRecord s) (refusedReply 18 s) (cond (isEmpty s) empty (refusedReply 16 s)) (results-same s)
     (reply-results s (isEmpty s) empty (refusedReply 16 s) (record { done = omega arith; request = λ i u. refl; plan = λ j u. refl }) (results-same s))
 
 pub recover-results : (s : IsoChannelState) (words : ℕ) → WellFormed s → ResultsKept s (recovered s words .session)
 recover-results s words well =
     let over = reply answer.Done false false (ended outcome.Disconnected s) in
-    reply-results s (ltb words (ringWords (s .cfg))) (refusedReply 17 s) (pickReply (isBadRecord s) (refusedReply 18 s) over) (results-same s)
+    reply-results s (ltb words (ringWords (s .cfg))) (refusedReply 17 s) (cond (isBadRecord s) (refusedReply 18 s) over) (results-same s)
     (reply-results s (isBadRecord s) (refusedReply 18 s) over (results-same s) (ended-results outcome.Disconnected s (facts s well)))
 
 -- Cancel changes at most the outcome of the one that is named.
@@ -150,7 +150,7 @@ cancel-results s id well = go (isBadRecord s) (ltb at (s .head .done)) refl (ltb
 
     go :
         (a b : Bool) → ltb at (s .head .done) ≡ b → (c d : Bool)
-        → AtMostCancelled at s (pickReply a (refusedReply 18 s) (pickReply b amended (pickReply c (pickReply d stands halting) (refusedReply 15 s))) .session)
+        → AtMostCancelled at s (cond a (refusedReply 18 s) (cond b amended (cond c (cond d stands halting) (refusedReply 15 s))) .session)
     go true b e c d = same
     go false true e c d =
         let g : Sound s = facts s well in

@@ -29,13 +29,13 @@ use Rattle.session.specs.declared.reply.Reclaimed.{Reclaimed}
 use Rattle.session.specs.Numbers.{submitNumber, answerNumber, reclaimNumber}
 use Rattle.session.specs.Session.{blankRequest, blankPlan, ringWords, hasReason}
 use Rattle.session.specs.Record.{isBadConfig, isBadRecord}
-use Rattle.session.specs.Open.{pickOpen, openAnswer, opened}
+use Rattle.session.specs.Open.{openAnswer, opened}
 use Rattle.session.specs.Way.{firstOf, entryChecks, entryRefusal, submitWay}
 use Rattle.session.specs.Submit.{answerOf, submitted}
 use Rattle.session.specs.End.{ended}
-use Rattle.session.specs.Poll.{reply, pickReply, refusedReply, withReason, pollWay, polledBy, polled, recovered, isEmpty, atStart, resetReply}
+use Rattle.session.specs.Poll.{reply, refusedReply, withReason, pollWay, polledBy, polled, recovered, isEmpty, atStart, resetReply}
 use Rattle.session.specs.Cancel.{requestAt, withCancelled, cancelled}
-use Rattle.session.specs.Reclaim.{isFound, looked, requestOf, removed, handedAnswer, reclaimReply, pickReclaimed, pickAnswer, lookedAgain, isShort, reclaimed}
+use Rattle.session.specs.Reclaim.{isFound, looked, requestOf, removed, handedAnswer, reclaimReply, lookedAgain, isShort, reclaimed}
 use Rattle.session.proofs.Laws.Checks.{_and_, one-of, spend-number}
 use Rattle.session.proofs.Laws.Admitted.{Told, told}
 use Rattle.session.proofs.Laws.Tests.{chosen}
@@ -114,7 +114,7 @@ all-kept [] s w = w
 all-kept (c ∷ cs) s w = all-kept cs (after c s) (kept c s w)
 
 -- where an opening is accepted, its configuration passes
-accepted-config : (short bad : Bool) → pickOpen short answer.ShortRing (pickOpen bad answer.BadConfig answer.Opened) ≡ answer.Opened → bad ≡ false
+accepted-config : (short bad : Bool) → cond short answer.ShortRing (cond bad answer.BadConfig answer.Opened) ≡ answer.Opened → bad ≡ false
 accepted-config true bad e = let z : _≡_ {A = ℕ} 0 1 = cc in absurd (omega arith)
 accepted-config false true e = let z : _≡_ {A = ℕ} 0 1 = cc in absurd (omega arith)
 accepted-config false false e = refl
@@ -173,13 +173,13 @@ submit-other s t lengths ring way.Accept good h = λ e. omega arith
 -- a reply that is chosen by a test, and one behind the test of the record
 reply-other :
     (b : Bool) (x y : IsoReply) → (b ≡ true → Other (answerNumber (x .answer))) → (b ≡ false → Other (answerNumber (y .answer)))
-    → Other (answerNumber (pickReply b x y .answer))
-reply-other = chosen pickReply (λ (r : IsoReply). Other (answerNumber (r .answer)))
+    → Other (answerNumber (cond b x y .answer))
+reply-other = chosen (λ (r : IsoReply). Other (answerNumber (r .answer)))
 
 past-record :
     (s : IsoChannelState) (r : IsoReply) → isBadRecord s ≡ false → Other (answerNumber (r .answer))
-    → Other (answerNumber (pickReply (isBadRecord s) (refusedReply 18 s) r .answer))
-past-record s r good h = subst⁻¹ (λ (b : Bool). Other (answerNumber (pickReply b (refusedReply 18 s) r .answer))) good h
+    → Other (answerNumber (cond (isBadRecord s) (refusedReply 18 s) r .answer))
+past-record s r good h = subst⁻¹ (λ (b : Bool). Other (answerNumber (cond b (refusedReply 18 s) r .answer))) good h
 
 poll-other : (w : PollWay) (s : IsoChannelState) (ring : List ℕ) → Other (answerNumber (polledBy w s ring .answer))
 poll-other poll.Nothing s ring = λ e. omega arith
@@ -190,17 +190,17 @@ poll-other (poll.Settle bit) s ring = λ e. omega arith
 
 reclaim-other :
     (b : Bool) (x y : Reclaimed) → (b ≡ true → Other (reclaimNumber (x .answer))) → (b ≡ false → Other (reclaimNumber (y .answer)))
-    → Other (reclaimNumber (pickReclaimed b x y .answer))
-reclaim-other = chosen pickReclaimed (λ (r : Reclaimed). Other (reclaimNumber (r .answer)))
+    → Other (reclaimNumber (cond b x y .answer))
+reclaim-other = chosen (λ (r : Reclaimed). Other (reclaimNumber (r .answer)))
 
 again-other : (id : ℕ) (taken halt : Bool) (s : IsoChannelState) → Other (reclaimNumber (lookedAgain id taken halt s .answer))
 again-other id taken halt s =
     let at : ℕ = requestAt id s in
     let within = ltb at (s .head .count) in
     reclaim-other (isFound id s) (reclaimReply (handedAnswer (requestOf at s)) taken halt (removed at s))
-    (reclaimReply (pickAnswer within reclaim.NotYet (reclaim.Refused 15)) taken halt s)
+    (reclaimReply (cond within reclaim.NotYet (reclaim.Refused 15)) taken halt s)
     (λ f e. omega arith)
-    (λ f. chosen pickAnswer (λ (a : ReclaimAnswer). Other (reclaimNumber a)) within reclaim.NotYet (reclaim.Refused 15) (λ h e. omega arith)
+    (λ f. chosen (λ (a : ReclaimAnswer). Other (reclaimNumber a)) within reclaim.NotYet (reclaim.Refused 15) (λ h e. omega arith)
     (λ h e. omega arith))
 
 -- No call on a record that passes the check answers 18.
@@ -208,33 +208,33 @@ pub not-refused : (call : Call) (s : IsoChannelState) → isBadRecord s ≡ fals
 not-refused (Submit t lengths ring) s good = submit-other s t lengths ring (submitWay s t lengths ring) good (told s t lengths ring)
 not-refused (Poll e ring) s good =
     let by-way = polledBy (pollWay s e) s ring in
-    reply-other (ltb (length ring) (ringWords (s .cfg))) (refusedReply 17 s) (pickReply (isBadRecord s) (refusedReply 18 s) by-way)
+    reply-other (ltb (length ring) (ringWords (s .cfg))) (refusedReply 17 s) (cond (isBadRecord s) (refusedReply 18 s) by-way)
     (λ h u. omega arith) (λ h. past-record s by-way good (poll-other (pollWay s e) s ring))
 not-refused (Reclaim id e ring results) s good =
     let l = looked id e s ring in
     let again = lookedAgain id (l .taken) (l .halt) (l .session) in
     let bad = reclaimReply (reclaim.Refused 18) false false s in
-    reclaim-other (isShort s (length ring) (length results)) (reclaimReply (reclaim.Refused 17) false false s) (pickReclaimed (isBadRecord s) bad again)
+    reclaim-other (isShort s (length ring) (length results)) (reclaimReply (reclaim.Refused 17) false false s) (cond (isBadRecord s) bad again)
     (λ h u. omega arith)
-    (λ h. subst⁻¹ (λ (b : Bool). Other (reclaimNumber (pickReclaimed b bad again .answer))) good (again-other id (l .taken) (l .halt) (l .session)))
+    (λ h. subst⁻¹ (λ (b : Bool). Other (reclaimNumber (cond b bad again .answer))) good (again-other id (l .taken) (l .halt) (l .session)))
 not-refused (Cancel id) s good =
     let at : ℕ = requestAt id s in
     let amended = reply done.Done false false (withCancelled at s) in
     let stands = reply done.Done false false s in
     let halting = reply done.Done false true (withReason reason.Cancelled s) in
-    let pending = pickReply (hasReason (s .fatal)) stands halting in
-    let known = pickReply (ltb at (s .head .count)) pending (refusedReply 15 s) in
-    past-record s (pickReply (ltb at (s .head .done)) amended known) good
+    let pending = cond (hasReason (s .fatal)) stands halting in
+    let known = cond (ltb at (s .head .count)) pending (refusedReply 15 s) in
+    past-record s (cond (ltb at (s .head .done)) amended known) good
     (reply-other (ltb at (s .head .done)) amended known (λ h u. omega arith)
     (λ h. reply-other (ltb at (s .head .count)) pending (refusedReply 15 s)
     (λ k. reply-other (hasReason (s .fatal)) stands halting (λ f u. omega arith) (λ f u. omega arith)) (λ k u. omega arith)))
 not-refused Reset s good =
     let empty = reply done.Done false false (atStart s) in
-    past-record s (pickReply (isEmpty s) empty (refusedReply 16 s)) good
+    past-record s (cond (isEmpty s) empty (refusedReply 16 s)) good
     (reply-other (isEmpty s) empty (refusedReply 16 s) (λ h u. omega arith) (λ h u. omega arith))
 not-refused (Recover ring) s good =
     let over = reply done.Done false false (ended outcome.Disconnected s) in
-    reply-other (ltb (length ring) (ringWords (s .cfg))) (refusedReply 17 s) (pickReply (isBadRecord s) (refusedReply 18 s) over)
+    reply-other (ltb (length ring) (ringWords (s .cfg))) (refusedReply 17 s) (cond (isBadRecord s) (refusedReply 18 s) over)
     (λ h u. omega arith) (λ h. past-record s over good (λ u. omega arith))
 
 -- So a caller who starts with `open` never sees 18.

@@ -1,6 +1,6 @@
 -- The laws of the way that a submission goes: what it says of the tests, and which way it is where no test holds.
 use mathlib.Core.Path.{_≡_, refl, _∙_, ap, sym, subst}
-use mathlib.Core.Bool.{Bool, true, false, not, _&&_}
+use mathlib.Core.Bool.{Bool, true, false, not, _&&_, cond}
 use mathlib.Core.List.{List}
 use Prim.Native.Nat.{ℕ, _+_, _*_, _≤_, _<_}
 use native.Mathlib.Omega.{arith}
@@ -18,7 +18,7 @@ use Rattle.session.specs.declared.transfer.SubmitWay.the-variants.{Refus
 use Rattle.session.specs.Session.{ringWords, room, allPackets, pendingPackets, hasReason}
 use Rattle.session.specs.Record.{isBadRecord}
 use Rattle.session.specs.Scan.{isGate}
-use Rattle.session.specs.Way.{isLow, sum, isClash, isOver, entryChecks, entryRefusal, spendChecks, tooLong, spendRefusal, pickWay, submitWay}
+use Rattle.session.specs.Way.{isLow, sum, isClash, isOver, entryChecks, entryRefusal, spendChecks, tooLong, spendRefusal, submitWay}
 use Rattle.session.proofs.Laws.Sums.{room-few}
 use Rattle.session.proofs.Laws.Record.{no-reason}
 use Rattle.session.proofs.Laws.Stores.{none-long}
@@ -36,7 +36,7 @@ choose :
     → (a ≡ false → b ≡ false → c ≡ false → x ≡ false → y ≡ true → P Cut)
     → (a ≡ false → b ≡ false → c ≡ false → x ≡ false → y ≡ false → z ≡ true → P Late)
     → (a ≡ false → b ≡ false → c ≡ false → x ≡ false → y ≡ false → z ≡ false → P Accept)
-    → P (pickWay a (Refuse e) (pickWay b (TooLong i) (pickWay c (Spend p) (pickWay x Early (pickWay y Cut (pickWay z Late Accept))))))
+    → P (cond a (Refuse e) (cond b (TooLong i) (cond c (Spend p) (cond x Early (cond y Cut (cond z Late Accept))))))
 choose P e i p true b c x y z h1 h2 h3 h4 h5 h6 h7 = h1 refl
 choose P e i p false true c x y z h1 h2 h3 h4 h5 h6 h7 = h2 refl refl
 choose P e i p false false true x y z h1 h2 h3 h4 h5 h6 h7 = h3 refl refl refl
@@ -220,12 +220,12 @@ clear-if s t lengths ring h =
 
 -- past the tests and the first gate, the words and the second gate decide
 pass : (a b c x y z : Bool) (u v w : SubmitWay) → a ≡ false → b ≡ false → c ≡ false → x ≡ false
-    → pickWay a u (pickWay b v (pickWay c w (pickWay x Early (pickWay y Cut (pickWay z Late Accept))))) ≡ pickWay y Cut (pickWay z Late Accept)
+    → cond a u (cond b v (cond c w (cond x Early (cond y Cut (cond z Late Accept))))) ≡ cond y Cut (cond z Late Accept)
 pass a b c x y z u v w e f g h = rw (e, f, g, h)
 
 module _ (s : IsoChannelState) (t : IsoTransfer) (lengths ring : List ℕ) (c : Clear s t lengths ring) (gate : s .head .live ≡ false → t .«gate_program» ≡ true) where
   pub passes :
-      submitWay s t lengths ring ≡ pickWay (ltb (t .words) (2 * length lengths)) Cut (pickWay (not (s .head .live) && not (t .«gate_enable»)) Late Accept)
+      submitWay s t lengths ring ≡ cond (ltb (t .words) (2 * length lengths)) Cut (cond (not (s .head .live) && not (t .«gate_enable»)) Late Accept)
   passes =
       let e = entryRefusal s t (length lengths) (length ring) in
       let i = tooLong s lengths in
@@ -244,11 +244,11 @@ module _ (s : IsoChannelState) (t : IsoTransfer) (lengths ring : List ℕ) (c : 
   pub accepts : 2 * length lengths ≤ t .words → (s .head .live ≡ false → t .«gate_enable» ≡ true) → submitWay s t lengths ring ≡ Accept
   accepts h second =
       passes
-      ∙ ap (λ (b : Bool). pickWay b Cut (pickWay (not (s .head .live) && not (t .«gate_enable»)) Late Accept)) (le-ltb (t .words) (2 * length lengths) h)
-      ∙ ap (λ (b : Bool). pickWay b Late Accept) (given-if (s .head .live) (t .«gate_enable») second)
+      ∙ ap (λ (b : Bool). cond b Cut (cond (not (s .head .live) && not (t .«gate_enable»)) Late Accept)) (le-ltb (t .words) (2 * length lengths) h)
+      ∙ ap (λ (b : Bool). cond b Late Accept) (given-if (s .head .live) (t .«gate_enable») second)
 
   pub cuts : t .words < 2 * length lengths → submitWay s t lengths ring ≡ Cut
-  cuts h = passes ∙ ap (λ (b : Bool). pickWay b Cut (pickWay (not (s .head .live) && not (t .«gate_enable»)) Late Accept)) (lt-ltb (t .words) (2 * length lengths) h)
+  cuts h = passes ∙ ap (λ (b : Bool). cond b Cut (cond (not (s .head .live) && not (t .«gate_enable»)) Late Accept)) (lt-ltb (t .words) (2 * length lengths) h)
 
 -- what the loops of an accepted submission lean on: room for it, and lengths within 16 bits
 pub record Acceptable (s : IsoChannelState) (lengths : List ℕ) : Type 0 where

@@ -1,7 +1,7 @@
 -- A sound record stays sound when its session ends, is recovered, reset or cancelled: what the record check asks of a request is its number of packets,
 -- and none of these calls changes one.
 use mathlib.Core.Path.{_≡_, refl, _∙_, sym, ap}
-use mathlib.Core.Bool.{Bool, true, false}
+use mathlib.Core.Bool.{Bool, true, false, cond}
 use mathlib.Core.List.{List, [], _∷_, map}
 use Prim.Native.Nat.{ℕ, zero, suc, _+_, _-_, _≤_, _<_}
 use native.Mathlib.Omega.{arith}
@@ -23,7 +23,7 @@ use Rattle.session.specs.Session.{blankRequest, ringWords, packetsOf, al
 use Rattle.session.specs.Record.{isBadRecord}
 use Rattle.session.specs.Way.{sum}
 use Rattle.session.specs.End.{withOutcome, endedRequests, ended}
-use Rattle.session.specs.Poll.{reply, pickReply, refusedReply, withReason, recovered, isEmpty, atStart, resetReply}
+use Rattle.session.specs.Poll.{reply, refusedReply, withReason, recovered, isEmpty, atStart, resetReply}
 use Rattle.session.specs.Cancel.{requestAt, withCancelled, cancelled}
 use Rattle.session.proofs.Laws.Sums.{packets-past}
 use Rattle.session.proofs.Laws.Record.{Sound, GoodRequest, renewed-sound}
@@ -163,19 +163,19 @@ reason-sound r s g h =
 
 -- ---- the calls, whatever they answer
 
-pub picked : (b : Bool) (x y : IsoReply) → (b ≡ true → Sound (x .session)) → (b ≡ false → Sound (y .session)) → Sound (pickReply b x y .session)
-picked = chosen pickReply (λ (x : IsoReply). Sound (x .session))
+pub picked : (b : Bool) (x y : IsoReply) → (b ≡ true → Sound (x .session)) → (b ≡ false → Sound (y .session)) → Sound (cond b x y .session)
+picked = chosen (λ (x : IsoReply). Sound (x .session))
 
 pub recovered-sound : (s : IsoChannelState) (words : ℕ) → Sound s → Sound (recovered s words .session)
 recovered-sound s words g =
     let over = reply answer.Done false false (ended outcome.Disconnected s) in
-    picked (ltb words (ringWords (s .cfg))) (refusedReply 17 s) (pickReply (isBadRecord s) (refusedReply 18 s) over) (λ e. g)
+    picked (ltb words (ringWords (s .cfg))) (refusedReply 17 s) (cond (isBadRecord s) (refusedReply 18 s) over) (λ e. g)
     (λ e. picked (isBadRecord s) (refusedReply 18 s) over (λ b. g) (λ b. ended-sound outcome.Disconnected s g))
 
 pub reset-reply-sound : (s : IsoChannelState) → Sound s → Sound (resetReply s .session)
 reset-reply-sound s g =
     let empty = reply answer.Done false false (atStart s) in
-    picked (isBadRecord s) (refusedReply 18 s) (pickReply (isEmpty s) empty (refusedReply 16 s)) (λ b. g)
+    picked (isBadRecord s) (refusedReply 18 s) (cond (isEmpty s) empty (refusedReply 16 s)) (λ b. g)
     (λ b. picked (isEmpty s) empty (refusedReply 16 s) (λ e. reset-sound s g) (λ e. g))
 
 pub cancelled-sound : (s : IsoChannelState) (id : ℕ) → Sound s → Sound (cancelled s id .session)
@@ -184,9 +184,9 @@ cancelled-sound s id g =
     let amended-reply = reply answer.Done false false (withCancelled at s) in
     let stands = reply answer.Done false false s in
     let halting = reply answer.Done false true (withReason reason.Cancelled s) in
-    let pending = pickReply (hasReason (s .fatal)) stands halting in
-    let known = pickReply (ltb at (s .head .count)) pending (refusedReply 15 s) in
-    picked (isBadRecord s) (refusedReply 18 s) (pickReply (ltb at (s .head .done)) amended-reply known) (λ b. g)
+    let pending = cond (hasReason (s .fatal)) stands halting in
+    let known = cond (ltb at (s .head .count)) pending (refusedReply 15 s) in
+    picked (isBadRecord s) (refusedReply 18 s) (cond (ltb at (s .head .done)) amended-reply known) (λ b. g)
     (λ b. picked (ltb at (s .head .done)) amended-reply known (λ e. amended-sound at s g)
     (λ e. picked (ltb at (s .head .count)) pending (refusedReply 15 s)
     (λ u. picked (hasReason (s .fatal)) stands halting (λ f. g)

@@ -1,6 +1,6 @@
 -- Laws of reclaiming: where the plans of a request lie, the results that it hands out, and the session that is left without it.
 use mathlib.Core.Path.{_≡_, sym, ap, _∙_}
-use mathlib.Core.Bool.{Bool, true, false}
+use mathlib.Core.Bool.{Bool, true, false, cond}
 use mathlib.Core.List.{List, map}
 use Prim.Native.Nat.{ℕ, _+_, _≤_, _<_}
 use native.Mathlib.Omega.{arith}
@@ -10,7 +10,6 @@ use Rattle.session.specs.declared.types.IsoPacketPlan.{IsoPacketPlan}
 use Rattle.session.specs.declared.types.IsoRequest.{IsoRequest}
 use Rattle.session.specs.declared.types.IsoChannelState.{IsoChannelState}
 use Rattle.session.specs.Session.{allPackets}
-use Rattle.session.specs.Poll.{pickWords}
 use Rattle.session.specs.Reclaim.{isDone, resultWord, requestOf, plansBegin, plansEnd, closedUp, oneLess, removed, handedResults}
 use Rattle.session.proofs.Laws.Sums.{packets-next, packets-split}
 use Rattle.session.proofs.Laws.Record.{Sound}
@@ -46,8 +45,8 @@ module _ (at : ℕ) (s : IsoChannelState) (from to : ℕ) (ef : from ≡ plansBe
       en
       ∙ ap (λ (f : ℕ). sets results 0 (map resultWord (slice f to (s .plans)))) ef
       ∙ ap (λ (t : ℕ). sets results 0 (map resultWord (slice (plansBegin at s) t (s .plans)))) et
-      ∙ sym (ap (λ (b : Bool). pickWords b (sets results 0 (map resultWord (slice (plansBegin at s) (plansEnd at s) (s .plans)))) results) e)
+      ∙ sym (ap (λ (b : Bool). cond b (sets results 0 (map resultWord (slice (plansBegin at s) (plansEnd at s) (s .plans)))) results) e)
 
 pub none-handed : (at : ℕ) (s : IsoChannelState) (results : List ℕ) → isDone (requestOf at s .outcome) ≡ false → results ≡ handedResults at s results
 none-handed at s results e =
-    sym (ap (λ (b : Bool). pickWords b (sets results 0 (map resultWord (slice (plansBegin at s) (plansEnd at s) (s .plans)))) results) e)
+    sym (ap (λ (b : Bool). cond b (sets results 0 (map resultWord (slice (plansBegin at s) (plansEnd at s) (s .plans)))) results) e)

@@ -1,6 +1,6 @@
 -- A sound record stays sound through a poll, whatever it does.
 use mathlib.Core.Path.{_≡_, refl, ap, subst⁻¹}
-use mathlib.Core.Bool.{Bool, true, false, not, _||_}
+use mathlib.Core.Bool.{Bool, true, false, not, _||_, cond}
 use mathlib.Core.List.{List}
 use Prim.Native.Nat.{ℕ}
 use native.Mathlib.Omega.{arith}
@@ -12,7 +12,7 @@ use Rattle.session.specs.declared.reply.IsoEvent.{IsoEvent}
 use Rattle.session.specs.declared.reply.PollWay.{PollWay}
 use Rattle.session.specs.declared.reply.PollWay.the-variants.{Nothing, End, Halt, Wait, Settle}
 use Rattle.words.specs.Words.{hcintFault}
-use Rattle.session.specs.Poll.{pickPoll, wayByFault, withReason, pollWay, polledBy}
+use Rattle.session.specs.Poll.{wayByFault, withReason, pollWay, polledBy}
 use Rattle.session.proofs.Laws.Record.{Sound, renewed-sound}
 use Rattle.session.proofs.Laws.Ended.{ended-sound}
 use Rattle.session.proofs.Laws.Settled.{drained-sound}
@@ -39,9 +39,9 @@ pub polled-sound : (s : IsoChannelState) (e : IsoEvent) (ring : List ℕ) → So
 polled-sound s e ring g = go (s .head .live) refl
   where
     rest : PollWay
-    rest = pickPoll (e .unplugged) (End outcome.Disconnected) (wayByFault (hcintFault (e .hcint)) (s .fatal) (e .hcint))
+    rest = cond (e .unplugged) (End outcome.Disconnected) (wayByFault (hcintFault (e .hcint)) (s .fatal) (e .hcint))
 
     go : (live : Bool) → s .head .live ≡ live → Sound (polledBy (pollWay s e) s ring .session)
     go true on = live-sound (pollWay s e) s ring g on
     go false off =
-        subst⁻¹ (λ (way : PollWay). Sound (polledBy way s ring .session)) (ap (λ (live : Bool). pickPoll (not live || not (e .reported)) Nothing rest) off) g
+        subst⁻¹ (λ (way : PollWay). Sound (polledBy way s ring .session)) (ap (λ (live : Bool). cond (not live || not (e .reported)) Nothing rest) off) g

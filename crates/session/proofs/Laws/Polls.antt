@@ -1,7 +1,7 @@
 -- The laws of a poll: each way out of the code that decides, from the tests before it, and what a poll leaves by its way.
 use mathlib.Core.Path.{_≡_, sym, _∙_, ap}
 use mathlib.Core.List.{List}
-use mathlib.Core.Bool.{Bool, true, false}
+use mathlib.Core.Bool.{Bool, true, false, cond}
 use Prim.Native.Nat.{ℕ}
 use lib.Dec.{ltb}
 use lib.ListN.{length}
@@ -22,7 +22,7 @@ use Rattle.session.specs.declared.reply.PollWay.{PollWay}
 use Rattle.session.specs.declared.reply.PollWay.the-variants.{End, Halt, Wait, Settle}
 use Rattle.session.specs.Session.{ringWords}
 use Rattle.session.specs.Record.{isBadRecord}
-use Rattle.session.specs.Poll.{outcomeOf, pickPoll, wayByReason, wayByFault, pollWay, polledBy, polledRingBy, pickReply, refusedReply, pickWords, polled, polledRing}
+use Rattle.session.specs.Poll.{outcomeOf, wayByReason, wayByFault, pollWay, polledBy, polledRingBy, refusedReply, polled, polledRing}
 
 pub unexpected : {f : IsoFatal} {b : Bool} (word : ℕ) → f ≡ fatal.Nothing → b ≡ isSet halted word → b ≡ true → End (outcome.UnexpectedHalt word) ≡ wayByReason f word
 unexpected word e p t = let h : isSet halted word ≡ true = sym p ∙ t in rw (e, h)
@@ -46,13 +46,13 @@ pub no-fault : {g : HcintFault} {w : PollWay} (f : IsoFatal) (word : ℕ) → g 
 no-fault f word e p = rw e p
 
 -- the way by two tests and the rest
-pub first-way : {a : Bool} (b : Bool) (x y z : PollWay) → a ≡ true → x ≡ pickPoll a x (pickPoll b y z)
+pub first-way : {a : Bool} (b : Bool) (x y z : PollWay) → a ≡ true → x ≡ cond a x (cond b y z)
 first-way b x y z e = rw e
 
-pub second-way : {a b : Bool} (x y z : PollWay) → a ≡ false → b ≡ true → y ≡ pickPoll a x (pickPoll b y z)
+pub second-way : {a b : Bool} (x y z : PollWay) → a ≡ false → b ≡ true → y ≡ cond a x (cond b y z)
 second-way x y z e f = rw (e, f)
 
-pub third-way : {a b : Bool} {w : PollWay} (x y z : PollWay) → a ≡ false → b ≡ false → w ≡ z → w ≡ pickPoll a x (pickPoll b y z)
+pub third-way : {a b : Bool} {w : PollWay} (x y z : PollWay) → a ≡ false → b ≡ false → w ≡ z → w ≡ cond a x (cond b y z)
 third-way x y z e f p = rw (e, f) p
 
 -- what a poll leaves follows from its way
@@ -70,8 +70,8 @@ by-way s e ring P same by = tests (ltb (length ring) (ringWords (s .cfg))) (isBa
   where
     tests :
         (a b : Bool)
-        → P (pickReply a (refusedReply 17 s) (pickReply b (refusedReply 18 s) (polledBy (pollWay s e) s ring)) .session)
-        (pickWords a ring (pickWords b ring (polledRingBy (pollWay s e) s ring)))
+        → P (cond a (refusedReply 17 s) (cond b (refusedReply 18 s) (polledBy (pollWay s e) s ring)) .session)
+        (cond a ring (cond b ring (polledRingBy (pollWay s e) s ring)))
     tests true b = same
     tests false true = same
     tests false false = by

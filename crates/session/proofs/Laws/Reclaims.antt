@@ -1,6 +1,6 @@
 -- Reclaiming: what looking, looking again and the whole call answer at each exit; and that a sound record stays sound through the call.
 use mathlib.Core.Path.{_≡_, _∙_, sym, ap, subst}
-use mathlib.Core.Bool.{Bool, true, false}
+use mathlib.Core.Bool.{Bool, true, false, cond}
 use mathlib.Core.List.{List}
 use Prim.Native.Nat.{ℕ, _≤_, _<_}
 use lib.Dec.{ltb}
@@ -15,9 +15,9 @@ use Rattle.session.specs.declared.reply.ReclaimAnswer.{ReclaimAnswer}
 use Rattle.session.specs.declared.reply.ReclaimAnswer.the-variants as reclaim
 use Rattle.session.specs.declared.reply.Reclaimed.{Reclaimed}
 use Rattle.session.specs.Record.{isBadRecord}
-use Rattle.session.specs.Poll.{reply, pickReply, pickWords, pollWay, polledBy, polledRingBy}
+use Rattle.session.specs.Poll.{reply, pollWay, polledBy, polledRingBy}
 use Rattle.session.specs.Cancel.{requestAt}
-use Rattle.session.specs.Reclaim.{isFound, looked, lookedRing, requestOf, removed, handedAnswer, handedResults, reclaimReply, pickReclaimed, pickAnswer, lookedAgain, lookedResults, isShort, reclaimed, reclaimedRing, reclaimedResults}
+use Rattle.session.specs.Reclaim.{isFound, looked, lookedRing, requestOf, removed, handedAnswer, handedResults, reclaimReply, lookedAgain, lookedResults, isShort, reclaimed, reclaimedRing, reclaimedResults}
 use Rattle.session.proofs.Laws.Ended.{picked}
 use Rattle.session.proofs.Laws.Polled.{polled-sound}
 use Rattle.session.proofs.Laws.Polls.{polled-by, polled-ring-by}
@@ -42,16 +42,16 @@ module _ (id : ℕ) (s : IsoChannelState) {at : ℕ} (place : at ≡ requestAt i
       (e : IsoEvent) (ring : List ℕ) {r : IsoReply} → at < s .head .done → r ≡ stands → (r ≡ looked id e s ring) × (ring ≡ lookedRing id e s ring)
   looked-found e ring h p =
       let way = pollWay s e in (
-        p ∙ sym (first pickReply (isFound id s) stands (polledBy way s ring) (found h)),
-        sym (first pickWords (isFound id s) ring (polledRingBy way s ring) (found h)),
+        p ∙ sym (first (isFound id s) stands (polledBy way s ring) (found h)),
+        sym (first (isFound id s) ring (polledRingBy way s ring) (found h)),
       )
 
   pub looked-polled :
       (e : IsoEvent) (ring : List ℕ) {w : PollWay} {r : IsoReply} {words : List ℕ} → s .head .done ≤ at → w ≡ pollWay s e
       → r ≡ polledBy w s ring → words ≡ polledRingBy w s ring → (r ≡ looked id e s ring) × (words ≡ lookedRing id e s ring)
   looked-polled e ring h by p q = (
-    polled-by s ring (sym by) p ∙ sym (second pickReply (isFound id s) stands (polledBy (pollWay s e) s ring) (not-found h)),
-    polled-ring-by s ring (sym by) q ∙ sym (second pickWords (isFound id s) ring (polledRingBy (pollWay s e) s ring) (not-found h)),
+    polled-by s ring (sym by) p ∙ sym (second (isFound id s) stands (polledBy (pollWay s e) s ring) (not-found h)),
+    polled-ring-by s ring (sym by) q ∙ sym (second (isFound id s) ring (polledRingBy (pollWay s e) s ring) (not-found h)),
   )
 
   -- ---- looking again
@@ -77,16 +77,16 @@ module _ (id : ℕ) (s : IsoChannelState) {at : ℕ} (place : at ≡ requestAt i
       p
           ∙ ap (λ (x : ReclaimAnswer). reclaimReply x taken halt t) (f ∙ ap (λ (n : ℕ). handedAnswer (requestOf n s)) place)
           ∙ ap (reclaimReply (handedAnswer (requestOf (requestAt id s) s)) taken halt) (g ∙ ap (λ (n : ℕ). removed n s) place)
-          ∙ sym (first pickReclaimed (isFound id s) out (stays (pickAnswer within reclaim.NotYet (reclaim.Refused 15))) (found h)),
-      q ∙ ap (λ (n : ℕ). handedResults n s results) place ∙ sym (first pickWords (isFound id s) handed results (found h)),
+          ∙ sym (first (isFound id s) out (stays (cond within reclaim.NotYet (reclaim.Refused 15))) (found h)),
+      q ∙ ap (λ (n : ℕ). handedResults n s results) place ∙ sym (first (isFound id s) handed results (found h)),
     )
 
     again-left :
-        {r : Reclaimed} (a : ReclaimAnswer) → s .head .done ≤ at → pickAnswer within reclaim.NotYet (reclaim.Refused 15) ≡ a → r ≡ stays a
+        {r : Reclaimed} (a : ReclaimAnswer) → s .head .done ≤ at → cond within reclaim.NotYet (reclaim.Refused 15) ≡ a → r ≡ stays a
         → (r ≡ lookedAgain id taken halt s) × (results ≡ lookedResults id s results)
     again-left a h e p = (
-      p ∙ ap stays (sym e) ∙ sym (second pickReclaimed (isFound id s) out (stays (pickAnswer within reclaim.NotYet (reclaim.Refused 15))) (not-found h)),
-      sym (second pickWords (isFound id s) handed results (not-found h)),
+      p ∙ ap stays (sym e) ∙ sym (second (isFound id s) out (stays (cond within reclaim.NotYet (reclaim.Refused 15))) (not-found h)),
+      sym (second (isFound id s) handed results (not-found h)),
     )
 
     pub again-pending :
@@ -94,14 +94,14 @@ module _ (id : ℕ) (s : IsoChannelState) {at : ℕ} (place : at ≡ requestAt i
         → (r ≡ lookedAgain id taken halt s) × (results ≡ lookedResults id s results)
     again-pending h k p =
         let known : within ≡ true = lt-ltb (requestAt id s) (s .head .count) (subst (λ (n : ℕ). n < s .head .count) place k) in
-        again-left reclaim.NotYet h (first pickAnswer within reclaim.NotYet (reclaim.Refused 15) known) p
+        again-left reclaim.NotYet h (first within reclaim.NotYet (reclaim.Refused 15) known) p
 
     pub again-unknown :
         {r : Reclaimed} → s .head .done ≤ at → s .head .count ≤ at → r ≡ stays (reclaim.Refused 15)
         → (r ≡ lookedAgain id taken halt s) × (results ≡ lookedResults id s results)
     again-unknown h k p =
         let unknown : within ≡ false = le-ltb (requestAt id s) (s .head .count) (subst (λ (n : ℕ). s .head .count ≤ n) place k) in
-        again-left (reclaim.Refused 15) h (second pickAnswer within reclaim.NotYet (reclaim.Refused 15) unknown) p
+        again-left (reclaim.Refused 15) h (second within reclaim.NotYet (reclaim.Refused 15) unknown) p
 
 -- ---- the whole call
 
@@ -127,16 +127,16 @@ module _ (s : IsoChannelState) (id : ℕ) (e : IsoEvent) (ring results : List �
 
   pub reclaim-short : {r : Reclaimed} → short ≡ true → r ≡ refusal 17 → Told r ring results
   reclaim-short h p = (
-    p ∙ sym (first pickReclaimed short (refusal 17) (pickReclaimed (isBadRecord s) (refusal 18) again) h),
-    sym (first pickWords short ring (pickWords (isBadRecord s) ring (lookedRing id e s ring)) h),
-    sym (first pickWords short results (pickWords (isBadRecord s) results after-again) h),
+    p ∙ sym (first short (refusal 17) (cond (isBadRecord s) (refusal 18) again) h),
+    sym (first short ring (cond (isBadRecord s) ring (lookedRing id e s ring)) h),
+    sym (first short results (cond (isBadRecord s) results after-again) h),
   )
 
   pub reclaim-bad : {r : Reclaimed} → short ≡ false → isBadRecord s ≡ true → r ≡ refusal 18 → Told r ring results
   reclaim-bad h b p = (
-    p ∙ sym (in-turn pickReclaimed (refusal 17) (refusal 18) again h b),
-    sym (in-turn pickWords ring ring (lookedRing id e s ring) h b),
-    sym (in-turn pickWords results results after-again h b),
+    p ∙ sym (in-turn (refusal 17) (refusal 18) again h b),
+    sym (in-turn ring ring (lookedRing id e s ring) h b),
+    sym (in-turn results results after-again h b),
   )
 
   pub reclaim-done :
@@ -146,9 +146,9 @@ module _ (s : IsoChannelState) (id : ℕ) (e : IsoEvent) (ring results : List �
   reclaim-done h b l p q u = (
     p
         ∙ ap (λ (x : IsoReply). lookedAgain id (x .taken) (x .halt) (x .session)) l
-        ∙ sym (in-turn pickReclaimed (refusal 17) (refusal 18) again h b),
-    q ∙ sym (in-turn pickWords ring ring (lookedRing id e s ring) h b),
-    u ∙ ap (λ (x : IsoReply). lookedResults id (x .session) results) l ∙ sym (in-turn pickWords results results after-again h b),
+        ∙ sym (in-turn (refusal 17) (refusal 18) again h b),
+    q ∙ sym (in-turn ring ring (lookedRing id e s ring) h b),
+    u ∙ ap (λ (x : IsoReply). lookedResults id (x .session) results) l ∙ sym (in-turn results results after-again h b),
   )
 
 -- ---- a sound record stays sound
@@ -157,14 +157,14 @@ pub looked-sound : (id : ℕ) (e : IsoEvent) (s : IsoChannelState) (ring : List 
 looked-sound id e s ring g =
     picked (isFound id s) (reply answer.Done false false s) (polledBy (pollWay s e) s ring) (λ f. g) (λ f. polled-sound s e ring g)
 
-picked-sound : (b : Bool) (x y : Reclaimed) → (b ≡ true → Sound (x .session)) → (b ≡ false → Sound (y .session)) → Sound (pickReclaimed b x y .session)
-picked-sound = chosen pickReclaimed (λ (x : Reclaimed). Sound (x .session))
+picked-sound : (b : Bool) (x y : Reclaimed) → (b ≡ true → Sound (x .session)) → (b ≡ false → Sound (y .session)) → Sound (cond b x y .session)
+picked-sound = chosen (λ (x : Reclaimed). Sound (x .session))
 
 pub again-sound : (id : ℕ) (taken halt : Bool) (s : IsoChannelState) → Sound s → Sound (lookedAgain id taken halt s .session)
 again-sound id taken halt s g =
     let at : ℕ = requestAt id s in
     picked-sound (isFound id s) (reclaimReply (handedAnswer (requestOf at s)) taken halt (removed at s))
-    (reclaimReply (pickAnswer (ltb at (s .head .count)) reclaim.NotYet (reclaim.Refused 15)) taken halt s)
+    (reclaimReply (cond (ltb at (s .head .count)) reclaim.NotYet (reclaim.Refused 15)) taken halt s)
     (λ f. removed-sound at s g (ltb-true at (s .head .done) f)) (λ f. g)
 
 pub reclaimed-sound :
@@ -173,5 +173,5 @@ reclaimed-sound s id e ring results g =
     let l = looked id e s ring in
     let again = lookedAgain id (l .taken) (l .halt) (l .session) in
     let bad = reclaimReply (reclaim.Refused 18) false false s in
-    picked-sound (isShort s (length ring) results) (reclaimReply (reclaim.Refused 17) false false s) (pickReclaimed (isBadRecord s) bad again) (λ h. g)
+    picked-sound (isShort s (length ring) results) (reclaimReply (reclaim.Refused 17) false false s) (cond (isBadRecord s) bad again) (λ h. g)
     (λ h. picked-sound (isBadRecord s) bad again (λ b. g) (λ b. again-sound id (l .taken) (l .halt) (l .session) (looked-sound id e s ring g)))

@@ -14,7 +14,7 @@ use Rattle.session.specs.declared.reply.IsoAnswer.the-variants as answer
 use Rattle.session.specs.declared.reply.IsoReply.{IsoReply}
 use Rattle.session.specs.Session.{blankRequest, ringWords, hasReason}
 use Rattle.session.specs.Record.{isBadRecord}
-use Rattle.session.specs.Poll.{reply, pickReply, refusedReply, pickWords, withReason, isEmpty, atStart, resetReply}
+use Rattle.session.specs.Poll.{reply, refusedReply, withReason, isEmpty, atStart, resetReply}
 use Rattle.session.specs.Cancel.{placeOf, requestAt, withCancelled, cancelled}
 use Rattle.session.proofs.Laws.Lists.{slice-next, slice-past}
 use Rattle.session.proofs.Laws.Tests.{first, second, in-turn}
@@ -25,21 +25,21 @@ module _ (s : IsoChannelState) (ring : List ℕ) (r : IsoReply) (words : List �
   short = ltb (length ring) (ringWords (s .cfg))
 
   abbrev inner : IsoReply
-  inner = pickReply (isBadRecord s) (refusedReply 18 s) r
+  inner = cond (isBadRecord s) (refusedReply 18 s) r
 
   abbrev inner-words : List ℕ
-  inner-words = pickWords (isBadRecord s) ring words
+  inner-words = cond (isBadRecord s) ring words
 
-  pub lent-short : short ≡ true → (pickReply short (refusedReply 17 s) inner ≡ refusedReply 17 s) × (pickWords short ring inner-words ≡ ring)
-  lent-short e = (first pickReply short (refusedReply 17 s) inner e, first pickWords short ring inner-words e)
+  pub lent-short : short ≡ true → (cond short (refusedReply 17 s) inner ≡ refusedReply 17 s) × (cond short ring inner-words ≡ ring)
+  lent-short e = (first short (refusedReply 17 s) inner e, first short ring inner-words e)
 
   pub lent-bad :
-      short ≡ false → isBadRecord s ≡ true → (pickReply short (refusedReply 17 s) inner ≡ refusedReply 18 s) × (pickWords short ring inner-words ≡ ring)
-  lent-bad e b = (in-turn pickReply (refusedReply 17 s) (refusedReply 18 s) r e b, in-turn pickWords ring ring words e b)
+      short ≡ false → isBadRecord s ≡ true → (cond short (refusedReply 17 s) inner ≡ refusedReply 18 s) × (cond short ring inner-words ≡ ring)
+  lent-bad e b = (in-turn (refusedReply 17 s) (refusedReply 18 s) r e b, in-turn ring ring words e b)
 
   pub lent-done :
-      short ≡ false → isBadRecord s ≡ false → (pickReply short (refusedReply 17 s) inner ≡ r) × (pickWords short ring inner-words ≡ words)
-  lent-done e b = (in-turn pickReply (refusedReply 17 s) (refusedReply 18 s) r e b, in-turn pickWords ring ring words e b)
+      short ≡ false → isBadRecord s ≡ false → (cond short (refusedReply 17 s) inner ≡ r) × (cond short ring inner-words ≡ words)
+  lent-done e b = (in-turn (refusedReply 17 s) (refusedReply 18 s) r e b, in-turn ring ring words e b)
 
 -- reset
 module _ (s : IsoChannelState) where
@@ -47,17 +47,17 @@ module _ (s : IsoChannelState) where
   emptied = reply answer.Done false false (atStart s)
 
   pub reset-bad : isBadRecord s ≡ true → resetReply s ≡ refusedReply 18 s
-  reset-bad b = first pickReply (isBadRecord s) (refusedReply 18 s) (pickReply (isEmpty s) emptied (refusedReply 16 s)) b
+  reset-bad b = first (isBadRecord s) (refusedReply 18 s) (cond (isEmpty s) emptied (refusedReply 16 s)) b
 
   pub reset-full : isBadRecord s ≡ false → isEmpty s ≡ false → resetReply s ≡ refusedReply 16 s
   reset-full b e =
-      second pickReply (isBadRecord s) (refusedReply 18 s) (pickReply (isEmpty s) emptied (refusedReply 16 s)) b
-      ∙ second pickReply (isEmpty s) emptied (refusedReply 16 s) e
+      second (isBadRecord s) (refusedReply 18 s) (cond (isEmpty s) emptied (refusedReply 16 s)) b
+      ∙ second (isEmpty s) emptied (refusedReply 16 s) e
 
   pub reset-done : isBadRecord s ≡ false → isEmpty s ≡ true → resetReply s ≡ emptied
   reset-done b e =
-      second pickReply (isBadRecord s) (refusedReply 18 s) (pickReply (isEmpty s) emptied (refusedReply 16 s)) b
-      ∙ first pickReply (isEmpty s) emptied (refusedReply 16 s) e
+      second (isBadRecord s) (refusedReply 18 s) (cond (isEmpty s) emptied (refusedReply 16 s)) b
+      ∙ first (isEmpty s) emptied (refusedReply 16 s) e
 
 -- cancelling
 module _ (s : IsoChannelState) (id : ℕ) where
@@ -77,31 +77,31 @@ module _ (s : IsoChannelState) (id : ℕ) where
   is-in = ltb (requestAt id s) (s .head .count)
 
   abbrev pending : IsoReply
-  pending = pickReply (hasReason (s .fatal)) stands halting
+  pending = cond (hasReason (s .fatal)) stands halting
 
   abbrev known : IsoReply
-  known = pickReply is-in pending (refusedReply 15 s)
+  known = cond is-in pending (refusedReply 15 s)
 
   pub cancel-bad : isBadRecord s ≡ true → cancelled s id ≡ refusedReply 18 s
-  cancel-bad b = first pickReply (isBadRecord s) (refusedReply 18 s) (pickReply is-done amended known) b
+  cancel-bad b = first (isBadRecord s) (refusedReply 18 s) (cond is-done amended known) b
 
-  past-record : isBadRecord s ≡ false → cancelled s id ≡ pickReply is-done amended known
-  past-record b = second pickReply (isBadRecord s) (refusedReply 18 s) (pickReply is-done amended known) b
+  past-record : isBadRecord s ≡ false → cancelled s id ≡ cond is-done amended known
+  past-record b = second (isBadRecord s) (refusedReply 18 s) (cond is-done amended known) b
 
   pub cancel-completed : isBadRecord s ≡ false → is-done ≡ true → cancelled s id ≡ amended
-  cancel-completed b e = past-record b ∙ first pickReply is-done amended known e
+  cancel-completed b e = past-record b ∙ first is-done amended known e
 
   past-done : isBadRecord s ≡ false → is-done ≡ false → cancelled s id ≡ known
-  past-done b e = past-record b ∙ second pickReply is-done amended known e
+  past-done b e = past-record b ∙ second is-done amended known e
 
   pub cancel-unknown : isBadRecord s ≡ false → is-done ≡ false → is-in ≡ false → cancelled s id ≡ refusedReply 15 s
-  cancel-unknown b e u = past-done b e ∙ second pickReply is-in pending (refusedReply 15 s) u
+  cancel-unknown b e u = past-done b e ∙ second is-in pending (refusedReply 15 s) u
 
   pub cancel-again : isBadRecord s ≡ false → is-done ≡ false → is-in ≡ true → hasReason (s .fatal) ≡ true → cancelled s id ≡ stands
-  cancel-again b e u f = past-done b e ∙ first pickReply is-in pending (refusedReply 15 s) u ∙ first pickReply (hasReason (s .fatal)) stands halting f
+  cancel-again b e u f = past-done b e ∙ first is-in pending (refusedReply 15 s) u ∙ first (hasReason (s .fatal)) stands halting f
 
   pub cancel-halt : isBadRecord s ≡ false → is-done ≡ false → is-in ≡ true → hasReason (s .fatal) ≡ false → cancelled s id ≡ halting
-  cancel-halt b e u f = past-done b e ∙ first pickReply is-in pending (refusedReply 15 s) u ∙ second pickReply (hasReason (s .fatal)) stands halting f
+  cancel-halt b e u f = past-done b e ∙ first is-in pending (refusedReply 15 s) u ∙ second (hasReason (s .fatal)) stands halting f
 
 -- the walk for a number: it ends at the request that has it, goes on past another, and counts none where nothing is left
 module _ (id i t : ℕ) (l : List IsoRequest) where

@@ -1,6 +1,6 @@
 -- Laws of settling: what each loop does in one turn, and that a sound record stays sound when its oldest request is settled.
 use mathlib.Core.Path.{_≡_, refl, sym, ap, _∙_, subst⁻¹}
-use mathlib.Core.Bool.{Bool, true, false, _||_}
+use mathlib.Core.Bool.{Bool, true, false, _||_, cond}
 use mathlib.Core.List.{List, map}
 use Prim.Native.Nat.{ℕ, zero, suc, _+_, _-_, _*_, _≤_, _<_}
 use native.Mathlib.Omega.{arith}
@@ -17,7 +17,7 @@ use Rattle.session.specs.declared.types.IsoRequest.{IsoRequest}
 use Rattle.session.specs.declared.types.IsoOutcome.the-variants.{Done}
 use Rattle.session.specs.declared.types.IsoChannelState.{IsoChannelState}
 use Rattle.session.specs.Session.{blankRequest, blankPlan, slots, packetsOf, allPackets, pendingPackets}
-use Rattle.session.specs.Settle.{settledPlan, oldest, oldestFrom, oldestTo, oldestPlans, settledPlans, movedTotal, settledRequest, oneMore, settledSession, slotsCleared, settledRing, isServed, pickDrained, drain, drained}
+use Rattle.session.specs.Settle.{settledPlan, oldest, oldestFrom, oldestTo, oldestPlans, settledPlans, movedTotal, settledRequest, oneMore, settledSession, slotsCleared, settledRing, isServed, drain, drained}
 use Rattle.session.proofs.Laws.Lists.{slice-next, slice-past, slice-after-set, slice-sets, getD-slice, getD-sets-before, getD-sets-in, getD-sets-after, getD-map-in}
 use Rattle.session.proofs.Laws.Sums.{packets-next, packets-split}
 use Rattle.session.proofs.Laws.Record.{Sound, GoodRequest, GoodPlan}
@@ -207,7 +207,7 @@ drain-sound zero bit s ring g h = g
 drain-sound (suc k) bit s ring g h =
     picked (bit || isServed s ring) (drain-sound k false (settledSession s ring) (settledRing s ring) (settled-sound s ring g (omega arith)) (omega arith))
   where
-    picked : (b : Bool) → Sound (drain k false (settledSession s ring) (settledRing s ring) .session) → Sound (pickDrained b (drain k false (settledSession s ring) (settledRing s ring)) (record { session = s; ring = ring }) .session)
+    picked : (b : Bool) → Sound (drain k false (settledSession s ring) (settledRing s ring) .session) → Sound (cond b (drain k false (settledSession s ring) (settledRing s ring)) (record { session = s; ring = ring }) .session)
     picked true n = n
     picked false n = g
 
@@ -226,10 +226,10 @@ module _ (bit : Bool) (s : IsoChannelState) (ring : List ℕ) where
     left = omega arith
 
     turn : (b : Bool) → (bit || isServed s ring) ≡ b
-        → drained bit s ring ≡ pickDrained b (drained false (settledSession s ring) (settledRing s ring)) (record { session = s; ring = ring })
+        → drained bit s ring ≡ cond b (drained false (settledSession s ring) (settledRing s ring)) (record { session = s; ring = ring })
     turn b e =
         ap (λ (k : ℕ). drain k bit s ring) left
-        ∙ ap (λ (x : Bool). pickDrained x (drained false (settledSession s ring) (settledRing s ring)) (record { session = s; ring = ring })) e
+        ∙ ap (λ (x : Bool). cond x (drained false (settledSession s ring) (settledRing s ring)) (record { session = s; ring = ring })) e
 
     pub drained-stop : (bit || isServed s ring) ≡ false → drained bit s ring ≡ record { session = s; ring = ring }
     drained-stop e = turn false e

@@ -13,7 +13,7 @@ use Rattle.session.specs.declared.transfer.SubmitWay.the-variants.{Refus
 use Rattle.session.specs.declared.transfer.Submitted.{Submitted}
 use Rattle.session.specs.declared.transfer.IsoTransfer.{IsoTransfer}
 use Rattle.session.specs.declared.types.IsoChannelState.{IsoChannelState}
-use Rattle.session.specs.Way.{_⇒_, entryNumber, spendNumber, pickWay, submitWay}
+use Rattle.session.specs.Way.{_⇒_, entryNumber, spendNumber, submitWay}
 use Rattle.session.specs.Submit.{submittedBy, submitted, ringAfter, submittedRing}
 use Rattle.session.proofs.Laws.Checks.{_and_, none-holds}
 
@@ -59,7 +59,7 @@ spend-equal channel s l c = rw (s, l, c)
 -- the way by the first refusal, the first long packet, the second refusal and the gates
 abbrev pub wayOf : ℕ → ℕ → ℕ → ℕ → SubmitWay → SubmitWay
 wayOf entry long n spend gate =
-    pickWay (not (eqb entry 0)) (Refuse entry) (pickWay (ltb long n) (TooLong long) (pickWay (not (eqb spend 0)) (Spend spend) gate))
+    cond (not (eqb entry 0)) (Refuse entry) (cond (ltb long n) (TooLong long) (cond (not (eqb spend 0)) (Spend spend) gate))
 
 pub refuse-way : (r entry long n spend : ℕ) (gate : SubmitWay) → r ≡ entry → (r ≡ 0 → ⊥) → Refuse r ≡ wayOf entry long n spend gate
 refuse-way r entry long n spend gate e h = let f : eqb entry 0 ≡ false = ne-eqb entry 0 (λ z. h (e ∙ z)) in rw (f, e)
