@@ -19,12 +19,17 @@ mod types;
 mod way;
 
 pub use open::Opened;
+pub use open::ring_words;
+pub use reclaim::handed_answer;
+pub use reclaim::is_done;
+pub use reclaim::result_word;
 pub use reply::IsoAnswer;
 pub use reply::IsoEvent;
 pub use reply::IsoReply;
 pub use reply::PollWay;
 pub use reply::ReclaimAnswer;
 pub use reply::Reclaimed;
+pub use settle::settled_plan;
 pub use transfer::IsoChannelStart;
 pub use transfer::IsoTransfer;
 pub use transfer::SubmitAnswer;

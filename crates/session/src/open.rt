@@ -47,7 +47,7 @@ impl IsoChannelState {
 }
 
 // Two words a slot.
-pub(crate) fn ring_words(cfg: IsoConfig) -> usize
+pub fn ring_words(cfg: IsoConfig) -> usize
     ensures { λ r. ⌜ (r ≡ ringWords cfg) × (r ≤ 512) ⌝ }
 {
     let speed = cfg.speed;
