@@ -11,5 +11,7 @@ pub mod Planning
 pub mod Requests
 pub mod Runs
 pub mod Saved
+pub mod Settling
 pub mod Tables
 pub mod Tags
+pub mod Walks
