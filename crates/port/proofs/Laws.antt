@@ -11,6 +11,7 @@ pub mod Planning
 pub mod Requests
 pub mod Runs
 pub mod Saved
+pub mod Scans
 pub mod Settling
 pub mod Tables
 pub mod Tags

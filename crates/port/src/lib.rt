@@ -9,6 +9,7 @@ mod planning;
 mod requests;
 mod ring_sums;
 mod save;
+mod scan;
 mod setup;
 mod stages;
 mod tags;
