@@ -11,5 +11,8 @@ pub mod Planning
 pub mod Requests
 pub mod Runs
 pub mod Saved
+pub mod Scans
+pub mod Settling
 pub mod Tables
 pub mod Tags
+pub mod Walks

@@ -1,6 +1,7 @@
 // The C interface: document 01, "What must change shape", and include/dwc2_port.h. A session crosses as bytes (docs/LAYOUT.md).
 mod answers;
 mod calls;
+mod drain;
 mod entries;
 mod load;
 mod numbers;
@@ -8,6 +9,7 @@ mod planning;
 mod requests;
 mod ring_sums;
 mod save;
+mod scan;
 mod setup;
 mod stages;
 mod tags;
