@@ -27,7 +27,7 @@ use Rattle.session.specs.Poll.{reply, refusedReply, withReason, recovere
 use Rattle.session.specs.Cancel.{requestAt, withCancelled, cancelled}
 use Rattle.session.proofs.Laws.Sums.{packets-past}
 use Rattle.session.proofs.Laws.Record.{Sound, GoodRequest, renewed-sound}
-use Rattle.session.proofs.Laws.Lists.{getD-slice, getD-sets-in, getD-map-in, amend-next, amend-past}
+use Rattle.session.proofs.Laws.Lists.{getD-slice, getD-sets-in, getD-map-in, write-past, amend-next}
 use Rattle.session.proofs.Laws.Tests.{chosen}
 
 -- ---- lists of which a part is changed in place
@@ -50,10 +50,10 @@ module _ {A B : Type 0} (p : A → B) where
   pub map-amend :
       (f : A → A) (d : A) → ((a : A) → p (f a) ≡ p a) → (n i t : ℕ) (l : List A) → i + n ≡ t → t ≤ length l
       → map p (sets l i (map f (slice i t l))) ≡ map p l
-  map-amend f d keeps zero i t l e k = ap (map p) (amend-past f i t l (omega arith))
+  map-amend f d keeps zero i t l e k = ap (map p) (write-past (map f) i i t l l refl (omega arith))
   map-amend f d keeps (suc n) i t l e k =
       let v : A = f (getD l i d) in
-      ap (map p) (amend-next f i t l d (omega arith) k)
+      ap (map p) (sym (amend-next (map f) i i t l d v (omega arith) (omega arith) k (λ rest. refl)))
       ∙ map-amend f d keeps n (i + 1) t (set l i v) (omega arith) (omega (arith, length-set l i v))
       ∙ map-set-same p l i v d (keeps (getD l i d))
 

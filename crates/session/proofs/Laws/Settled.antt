@@ -22,15 +22,6 @@ use Rattle.session.proofs.Laws.Lists.{slice-next, slice-past, slice-aft
 use Rattle.session.proofs.Laws.Sums.{packets-next, packets-split}
 use Rattle.session.proofs.Laws.Record.{Sound, GoodRequest, GoodPlan}
 
--- the bytes of one plan more, and of none
-pub moved-next :
-    (i t : ℕ) (l : List IsoPacketPlan) → i < t → t ≤ length l
-    → movedTotal (slice i t l) ≡ getD l i blankPlan .actual + movedTotal (slice (i + 1) t l)
-moved-next i t l h k = ap movedTotal (slice-next i t l blankPlan h k)
-
-pub moved-past : (i t : ℕ) (l : List IsoPacketPlan) → t ≤ i → movedTotal (slice i t l) ≡ 0
-moved-past i t l h = ap movedTotal (slice-past i t l h)
-
 -- the slots still to clear, after one plan's is, and where none is left
 pub cleared-next :
     (i t : ℕ) (l : List IsoPacketPlan) (ring now : List ℕ) → i < t → t ≤ length l

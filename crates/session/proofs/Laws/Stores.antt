@@ -133,13 +133,6 @@ module _ (R insert step i n : ℕ) (lengths : List ℕ) (table : List IsoPacketP
 
 -- ---- lengths
 
--- the sum of what is left is the length there and the sum of what is left after it; past the end it is 0
-pub sum-more : (lengths : List ℕ) (i : ℕ) → i < length lengths → sum (drop i lengths) ≡ getD lengths i 0 + sum (drop (i + 1) lengths)
-sum-more lengths i h = rw (drop-more lengths i h)
-
-pub sum-end : (lengths : List ℕ) (i : ℕ) → length lengths ≤ i → sum (drop i lengths) ≡ 0
-sum-end lengths i h = rw (drop-of-length-le lengths h)
-
 -- the first long packet of what is left: here, further on, or none
 pub long-here : (limit : ℕ) (lengths : List ℕ) (i : ℕ) → i < length lengths → limit < getD lengths i 0 → firstLong limit (drop i lengths) ≡ 0
 long-here limit lengths i h l = rw (drop-more lengths i h, lt-ltb limit (getD lengths i 0) l)
