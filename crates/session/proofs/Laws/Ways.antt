@@ -87,8 +87,12 @@ gated-way x entry long n spend way gate z e h o w =
     rw (f, g, q) w
 
 -- what the call leaves follows from the way
-pub answer-by : (s : IsoChannelState) (t : IsoTransfer) (lengths ring : List ℕ) {way : SubmitWay} {r : Submitted} → way ≡ submitWay s t lengths ring → r ≡ submittedBy way s t lengths ring → r ≡ submitted s t lengths ring
+pub answer-by :
+    (s : IsoChannelState) (t : IsoTransfer) (lengths ring : List ℕ) {way : SubmitWay} {r : Submitted} → way ≡ submitWay s t lengths ring
+    → r ≡ submittedBy way s t lengths ring → r ≡ submitted s t lengths ring
 answer-by s t lengths ring e p = p ∙ ap (λ (w : SubmitWay). submittedBy w s t lengths ring) e
 
-pub ring-by : (s : IsoChannelState) (t : IsoTransfer) (lengths ring : List ℕ) {way : SubmitWay} {r : List ℕ} → way ≡ submitWay s t lengths ring → r ≡ ringAfter way s t lengths ring → r ≡ submittedRing s t lengths ring
+pub ring-by :
+    (s : IsoChannelState) (t : IsoTransfer) (lengths ring : List ℕ) {way : SubmitWay} {r : List ℕ} → way ≡ submitWay s t lengths ring
+    → r ≡ ringAfter way s t lengths ring → r ≡ submittedRing s t lengths ring
 ring-by s t lengths ring e p = p ∙ ap (λ (w : SubmitWay). ringAfter w s t lengths ring) e
