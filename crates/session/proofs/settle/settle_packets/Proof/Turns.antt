@@ -104,7 +104,8 @@ module _ {M : Type 1} (𝓤 : URA M) (H : Heap 𝓤) (A : Atoms 𝓤) (W : Given
       → ent 𝓤 (sep 𝓤 (A .lft κ′ q′) (sep 𝓤 (sem 𝓤 H A (PlanT .own p (plan-vals p))) (sem 𝓤 H A (Lent κ′ ring))))
       (Settled 𝓤 H A at-mem run .pre (to-settled p))
   goes is-dir p =
-      qed W (‵ (flft κ′ q′) ∷ ‵ (PlanT .own p (plan-vals p)) ∷ ‵ (Lent κ′ ring) ∷ []) ∵ nothing ! $ move ! (3 ∷ 0 ∷ []) $ fjoin ! $ move ! (2 ∷ 0 ∷ []) $ fjoin ! $
+      qed W (‵ (flft κ′ q′) ∷ ‵ (PlanT .own p (plan-vals p)) ∷ ‵ (Lent κ′ ring) ∷ []) ∵ nothing ! $ move ! (3 ∷ 0 ∷ []) $ fjoin ! $ move ! (2 ∷ 0 ∷ []) $ fjoin
+      ! $
       owned ! WayT (Is WayT) (way-makes 𝓤 H A W) dir _ is-dir $ fjoin ! $ nothing ! $ move ! (2 ∷ 0 ∷ []) $ join ! $ join ! $ frame ! $ done !
 
   abbrev pub Ensured : IsoPacketPlan → IsoPacketPlan → SProp 𝓤

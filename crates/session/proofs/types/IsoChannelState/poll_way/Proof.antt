@@ -11,10 +11,14 @@ use Rattle.session.proofs.types.IsoChannelState.poll_way.Statement.{sta
 use Rattle.session.proofs.types.IsoChannelState.poll_way.Tie as tie
 
 returns : tie.Need-returns
-returns c = first-way (c .before .before .before .before .args .event .unplugged) Nothing (End Disconnected) (wayByFault (hcintFault (c .before .before .before .before .args .event .hcint)) (c .before .before .before .before .args .self .fatal) (c .before .before .before .before .args .event .hcint)) (c .if1 .taken)
+returns c =
+    let a = c .before .before .before .before .args in
+    first-way (a .event .unplugged) Nothing (End Disconnected) (wayByFault (hcintFault (a .event .hcint)) (a .self .fatal) (a .event .hcint)) (c .if1 .taken)
 
 returns-2 : tie.Need-returns-2
-returns-2 c = second-way Nothing (End Disconnected) (wayByFault (hcintFault (c .before .before .before .before .before .args .event .hcint)) (c .before .before .before .before .before .args .self .fatal) (c .before .before .before .before .before .args .event .hcint)) (c .before .if1 .left) (c .if2 .taken)
+returns-2 c =
+    let a = c .before .before .before .before .before .args in
+    second-way Nothing (End Disconnected) (wayByFault (hcintFault (a .event .hcint)) (a .self .fatal) (a .event .hcint)) (c .before .if1 .left) (c .if2 .taken)
 
 hcint-fault-requires : tie.Need-hcint-fault-requires
 hcint-fault-requires c κs = search needs
@@ -23,7 +27,11 @@ way-by-fault-requires : tie.Need-way-by-fault-requires
 way-by-fault-requires c κs = search needs
 
 returns-3 : tie.Need-returns-3
-returns-3 c = third-way Nothing (End Disconnected) (wayByFault (hcintFault (c .before .before .before .before .before .before .before .args .event .hcint)) (c .before .before .before .before .before .before .before .args .self .fatal) (c .before .before .before .before .before .before .before .args .event .hcint)) (c .before .before .before .if1 .left) (c .before .before .if2 .left) (c .way-by-fault .ensures ∙ ap (λ (f : HcintFault). wayByFault f (c .before .before .before .before .before .before .before .args .self .fatal) (c .before .before .before .before .before .before .before .args .event .hcint)) (c .before .hcint-fault .ensures))
+returns-3 c =
+    let a = c .before .before .before .before .before .before .before .args in
+    third-way Nothing (End Disconnected) (wayByFault (hcintFault (a .event .hcint)) (a .self .fatal) (a .event .hcint)) (c .before .before .before .if1 .left)
+    (c .before .before .if2 .left)
+    (c .way-by-fault .ensures ∙ ap (λ (f : HcintFault). wayByFault f (a .self .fatal) (a .event .hcint)) (c .before .hcint-fault .ensures))
 
 pub poll-way-spec : {M : Type 1} → statement M
 poll-way-spec =
