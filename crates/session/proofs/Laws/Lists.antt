@@ -10,7 +10,7 @@ use native.Mathlib.Numerals.{add-one}
 use native.Mathlib.Omega.{arith}
 use lib.Dec.{ltb}
 use lib.ListN.{length, getD, set, take, drop, length-map, length-take, length-set, length-append, take-append-drop, drop-of-length-le}
-use lib.Seq.{sets, slice, take-length, length-sets, sets-eq, take-suc-set, take-set-lt, drop-set-lt, getD-set-same, getD-set-other, slice-cons, length-slice, length-take-le, take-take, take-at, take-append-add, drop-append-le, drop-append-add, drop-drop, getD-drop, getD-take}
+use lib.Seq.{sets, slice, map-set-same, take-length, length-sets, sets-eq, take-suc-set, take-set-lt, drop-set-lt, getD-set-same, getD-set-other, slice-cons, length-slice, length-take-le, take-take, take-at, take-append-add, drop-append-le, drop-append-add, drop-drop, getD-drop, getD-take}
 use borrow.Author.Tests.{ltb-true, ltb-false}
 
 module _ {ℓ} {A : Type ℓ} where
@@ -82,7 +82,8 @@ module _ {ℓ} {A : Type ℓ} where
   slice-sets [] l i h = slice-past i (i + 0) l (omega arith)
   slice-sets (a ∷ vs) l i h =
       let long : i + suc (length vs) ≤ length (sets (set l i a) (suc i) vs) = omega (arith, length-sets (set l i a) (suc i) vs, length-set l i a) in
-      let first : getD (sets (set l i a) (suc i) vs) i a ≡ a = getD-sets-before vs (set l i a) (suc i) i a (omega arith) ∙ getD-set-same l i a a (omega arith) in
+      let first : getD (sets (set l i a) (suc i) vs) i a ≡ a =
+      getD-sets-before vs (set l i a) (suc i) i a (omega arith) ∙ getD-set-same l i a a (omega arith) in
       let to : i + suc (length vs) ≡ suc i + length vs = omega arith in
       slice-cons i (i + suc (length vs)) (sets (set l i a) (suc i) vs) a (omega arith) long
       ∙ ap (λ (x : A). x ∷ slice (suc i) (i + suc (length vs)) (sets (set l i a) (suc i) vs)) first
@@ -238,6 +239,47 @@ module _ {A : Type 0} where
 
     pub walked : Walk g size at from to first end now into i → g [] ≡ [] → to ≤ i → now ≡ sets first at (g (slice from to first))
     walked w none h = sym (write-past g into i to now now none h) ∙ w .goal
+
+-- ---- lists of which a part is changed in place
+
+module _ {A B : Type 0} (p : A → B) where
+  map-take : (n : ℕ) (l : List A) → map p (take n l) ≡ take n (map p l)
+  map-take zero l = refl
+  map-take (suc n) [] = refl
+  map-take (suc n) (a ∷ l) = ap (λ (r : List B). p a ∷ r) (map-take n l)
+
+  pub map-drop : (n : ℕ) (l : List A) → map p (drop n l) ≡ drop n (map p l)
+  map-drop zero l = refl
+  map-drop (suc n) [] = refl
+  map-drop (suc n) (a ∷ l) = map-drop n l
+
+  pub map-slice : (f t : ℕ) (l : List A) → map p (slice f t l) ≡ slice f t (map p l)
+  map-slice f t l = map-drop f (take t l) ∙ ap (drop f) (map-take t l)
+
+  -- what a change of an element leaves, a change of a part of a list leaves
+  pub map-amend :
+      (f : A → A) (d : A) → ((a : A) → p (f a) ≡ p a) → (n i t : ℕ) (l : List A) → i + n ≡ t → t ≤ length l
+      → map p (sets l i (map f (slice i t l))) ≡ map p l
+  map-amend f d keeps zero i t l e k = ap (map p) (write-past (map f) i i t l l refl (omega arith))
+  map-amend f d keeps (suc n) i t l e k =
+      let v : A = f (getD l i d) in
+      ap (map p) (sym (amend-next (map f) i i t l d v (omega arith) (omega arith) k (λ rest. refl)))
+      ∙ map-amend f d keeps n (i + 1) t (set l i v) (omega arith) (omega (arith, length-set l i v))
+      ∙ map-set-same p l i v d (keeps (getD l i d))
+
+module _ {A : Type 0} where
+  -- an entry of the part that was changed
+  pub getD-amended :
+      (f : A → A) (i t k : ℕ) (l : List A) (d : A) → i ≤ k → k < t → t ≤ length l
+      → getD (sets l i (map f (slice i t l))) k d ≡ f (getD l k d)
+  getD-amended f i t k l d h u fits =
+      let j = k - i in
+      let at : i + j ≡ k = omega arith in
+      let many : length (map f (slice i t l)) ≡ t - i = length-map (slice i t l) f ∙ length-slice i t l fits in
+      ap (λ (n : ℕ). getD (sets l i (map f (slice i t l))) n d) (sym at)
+      ∙ getD-sets-in (map f (slice i t l)) l i j d (omega (arith, many)) (omega (arith, many))
+      ∙ getD-map-in f (slice i t l) j d d (omega (arith, length-slice i t l fits))
+      ∙ ap f (getD-slice i t j l d (omega arith) ∙ ap (λ (n : ℕ). getD l n d) at)
 
 -- a store that puts something other than 0, or goes elsewhere, makes no entry 0
 pub set-some : (l : List ℕ) (i a k : ℕ) → (k ≡ i → a ≢ 0) → getD l k 0 ≢ 0 → getD (set l i a) k 0 ≢ 0

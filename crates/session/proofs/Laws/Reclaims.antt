@@ -155,7 +155,7 @@ module _ (s : IsoChannelState) (id : ℕ) (e : IsoEvent) (ring results : List �
 
 pub looked-sound : (id : ℕ) (e : IsoEvent) (s : IsoChannelState) (ring : List ℕ) → Sound s → Sound (looked id e s ring .session)
 looked-sound id e s ring g =
-    picked (isFound id s) (reply answer.Done false false s) (polledBy (pollWay s e) s ring) (λ f. g) (λ f. polled-sound s e ring g)
+    picked Sound (isFound id s) (reply answer.Done false false s) (polledBy (pollWay s e) s ring) (λ f. g) (λ f. polled-sound s e ring g)
 
 picked-sound : (b : Bool) (x y : Reclaimed) → (b ≡ true → Sound (x .session)) → (b ≡ false → Sound (y .session)) → Sound (cond b x y .session)
 picked-sound = chosen (λ (x : Reclaimed). Sound (x .session))
