@@ -6,6 +6,7 @@ pub mod Head
 pub mod Kept
 pub mod Loaded
 pub mod Numbers
+pub mod Placed
 pub mod Planning
 pub mod Requests
 pub mod Runs

@@ -1,12 +1,12 @@
 -- What a submission does, way by way, for every session, transfer, list of lengths and ring: what each refusal leaves, what a cut and a whole
 -- submission store, and what no test held means. Each is a fact of the session's definitions, and so, by the promise of `submit`, of the call.
-use mathlib.Core.Path.{_≡_, refl, ap, subst, subst⁻¹}
+use mathlib.Core.Path.{_≡_, refl, _∙_, ap, subst, subst⁻¹}
 use mathlib.Core.List.{List}
 use mathlib.Core.Logic.{_⊎_, ⊎-elim}
-use mathlib.Core.Bool.{true, false}
+use mathlib.Core.Bool.{Bool, true, false, cond}
 use Prim.Native.Nat.{ℕ, _*_, _≤_, _<_}
 use lib.ListN.{length, getD, take}
-use Rattle.ring.specs.RingSums.{packetLimit, nextNumber}
+use Rattle.ring.specs.RingSums.{packetLimit, nextNumber, startingFrame}
 use Rattle.session.specs.declared.types.IsoChannelState.{IsoChannelState}
 use Rattle.session.specs.declared.transfer.IsoTransfer.{IsoTransfer}
 use Rattle.session.specs.declared.transfer.SubmitAnswer.the-variants as answer
@@ -16,7 +16,10 @@ use Rattle.session.specs.Session.{ringWords, cleared}
 use Rattle.ring.specs.Stores.{stored}
 use Rattle.session.specs.Place.{storesOf}
 use Rattle.session.specs.Way.{tooLong, submitWay}
-use Rattle.session.specs.Submit.{withHead, spent, unplugged, accepted, sessionAfter, ringAfter, answerOf, submitted, submittedRing}
+use Rattle.session.specs.Submit.{withHead, spent, unplugged, answerOf}
+use Rattle.session.specs.Submit.{accepted}
+use Rattle.session.specs.Submit.{sessionAfter, submitted}
+use Rattle.session.specs.Submit.{ringAfter, submittedRing}
 use Rattle.session.proofs.Laws.Checks.{EntryNumber, SpendNumber, entry-number, spend-number, first-is-long, before-is-short}
 use Rattle.session.proofs.Laws.Admitted.{told-of, Admitted, admitted, clear-if, accepts, cuts}
 
@@ -199,3 +202,11 @@ module _ (s : IsoChannelState) (t : IsoTransfer) (lengths ring : List ℕ) where
   -- It leaves the session with the request and its plans behind the others.
   pub whole-session : submitWay s t lengths ring ≡ Accept → submitted s t lengths ring .session ≡ accepted s t lengths ring
   whole-session h = ap (λ (w : SubmitWay). sessionAfter w s t lengths ring) h
+
+  -- A first one takes its start from the first reading.
+  pub whole-start :
+      submitWay s t lengths ring ≡ Accept → s .head .live ≡ false
+      → submitted s t lengths ring .session .head .«start_full_frame» ≡ startingFrame (s .cfg .speed) (t .«start_reading»)
+  whole-start h off =
+      ap (λ (w : SubmitWay). sessionAfter w s t lengths ring .head .«start_full_frame») h
+      ∙ ap (λ (live : Bool). cond live (s .head .«start_full_frame») (startingFrame (s .cfg .speed) (t .«start_reading»))) off

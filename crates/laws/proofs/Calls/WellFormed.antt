@@ -146,7 +146,7 @@ entry-other s t n words good =
     let rest = drop 2 (entryChecks s t n words) in
     let short = ltb words (ringWords (s .cfg)) in
     subst⁻¹ Other (ap (λ (b : Bool). cond short 17 (cond b 18 (firstOf rest))) good)
-    (chosen (λ (b : Bool) (x y : ℕ). cond b x y) Other short 17 (firstOf rest) (λ h e. omega arith)
+    (chosen Other short 17 (firstOf rest) (λ h e. omega arith)
     (λ h. one-of Other rest
     ((λ e. omega arith)
     and (λ e. omega arith)
