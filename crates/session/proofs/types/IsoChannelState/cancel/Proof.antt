@@ -1,16 +1,16 @@
 -- `cancel` looks the number up and acts by where it stands: each return is the definition at the tests that led there.
-use mathlib.Core.Path.{_≡_, sym, _∙_, ap, subst}
+use mathlib.Core.Path.{_≡_, sym, _∙_, ap}
 use mathlib.Core.Bool.{true, false}
-use Prim.Native.Nat.{ℕ, _≤_, _<_}
+use Prim.Native.Nat.{ℕ}
 use native.Mathlib.Omega.{arith}
 use lib.Dec.{ltb}
 use lib.ListN.{length-map}
-use borrow.Author.Tests.{lt-ltb, le-ltb}
 use Rattle.session.specs.declared.reply.IsoAnswer.the-variants as answer
 use Rattle.session.specs.Record.{isBadRecord}
 use Rattle.session.specs.Poll.{reply}
 use Rattle.session.specs.Cancel.{requestAt, withCancelled}
 use Rattle.session.proofs.Laws.Record.{Sound, sound}
+use Rattle.session.proofs.Laws.Tests.{below, not-below}
 use Rattle.session.proofs.Laws.Replies.{cancel-bad, cancel-completed, cancel-unknown, cancel-again, cancel-halt}
 use borrow.Author.Needs.{needs}
 use Rattle.session.proofs.types.IsoChannelState.cancel.Statement.{statement}
@@ -56,8 +56,7 @@ returns-2 c =
     let fine : isBadRecord s ≡ false =
     sym (c .before .before .before .before .before .before .before .before .is-bad-record .ensures)
     ∙ c .before .before .before .before .before .before .before .if1 .left in
-    let is-done : ltb (requestAt id s) (s .head .done) ≡ true =
-    lt-ltb (requestAt id s) (s .head .done) (subst (λ (n : ℕ). n < s .head .done) (place-of .ensures) (c .before .before .if2 .taken)) in
+    let is-done : ltb (requestAt id s) (s .head .done) ≡ true = below (s .head .done) (place-of .ensures) (c .before .before .if2 .taken) in
     c .done .ensures
     ∙ ap (reply answer.Done false false) (c .before .amend .ensures ∙ ap (λ (n : ℕ). withCancelled n s) (place-of .ensures))
     ∙ sym (cancel-completed s id fine is-done)
@@ -74,10 +73,8 @@ returns-3 c =
     let fine : isBadRecord s ≡ false =
     sym (c .before .before .before .before .before .before .before .before .before .is-bad-record .ensures)
     ∙ c .before .before .before .before .before .before .before .before .if1 .left in
-    let not-done : ltb (requestAt id s) (s .head .done) ≡ false =
-    le-ltb (requestAt id s) (s .head .done) (subst (λ (n : ℕ). s .head .done ≤ n) (place-of .ensures) (c .before .before .before .if2 .left)) in
-    let unknown : ltb (requestAt id s) (s .head .count) ≡ false =
-    le-ltb (requestAt id s) (s .head .count) (subst (λ (n : ℕ). s .head .count ≤ n) (place-of .ensures) (c .before .if3 .taken)) in
+    let not-done : ltb (requestAt id s) (s .head .done) ≡ false = not-below (s .head .done) (place-of .ensures) (c .before .before .before .if2 .left) in
+    let unknown : ltb (requestAt id s) (s .head .count) ≡ false = not-below (s .head .count) (place-of .ensures) (c .before .if3 .taken) in
     c .refused2 .ensures ∙ sym (cancel-unknown s id fine not-done unknown)
 
 has-reason-requires : tie.Need-has-reason-requires
@@ -96,9 +93,8 @@ returns-4 c =
     sym (c .before .before .before .before .before .before .before .before .before .before .before .is-bad-record .ensures)
     ∙ c .before .before .before .before .before .before .before .before .before .before .if1 .left in
     let not-done : ltb (requestAt id s) (s .head .done) ≡ false =
-    le-ltb (requestAt id s) (s .head .done) (subst (λ (n : ℕ). s .head .done ≤ n) (place-of .ensures) (c .before .before .before .before .before .if2 .left)) in
-    let within : ltb (requestAt id s) (s .head .count) ≡ true =
-    lt-ltb (requestAt id s) (s .head .count) (subst (λ (n : ℕ). n < s .head .count) (place-of .ensures) (c .before .before .before .if3 .left)) in
+    not-below (s .head .done) (place-of .ensures) (c .before .before .before .before .before .if2 .left) in
+    let within : ltb (requestAt id s) (s .head .count) ≡ true = below (s .head .count) (place-of .ensures) (c .before .before .before .if3 .left) in
     c .done2 .ensures ∙ sym (cancel-again s id fine not-done within (sym (c .before .before .has-reason .ensures) ∙ c .before .if4 .taken))
 
 with-reason-requires : tie.Need-with-reason-requires
@@ -117,10 +113,8 @@ returns-5 c =
     sym (c .before .before .before .before .before .before .before .before .before .before .before .before .is-bad-record .ensures)
     ∙ c .before .before .before .before .before .before .before .before .before .before .before .if1 .left in
     let not-done : ltb (requestAt id s) (s .head .done) ≡ false =
-    le-ltb (requestAt id s) (s .head .done)
-    (subst (λ (n : ℕ). s .head .done ≤ n) (place-of .ensures) (c .before .before .before .before .before .before .if2 .left)) in
-    let within : ltb (requestAt id s) (s .head .count) ≡ true =
-    lt-ltb (requestAt id s) (s .head .count) (subst (λ (n : ℕ). n < s .head .count) (place-of .ensures) (c .before .before .before .before .if3 .left)) in
+    not-below (s .head .done) (place-of .ensures) (c .before .before .before .before .before .before .if2 .left) in
+    let within : ltb (requestAt id s) (s .head .count) ≡ true = below (s .head .count) (place-of .ensures) (c .before .before .before .before .if3 .left) in
     c .done3 .ensures
     ∙ ap (reply answer.Done false true) (c .before .with-reason .ensures)
     ∙ sym (cancel-halt s id fine not-done within (sym (c .before .before .before .has-reason .ensures) ∙ c .before .before .if4 .left))
