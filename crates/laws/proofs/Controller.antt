@@ -53,7 +53,8 @@ drawn-restated x [] ring d h = let k : h .0 < 0 = h .1 in absurd (omega arith)
 drawn-restated x (p ∷ put) ring d h = go (eqb (p .slot) (x .slot)) refl (drawn-restated x put)
   where
     go : (b : Bool) → eqb (p .slot) (x .slot) ≡ b
-        → ((r : List ℕ) → Distinct (map slotOf put) → Among (x .slot) (map slotOf put) → set (drawn put r) (2 * x .slot) (x .word) ≡ drawn (map (restated x) put) r)
+        → ((r : List ℕ) → Distinct (map slotOf put) → Among (x .slot) (map slotOf put)
+        → set (drawn put r) (2 * x .slot) (x .word) ≡ drawn (map (restated x) put) r)
         → set (drawn (p ∷ put) ring) (2 * x .slot) (x .word) ≡ drawn (map (restated x) (p ∷ put)) ring
     go true e more =
         let same : p .slot ≡ x .slot = eqb-true (p .slot) (x .slot) e in

@@ -122,7 +122,8 @@ first-hold (x ∷ xs) (suc (suc k)) ring d w (suc i) h l =
 
 -- all of them
 pub drawn-hold :
-    (xs : List Laid) (ring : List ℕ) → Distinct (map slotOf xs) → Within (length ring) xs → (i : ℕ) → i < length xs → Holds (drawn xs ring) (getD xs i blankLaid)
+    (xs : List Laid) (ring : List ℕ) → Distinct (map slotOf xs) → Within (length ring) xs → (i : ℕ) → i < length xs
+    → Holds (drawn xs ring) (getD xs i blankLaid)
 drawn-hold [] ring d w i h = absurd (omega arith)
 drawn-hold (x ∷ xs) ring d w zero h =
     let off = distinct-head (x .slot) (map slotOf xs) d in

@@ -1,30 +1,27 @@
 -- The end of a session keeps the invariant, whatever ring it finds: nothing is pending, nothing is put, the ring is zero. So does recovery.
 use mathlib.Core.Path.{_≡_, refl, sym, ap, subst⁻¹}
-use mathlib.Core.Bool.{false}
 use mathlib.Core.List.{List, [], map}
 use Prim.Native.Nat.{ℕ, _-_, _≤_}
 use native.Mathlib.Omega.{arith}
 use lib.ListN.{length, drop, drop-of-length-le}
-use borrow.Author.Tests.{le-ltb}
 use Rattle.session.specs.declared.types.IsoOutcome.{IsoOutcome}
 use Rattle.session.specs.declared.types.IsoOutcome.the-variants as outcome
 use Rattle.session.specs.declared.types.IsoChannelState.{IsoChannelState}
-use Rattle.session.specs.declared.reply.IsoAnswer.the-variants as answer
 use Rattle.session.specs.declared.reply.IsoReply.{IsoReply}
 use Rattle.session.specs.Session.{blankRequest, ringWords, allPackets, pendingPackets}
 use Rattle.session.specs.Way.{pendingPlans}
 use Rattle.session.specs.End.{withOutcome, endedRequests, ended, endedRing}
-use Rattle.session.specs.Poll.{reply, recovered, recoveredRing}
+use Rattle.session.specs.Poll.{recovered, recoveredRing}
 use Rattle.session.proofs.Laws.Sums.{packets-past}
 use Rattle.session.proofs.Laws.Record.{Sound, not-bad}
-use Rattle.session.proofs.Laws.Lists.{slice-past}
-use Rattle.session.proofs.Laws.Replies.{lent-done}
-use Rattle.session.proofs.Laws.Ended.{map-amend, ended-sound}
+use Rattle.session.proofs.Laws.Lists.{slice-past, map-amend}
+use Rattle.session.proofs.Laws.Ended.{ended-sound}
 use Rattle.laws.specs.Drawing.{Laid}
 use Rattle.laws.specs.Run.{State, Recover, stillPut, recover, step}
 use Rattle.laws.specs.Demand3.{slotOfPlan}
 use Rattle.laws.specs.Invariant.{Fits, Numbered, Invariant}
 use Rattle.laws.proofs.Lists.{distinct-none}
+use Rattle.laws.proofs.Calls.Ending.{recovery}
 use Rattle.laws.proofs.Fitting.{ring-long}
 use Rattle.laws.proofs.Keeping.{Keeps, left-invariant, idOf, numbered-same}
 
@@ -66,14 +63,9 @@ ended-keeps o st v ring =
     }
 
 -- recovery on a ring as long as the session's
-module _ (s : IsoChannelState) (g : Sound s) (ring : List ℕ) (long : ringWords (s .cfg) ≤ length ring) where
-  pub recovery : (recovered s (length ring) ≡ reply answer.Done false false (ended outcome.Disconnected s)) × (recoveredRing s ring ≡ endedRing s ring)
-  recovery =
-      lent-done s ring (reply answer.Done false false (ended outcome.Disconnected s)) (endedRing s ring) (le-ltb (length ring) (ringWords (s .cfg)) long) (not-bad s g)
-
 pub recovery-step : (st : State) → Invariant st → (ring : List ℕ) → ringWords (st .session .cfg) ≤ length ring → Invariant (recover st ring)
 recovery-step st v ring long =
-    let e = recovery (st .session) (v .fits .sound) ring long in
+    let e = recovery (st .session) ring long (not-bad (st .session) (v .fits .sound)) in
     left-invariant st (recovered (st .session) (length ring) .session) (recoveredRing (st .session) ring)
     (subst⁻¹ (λ (r : IsoReply). Keeps st (r .session) (recoveredRing (st .session) ring)) (e .0)
     (subst⁻¹ (Keeps st (ended outcome.Disconnected (st .session))) (e .1) (ended-keeps outcome.Disconnected st v ring)))

@@ -4,10 +4,9 @@ use mathlib.Core.Bool.{Bool, true, false, cond}
 use mathlib.Core.List.{List, _∷_, map}
 use Prim.Native.Nat.{ℕ, _-_}
 use native.Mathlib.Omega.{arith}
-use lib.Dec.{eqb, ltb}
+use lib.Dec.{eqb}
 use lib.ListN.{length, getD, set, drop, List·getD-map}
 use lib.Seq.{slice, map-set-same}
-use borrow.Author.Tests.{ltb-true, ltb-false}
 use Rattle.session.specs.declared.types.IsoMode.the-variants.{Guarded}
 use Rattle.session.specs.declared.types.IsoPacketPlan.{IsoPacketPlan}
 use Rattle.session.specs.declared.types.IsoRequest.{IsoRequest}
@@ -15,16 +14,13 @@ use Rattle.session.specs.declared.types.IsoHaltReason.the-variants as reason
 use Rattle.session.specs.declared.types.IsoOutcome.the-variants as outcome
 use Rattle.session.specs.declared.types.IsoConfig.{IsoConfig}
 use Rattle.session.specs.declared.types.IsoChannelState.{IsoChannelState}
-use Rattle.session.specs.declared.reply.IsoAnswer.the-variants as answer
-use Rattle.session.specs.declared.reply.IsoReply.{IsoReply}
-use Rattle.session.specs.Session.{blankRequest, ringWords, packetsOf, allPackets, pendingPackets, hasReason}
-use Rattle.session.specs.Record.{isBadRecord}
+use Rattle.session.specs.Session.{blankRequest, ringWords, packetsOf, allPackets, pendingPackets}
 use Rattle.session.specs.Way.{pendingPlans}
 use Rattle.session.specs.End.{withOutcome}
-use Rattle.session.specs.Poll.{reply, refusedReply, withReason, isEmpty, atStart, resetReply}
+use Rattle.session.specs.Poll.{withReason, atStart, resetReply}
 use Rattle.session.specs.Cancel.{requestAt, withCancelled, cancelled}
 use Rattle.session.proofs.Laws.Record.{Sound}
-use Rattle.session.proofs.Laws.Ended.{packets, packets-kept, reset-sound, amended-sound, reason-sound}
+use Rattle.session.proofs.Laws.Ended.{packets, packets-kept, reset-sound, amended-sound, reason-sound, reset-picked, cancel-picked}
 use Rattle.session.specs.Reclaim.{requestOf}
 use Rattle.laws.specs.Drawing.{Laid, drawn, Among}
 use Rattle.laws.specs.Run.{State, Cancel, Reset, stillPut, left, step}
@@ -62,7 +58,8 @@ pub still-all : (s : IsoChannelState) (put : List Laid) → length put ≡ pendi
 still-all s put e = let z : length put - pendingPackets s ≡ 0 = omega arith in ap (λ (n : ℕ). drop n put) z
 
 -- the plans pending are the same where the tables of plans and the sums are
-pub plans-same : (plans : List IsoPacketPlan) (all all′ some some′ : ℕ) → all′ ≡ all → some′ ≡ some → slice (all′ - some′) all′ plans ≡ slice (all - some) all plans
+pub plans-same :
+    (plans : List IsoPacketPlan) (all all′ some some′ : ℕ) → all′ ≡ all → some′ ≡ some → slice (all′ - some′) all′ plans ≡ slice (all - some) all plans
 plans-same plans all all′ some some′ a p = rw (a, p)
 
 -- the session with other requests of the same packets and numbers, head and reason
@@ -107,12 +104,6 @@ keeps-none st v =
       numbered = v .numbered;
     }
 
--- ---- a choice by a test
-
-pub picked : (P : IsoChannelState → Type 0) (b : Bool) (x y : IsoReply) → (b ≡ true → P (x .session)) → (b ≡ false → P (y .session)) → P (cond b x y .session)
-picked P true x y f g = f refl
-picked P false x y f g = g refl
-
 -- ---- cancelling
 
 module _ (st : State) (v : Invariant st) where
@@ -121,7 +112,8 @@ module _ (st : State) (v : Invariant st) where
     amended = withOutcome outcome.Cancelled (requestOf at (st .session))
 
     amended-sums : (f : ℕ)
-        → packetsOf (slice f (st .session .head .count) (set (st .session .requests) at amended)) ≡ packetsOf (slice f (st .session .head .count) (st .session .requests))
+        → packetsOf (slice f (st .session .head .count) (set (st .session .requests) at amended))
+        ≡ packetsOf (slice f (st .session .head .count) (st .session .requests))
     amended-sums f =
         packets-kept (st .session .requests) (set (st .session .requests) at amended)
         (map-set-same packets (st .session .requests) at amended blankRequest refl) f (st .session .head .count)
@@ -150,21 +142,9 @@ module _ (st : State) (v : Invariant st) where
   pub cancel : (id : ℕ) → Invariant (step st (Cancel id))
   cancel id =
       let s = st .session in
-      let P : IsoChannelState → Type 0 = λ (r : IsoChannelState). Keeps st r (st .ring) in
-      let at : ℕ = requestAt id s in
-      let amended-reply = reply answer.Done false false (withCancelled at s) in
-      let stands = reply answer.Done false false s in
-      let halting = reply answer.Done false true (withReason reason.Cancelled s) in
-      let pending = cond (hasReason (s .fatal)) stands halting in
-      let known = cond (ltb at (s .head .count)) pending (refusedReply 15 s) in
-      let none : Keeps st s (st .ring) = keeps-none st v in
       left-invariant st (cancelled s id .session) (st .ring)
-      (picked P (isBadRecord s) (refusedReply 18 s) (cond (ltb at (s .head .done)) amended-reply known) (λ b. none)
-      (λ b. picked P (ltb at (s .head .done)) amended-reply known (λ e. keeps-amended at)
-      (λ e. picked P (ltb at (s .head .count)) pending (refusedReply 15 s)
-      (λ u. picked P (hasReason (s .fatal)) stands halting (λ f. none)
-      (λ f. keeps-reason (reason-sound reason.Cancelled s (v .fits .sound) (omega (arith, ltb-false at (s .head .done) e, ltb-true at (s .head .count) u)))))
-      (λ u. none))))
+      (cancel-picked (λ (r : IsoChannelState). Keeps st r (st .ring)) s id (keeps-none st v) (keeps-amended (requestAt id s))
+      (λ h. keeps-reason (reason-sound reason.Cancelled s (v .fits .sound) h)))
 
   -- ---- reset
 
@@ -178,10 +158,5 @@ module _ (st : State) (v : Invariant st) where
 
   pub reset : Invariant (step st Reset)
   reset =
-      let s = st .session in
-      let P : IsoChannelState → Type 0 = λ (r : IsoChannelState). Keeps st r (st .ring) in
-      let empty = reply answer.Done false false (atStart s) in
-      let none : Keeps st s (st .ring) = keeps-none st v in
-      left-invariant st (resetReply s .session) (st .ring)
-      (picked P (isBadRecord s) (refusedReply 18 s) (cond (isEmpty s) empty (refusedReply 16 s)) (λ b. none)
-      (λ b. picked P (isEmpty s) empty (refusedReply 16 s) (λ e. keeps-start) (λ e. none)))
+      left-invariant st (resetReply (st .session) .session) (st .ring)
+      (reset-picked (λ (r : IsoChannelState). Keeps st r (st .ring)) (st .session) (keeps-none st v) keeps-start)

@@ -1,6 +1,6 @@
 -- Laws of lists of numbers: what stands in one and what does not, numbers that differ, and slices behind a run of stores.
 use mathlib.Core.Path.{_≡_, refl, _∙_, sym, ap}
-use mathlib.Core.List.{List, [], _∷_, _++_, map}
+use mathlib.Core.List.{List, [], _∷_, _++_}
 use mathlib.Core.Logic.{_⊎_, inl, inr, ⊎-elim}
 use mathlib.Core.Bool.{Bool, true, false}
 use Prim.Native.Nat.{ℕ, zero, suc, _+_, _≤_, _<_}
@@ -95,12 +95,3 @@ module _ {A : Type 0} where
       slice-split f t (t + length vs) (sets l t vs) h (omega arith) (omega (arith, length-sets l t vs))
       ∙ ap (λ (a : List A). drop f a ++ slice t (t + length vs) (sets l t vs)) (take-before-sets vs l t t (omega arith))
       ∙ ap (λ (a : List A). slice f t l ++ a) (slice-sets vs l t k)
-
-pub map-drop : {A B : Type 0} (p : A → B) (n : ℕ) (l : List A) → map p (drop n l) ≡ drop n (map p l)
-map-drop p zero l = refl
-map-drop p (suc n) [] = refl
-map-drop p (suc n) (a ∷ l) = map-drop p n l
-
-pub map-append : {A B : Type 0} (p : A → B) (a b : List A) → map p (a ++ b) ≡ map p a ++ map p b
-map-append p [] b = refl
-map-append {B = B} p (x ∷ a) b = ap (λ (l : List B). p x ∷ l) (map-append p a b)

@@ -33,7 +33,8 @@ opening cfg lent g e =
       fits =
           record {
             sound =
-                sound (idleSession cfg) (length-replicate {A = IsoRequest} 64 blankRequest) (length-replicate {A = IsoPacketPlan} 1024 blankPlan) (idle-sound cfg good);
+                sound (idleSession cfg) (length-replicate {A = IsoRequest} 64 blankRequest) (length-replicate {A = IsoPacketPlan} 1024 blankPlan)
+                (idle-sound cfg good);
             behind = drop (ringWords cfg) lent;
             drawing = ap (λ (a : OpenAnswer). ringAfter a cfg lent) e;
             in-order = refl;

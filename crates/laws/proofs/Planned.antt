@@ -69,12 +69,14 @@ module _ (s : IsoChannelState) (t : IsoTransfer) (lengths ring : List ℕ) where
 
     pub planned-off-cursor : (i : ℕ) → i < length lengths → slot i ≡ slot (length lengths) → ⊥
     planned-off-cursor i l =
-        cursor-apart (s .cfg .interval) (slots (s .cfg)) (ring-size-pos (s .cfg .speed)) (insertOf s t ring) (length lengths) i (omega (arith, h .entry .capacity)) l
+        cursor-apart (s .cfg .interval) (slots (s .cfg)) (ring-size-pos (s .cfg .speed)) (insertOf s t ring) (length lengths) i
+        (omega (arith, h .entry .capacity)) l
 
     pub planned-distinct : Distinct (map slotOf (planned s t lengths ring))
     planned-distinct =
         subst⁻¹ Distinct slots-are
-        (λ i j l k e. planned-apart i j l (omega (arith, list-length)) (sym (list-at i (omega (arith, list-length))) ∙ e ∙ list-at j (omega (arith, list-length))))
+        (λ i j l k e.
+        planned-apart i j l (omega (arith, list-length)) (sym (list-at i (omega (arith, list-length))) ∙ e ∙ list-at j (omega (arith, list-length))))
 
     -- "refusal 13 exactly if a planned slot belongs to a pending request"
     module _ {put : List Laid} (f : Fits s ring put) (g : s .cfg .mode ≡ Guarded) where

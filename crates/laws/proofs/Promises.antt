@@ -34,7 +34,8 @@ abbrev pub ringLeft : {s : IsoChannelState} {t : IsoTransfer} {lengths ring : Li
 ringLeft c = now (atExit (endedOf 2 functions.submit.Kinds.ps functions.submit.Kinds.r) (c .κs) (c .args) (c .last) .1 .1 .1 .0)
 
 -- is the definition's
-pub submit-ring : (s : IsoChannelState) (t : IsoTransfer) (lengths ring : List ℕ) (c : SubmitCall s t lengths ring) → ringLeft c ≡ submittedRing s t lengths ring
+pub submit-ring :
+    (s : IsoChannelState) (t : IsoTransfer) (lengths ring : List ℕ) (c : SubmitCall s t lengths ring) → ringLeft c ≡ submittedRing s t lengths ring
 submit-ring s t lengths ring c =
     c .promise .1
     ∙ ap (λ (x : IsoChannelState). submittedRing x (c .args .1 .0) (now (c .args .1 .1 .0)) (now (c .args .1 .1 .1 .0))) (c .self-is)
@@ -57,7 +58,9 @@ ringRecovered c = now (atExit (endedOf 1 functions.recover.Kinds.ps functions.re
 
 pub recover-reply : (s : IsoChannelState) (ring : List ℕ) (c : RecoverCall s ring) → c .result ≡ recovered s (length ring)
 recover-reply s ring c =
-    c .promise .0 ∙ ap (λ (x : IsoChannelState). recovered x (length (now (c .args .1 .0)))) (c .self-is) ∙ ap (λ (x : List ℕ). recovered s (length x)) (c .ring-is)
+    c .promise .0
+    ∙ ap (λ (x : IsoChannelState). recovered x (length (now (c .args .1 .0)))) (c .self-is)
+    ∙ ap (λ (x : List ℕ). recovered s (length x)) (c .ring-is)
 
 pub recover-ring : (s : IsoChannelState) (ring : List ℕ) (c : RecoverCall s ring) → ringRecovered c ≡ recoveredRing s ring
 recover-ring s ring c =

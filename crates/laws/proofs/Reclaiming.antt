@@ -73,7 +73,8 @@ module _ (s : IsoChannelState) (numbers : List ℕ) (v : Numbered s numbers) (at
 removed-keeps : (st : State) (s : IsoChannelState) (ring : List ℕ) → Keeps st s ring → (at : ℕ) → at < s .head .done → Keeps st (removed at s) ring
 removed-keeps st s ring k at h =
     let g = k .fits .sound in
-    let still : stillPut (removed at s) (st .put) ≡ stillPut s (st .put) = ap (λ (n : ℕ). drop (length (st .put) - n) (st .put)) (ap packetsOf (removed-pending at s g h .0)) in
+    let still : stillPut (removed at s) (st .put) ≡ stillPut s (st .put) =
+    ap (λ (n : ℕ). drop (length (st .put) - n) (st .put)) (ap packetsOf (removed-pending at s g h .0)) in
     record {
       guarded = k .guarded;
       fits =

@@ -1,7 +1,7 @@
 -- Settling the oldest request keeps the invariant: its slots become zero, what was put for it goes.
 use mathlib.Core.Path.{_≡_, refl, _∙_, sym, ap, subst, subst⁻¹}
 use mathlib.Core.Bool.{Bool, true, false, _||_, cond}
-use mathlib.Core.List.{List, [], _∷_, _++_, map}
+use mathlib.Core.List.{List, [], _∷_, _++_, map, map-append}
 use Prim.Native.Nat.{ℕ, zero, suc, _+_, _-_, _*_, _≤_, _<_}
 use native.Mathlib.Omega.{arith}
 use lib.ListN.{length, getD, set, drop, length-map, length-drop}
@@ -10,15 +10,15 @@ use Rattle.session.specs.declared.types.IsoPacketPlan.{IsoPacketPlan}
 use Rattle.session.specs.declared.types.IsoChannelState.{IsoChannelState}
 use Rattle.session.specs.Session.{blankRequest, ringWords, packetsOf, allPackets, pendingPackets}
 use Rattle.session.specs.Way.{pendingPlans}
-use Rattle.session.specs.Settle.{Drained, settledPlan, oldest, oldestFrom, oldestTo, oldestPlans, settledPlans, settledRequest, settledSession, slotsCleared, settledRing, isServed, drain}
+use Rattle.session.specs.Settle.{Drained, oldest, oldestFrom, oldestTo, oldestPlans, settledPlans, settledRequest, settledSession, slotsCleared, settledRing, isServed, drain}
 use Rattle.session.proofs.Laws.Sums.{packets-next, packets-split}
-use Rattle.session.proofs.Laws.Lists.{slice-after-set, slice-split}
-use Rattle.session.proofs.Laws.Settled.{oldest-in, all-settled, settled-sound}
+use Rattle.session.proofs.Laws.Lists.{slice-after-set, slice-split, map-drop}
+use Rattle.session.proofs.Laws.Settled.{oldest-in, all-settled, settled-sound, settled-count}
 use Rattle.laws.specs.Drawing.{Laid, drawn, slotOf, Distinct}
 use Rattle.laws.specs.Run.{State, stillPut}
 use Rattle.laws.specs.Demand3.{slotOfPlan}
 use Rattle.laws.specs.Invariant.{Fits, Invariant}
-use Rattle.laws.proofs.Lists.{distinct-head, distinct-tail, distinct-drop, slice-after-sets, map-drop, map-append}
+use Rattle.laws.proofs.Lists.{distinct-head, distinct-tail, distinct-drop, slice-after-sets}
 use Rattle.laws.proofs.Drawn.{one, Within, within-tail, drawn-set}
 use Rattle.laws.proofs.Fitting.{blank, blank-zero, put-length, put-below, pending-within}
 use Rattle.laws.proofs.Keeping.{Keeps, idOf, numbered-same, keeps-none}
@@ -40,7 +40,8 @@ taken-off x ring a b =
 
 -- the slots of the first ones cleared, on zeros, leave the drawing of the others
 pub drawn-cleared :
-    (ps : List IsoPacketPlan) (put : List Laid) (rest : List ℕ) (words : ℕ) (ring : List ℕ) → map slotOf put ≡ map slotOfPlan ps ++ rest → Distinct (map slotOf put)
+    (ps : List IsoPacketPlan) (put : List Laid) (rest : List ℕ) (words : ℕ) (ring : List ℕ) → map slotOf put ≡ map slotOfPlan ps ++ rest
+    → Distinct (map slotOf put)
     → Within words put → ((w : ℕ) → w < words → getD ring w 0 ≡ 0) → slotsCleared ps (drawn put ring) ≡ drawn (drop (length ps) put) ring
 drawn-cleared [] put rest words ring e d w z = refl
 drawn-cleared (p ∷ ps) [] rest words ring e d w z = let n : 0 ≡ suc (length (map slotOfPlan ps ++ rest)) = ap length e in absurd (omega arith)
@@ -82,9 +83,6 @@ module _ {s : IsoChannelState} {ring : List ℕ} {put : List Laid} (f : Fits s r
   oldest-count : length (oldestPlans s) ≡ oldest s .packets
   oldest-count = omega (arith, length-slice (oldestFrom s) (oldestTo s) (s .plans) (omega (arith, oldest-in s (f .sound) h, plans-long)))
 
-  settled-count : length (settledPlans s ring) ≡ oldest s .packets
-  settled-count = length-map (oldestPlans s) (settledPlan (s .cfg .direction) ring) ∙ oldest-count
-
   -- the plans pending are those of the oldest request and the others
   plans-split : pendingPlans s ≡ oldestPlans s ++ slice (oldestTo s) (allPackets s) (s .plans)
   plans-split =
@@ -96,7 +94,8 @@ module _ {s : IsoChannelState} {ring : List ℕ} {put : List Laid} (f : Fits s r
       let new = sets (s .plans) (oldestFrom s) (settledPlans s ring) in
       ap (λ (n : ℕ). slice n (allPackets (settledSession s ring)) new) to-is
       ∙ ap (λ (n : ℕ). slice (oldestTo s) n new) (all-settled s ring (f .sound) h)
-      ∙ slice-after-sets (settledPlans s ring) (s .plans) (oldestFrom s) (oldestTo s) (allPackets s) (omega (arith, settled-count)) (oldest-in s (f .sound) h)
+      ∙ slice-after-sets (settledPlans s ring) (s .plans) (oldestFrom s) (oldestTo s) (allPackets s) (omega (arith, settled-count s ring (f .sound) h))
+      (oldest-in s (f .sound) h)
 
   slots-split : map slotOf put ≡ map slotOfPlan (oldestPlans s) ++ map slotOfPlan (pendingPlans (settledSession s ring))
   slots-split =
@@ -157,7 +156,8 @@ settledState st =
     }
 
 -- what a state with a request settled keeps, the state before it keeps
-keeps-after : (st : State) → Invariant st → Invariant (settledState st) → (s : IsoChannelState) (ring : List ℕ) → Keeps (settledState st) s ring → Keeps st s ring
+keeps-after :
+    (st : State) → Invariant st → Invariant (settledState st) → (s : IsoChannelState) (ring : List ℕ) → Keeps (settledState st) s ring → Keeps st s ring
 keeps-after st v u s ring k =
     let r = settledSession (st .session) (st .ring) in
     let long : length (stillPut r (st .put)) ≡ pendingPackets r = put-length (u .fits) in

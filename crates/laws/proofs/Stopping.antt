@@ -23,7 +23,7 @@ use Rattle.session.specs.Way.{submitWay}
 use Rattle.session.specs.Submit.{answerOf}
 use Rattle.session.specs.Poll.{recovered, recoveredRing}
 use Rattle.laws.proofs.Calls.Facts.{accept-admitted, accept-gates, accept-if, cut-if, cut-ring, whole-ring, whole-session}
-use Rattle.laws.proofs.Calls.Ending.{recovery-answers, recovery-idle, recovery-zeroes, recovery-fails, recovery-keeps}
+use Rattle.laws.proofs.Calls.Ending.{recovery, recovery-answers, recovery-idle, recovery-zeroes, recovery-fails, recovery-keeps}
 use Rattle.session.proofs.Laws.Record.{not-bad}
 use Rattle.ring.proofs.Stores.{length-stored, whole-plan}
 use Rattle.session.proofs.Laws.Admitted.{Admitted}
@@ -36,7 +36,7 @@ use Rattle.laws.proofs.Lists.{among-or-absent}
 use Rattle.laws.proofs.Drawn.{stores-are, stored-drawn, stored-other, stored-holds, absent-first, first-hold, status-among, Within, first-behind}
 use Rattle.laws.proofs.Fitting.{blank, blank-zero, ring-long, put-held, other-zero}
 use Rattle.laws.proofs.Controller.{inactive, length-touchedBy, behind-touchedBy}
-use Rattle.laws.proofs.Ended.{recovery, ended-numbered}
+use Rattle.laws.proofs.Ended.{ended-numbered}
 use Rattle.laws.proofs.Planned.{planned-length, planned-at, planned-below, planned-apart, planned-off-cursor, planned-distinct, put-apart}
 
 -- ---- the way of a submission that is accepted
@@ -109,7 +109,8 @@ module _ (st : State) (x : Submission st) where
       by false e =
           let enough : 2 * n ≤ k = ltb-false k (2 * n) e in
           let w : submitWay s (upTo k (x .transfer)) (x .lengths) (st .ring) ≡ Accept =
-          accept-if s (upTo k (x .transfer)) (x .lengths) (st .ring) (any-words s (x .transfer) (x .lengths) (st .ring) (2 * n) k admitted-whole) enough gates in
+          accept-if s (upTo k (x .transfer)) (x .lengths) (st .ring) (any-words s (x .transfer) (x .lengths) (st .ring) (2 * n) k admitted-whole) enough
+          gates in
           whole-ring s (upTo k (x .transfer)) (x .lengths) (st .ring) w
           ∙ sym (whole-plan (slots (s .cfg)) (insertOf s (x .transfer) (st .ring)) (stepOf (s .cfg)) 0 (x .transfer .base) k (x .lengths) (st .ring) enough)
           ∙ ap (λ (ws : List Store). stored (take k ws) (st .ring)) (stores-words k)
@@ -144,7 +145,8 @@ module _ (st : State) (x : Submission st) where
         omega (arith, planned-at s (x .transfer) (x .lengths) (st .ring) i few, planned-below s (x .transfer) (x .lengths) (st .ring) i)
 
     -- a word that is neither put nor new
-    zero-word : (w : ℕ) → w < ringWords (s .cfg) → Absent w (map wordAt (wordsOf (st .put))) → Absent w (map wordAt (take k words)) → getD (stopped st x k) w 0 ≡ 0
+    zero-word :
+        (w : ℕ) → w < ringWords (s .cfg) → Absent w (map wordAt (wordsOf (st .put))) → Absent w (map wordAt (take k words)) → getD (stopped st x k) w 0 ≡ 0
     zero-word w h a b =
         let zeros = blank (ringWords (s .cfg)) (v .fits .behind) in
         ap (λ (r : List ℕ). getD r w 0) (stopped-is k l)
@@ -216,9 +218,10 @@ module _ (st : State) (x : Submission st) where
     found-long : (touches : List Touch) → ringWords (s .cfg) ≤ length (found st x k touches)
     found-long touches = omega (arith, found-length touches, ring-long (v .fits))
 
-    pub ring-recovered : (touches : List Touch) → recoveredRing s (found st x k touches) ≡ replicate (ringWords (s .cfg)) 0 ++ drop (ringWords (s .cfg)) (st .ring)
+    pub ring-recovered :
+        (touches : List Touch) → recoveredRing s (found st x k touches) ≡ replicate (ringWords (s .cfg)) 0 ++ drop (ringWords (s .cfg)) (st .ring)
     ring-recovered touches =
-        recovery s (v .fits .sound) (found st x k touches) (found-long touches) .1
+        recovery s (found st x k touches) (found-long touches) (not-bad s (v .fits .sound)) .1
         ∙ ap (λ (r : List ℕ). replicate (ringWords (s .cfg)) 0 ++ r) (found-behind touches)
 
   module _ (v : Invariant st) (k : ℕ) (l : k ≤ 2 * n) (meanwhile : List Touch) where
@@ -228,9 +231,10 @@ module _ (st : State) (x : Submission st) where
     long : ringWords (s .cfg) ≤ length left
     long = found-long v k l meanwhile
 
-    once : (i j : ℕ) → i < j → j < s .head .count → requestOf i (recovered s (length left) .session) .id ≡ requestOf j (recovered s (length left) .session) .id → ⊥
+    once :
+        (i j : ℕ) → i < j → j < s .head .count → requestOf i (recovered s (length left) .session) .id ≡ requestOf j (recovered s (length left) .session) .id → ⊥
     once i j h m =
-        subst⁻¹ (λ (r : IsoReply). requestOf i (r .session) .id ≡ requestOf j (r .session) .id → ⊥) (recovery s (v .fits .sound) left long .0)
+        subst⁻¹ (λ (r : IsoReply). requestOf i (r .session) .id ≡ requestOf j (r .session) .id → ⊥) (recovery s left long (not-bad s (v .fits .sound)) .0)
         (ended-numbered outcome.Disconnected s (v .fits .sound) (st .numbers) (v .numbered) .differ i j h m)
 
     pub recovering : Recovered st x (recovered s (length left)) (recoveredRing s left)

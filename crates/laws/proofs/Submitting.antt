@@ -1,7 +1,7 @@
 -- A submission keeps the invariant, whatever it answers, where the number that it uses up was not used up before.
 use mathlib.Core.Path.{_≡_, refl, _∙_, sym, ap, subst, subst⁻¹}
 use mathlib.Core.Bool.{Bool, true, false, cond}
-use mathlib.Core.List.{List, [], _∷_, _++_, map}
+use mathlib.Core.List.{List, [], _∷_, _++_, map, map-append}
 use mathlib.Core.Logic.{inl, inr}
 use Prim.Native.Nat.{ℕ, _+_, _-_, _<_}
 use native.Mathlib.Omega.{arith}
@@ -33,7 +33,7 @@ use Rattle.laws.specs.Drawing.{Laid, drawn, slotOf, Among, Absent, Disti
 use Rattle.laws.specs.Run.{State, Touch, Submit, touchedBy, planned, usedUp, left, leftWith, recover, submitBy, step}
 use Rattle.laws.specs.Demand3.{slotOfPlan}
 use Rattle.laws.specs.Invariant.{Fits, Numbered, Invariant}
-use Rattle.laws.proofs.Lists.{among-later, distinct-head, distinct-append, slice-behind, map-append}
+use Rattle.laws.proofs.Lists.{among-later, distinct-head, distinct-append, slice-behind}
 use Rattle.laws.proofs.Drawn.{drawn-append, stored-drawn, stores-are}
 use Rattle.laws.proofs.Fitting.{blank, put-length, ring-long, pending-within}
 use Rattle.laws.proofs.Controller.{length-touchedBy}
@@ -162,10 +162,12 @@ module _ (st : State) (t : IsoTransfer) (lengths : List ℕ) (v : Invariant st) 
           → Among (requestOf i (accepted s t lengths (st .ring)) .id) (next ∷ st .numbers)
       used i k true e =
           let before : i < s .head .count = ltb-true i (s .head .count) e in
-          subst⁻¹ (λ (n : ℕ). Among n (next ∷ st .numbers)) (id-before i before) (among-later (requestOf i s .id) next (st .numbers) (v .numbered .used i before))
+          subst⁻¹ (λ (n : ℕ). Among n (next ∷ st .numbers)) (id-before i before)
+          (among-later (requestOf i s .id) next (st .numbers) (v .numbered .used i before))
       used i k false e =
           let last : i ≡ s .head .count = omega (arith, ltb-false i (s .head .count) e) in
-          subst⁻¹ (λ (n : ℕ). Among n (next ∷ st .numbers)) (ap (λ (n : ℕ). requestOf n (accepted s t lengths (st .ring)) .id) last ∙ id-last) (0, omega arith, refl)
+          subst⁻¹ (λ (n : ℕ). Among n (next ∷ st .numbers)) (ap (λ (n : ℕ). requestOf n (accepted s t lengths (st .ring)) .id) last ∙ id-last)
+          (0, omega arith, refl)
 
       differ :
           (i j : ℕ) → i < j → j < s .head .count + 1 → (b : Bool) → ltb j (s .head .count) ≡ b
@@ -176,7 +178,8 @@ module _ (st : State) (t : IsoTransfer) (lengths : List ℕ) (v : Invariant st) 
       differ i j l k false e q =
           let last : j ≡ s .head .count = omega (arith, ltb-false j (s .head .count) e) in
           let before : i < s .head .count = omega arith in
-          let same : requestOf i s .id ≡ next = sym (id-before i before) ∙ q ∙ ap (λ (n : ℕ). requestOf n (accepted s t lengths (st .ring)) .id) last ∙ id-last in
+          let same : requestOf i s .id ≡ next =
+          sym (id-before i before) ∙ q ∙ ap (λ (n : ℕ). requestOf n (accepted s t lengths (st .ring)) .id) last ∙ id-last in
           let a = v .numbered .used i before in
           fresh (a .0) (a .1) (a .2 ∙ same)
 
@@ -219,7 +222,8 @@ module _ (st : State) (t : IsoTransfer) (lengths : List ℕ) (between : List Tou
       let fresh : Distinct (st .session .head .«next_request_id» ∷ st .numbers) =
       subst Distinct (ap (λ (w : SubmitWay). usedUp (st .session) (sessionAfter w (st .session) t lengths (st .ring)) (st .numbers)) e ∙ used) d in
       let absent = distinct-head (st .session .head .«next_request_id») (st .numbers) fresh in
-      subst⁻¹ (λ (w : SubmitWay). Invariant (leftWith laid st (sessionAfter w (st .session) t lengths (st .ring)) (ringAfter w (st .session) t lengths (st .ring)))) e
+      subst⁻¹
+      (λ (w : SubmitWay). Invariant (leftWith laid st (sessionAfter w (st .session) t lengths (st .ring)) (ringAfter w (st .session) t lengths (st .ring)))) e
       (record {
         guarded = v .guarded;
         fits = accepted-fits st t lengths v h;

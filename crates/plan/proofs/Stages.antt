@@ -40,7 +40,8 @@ module _ (r : DataRequest) (a : List ℕ) (e : dataAnswer r (length a) ≡ Plann
   pub toggle : toggleAfter (sizeOf r) (r .toggle .0) (dataStages r) ≡ advanced (r .toggle .0) (packets (r .len) (sizeOf r))
   toggle =
       let f = accepted r (length a) e in
-      stages-toggle (dataHcchar r) (sizeOf r) 4 (countOf r) (r .len) (r .base) 0 (r .toggle .0) (omega arith) (packets-some (r .len) (chunkOf (sizeOf r))) (omega arith)
+      stages-toggle (dataHcchar r) (sizeOf r) 4 (countOf r) (r .len) (r .base) 0 (r .toggle .0) (omega arith) (packets-some (r .len) (chunkOf (sizeOf r)))
+      (omega arith)
       (λ h. ⊎-elim (λ z. absurd (empty z h)) (parts-below (r .len) (chunkOf (sizeOf r))) (eq-zero-or-pos (r .len)))
     where
       empty : r .len ≡ 0 → 256 < countOf r → ⊥
@@ -54,7 +55,8 @@ module _ (r : DataRequest) (a : List ℕ) (e : dataAnswer r (length a) ≡ Plann
   pub toggle-empty : r .len ≡ 0 → dataPlan r (length a) .toggle .0 ≡ not (r .toggle .0)
   toggle-empty z =
       toggle-handed-back
-      ∙ advanced-odd (r .toggle .0) (packets (r .len) (sizeOf r)) (ap (λ (l : ℕ). packets l (sizeOf r) % 2) z ∙ ap (λ (n : ℕ). n % 2) (empty-is-one-packet (sizeOf r)))
+      ∙ advanced-odd (r .toggle .0) (packets (r .len) (sizeOf r))
+      (ap (λ (l : ℕ). packets l (sizeOf r) % 2) z ∙ ap (λ (n : ℕ). n % 2) (empty-is-one-packet (sizeOf r)))
 
   -- ---- the stages
 
@@ -69,7 +71,9 @@ module _ (r : DataRequest) (a : List ℕ) (e : dataAnswer r (length a) ≡ Plann
   stages-few = let f = accepted r (length a) e in omega (arith, stages-number)
 
   -- The plan hands back their number, and the stages in their order.
-  pub stages-handed-back : (dataPlan r (length a) .count ≡ length (dataStages r)) × ((i : ℕ) → i < length (dataStages r) → getD (dataPlan r (length a) .stages) i blankStage ≡ stageAt r i)
+  pub stages-handed-back :
+      (dataPlan r (length a) .count ≡ length (dataStages r))
+      × ((i : ℕ) → i < length (dataStages r) → getD (dataPlan r (length a) .stages) i blankStage ≡ stageAt r i)
   stages-handed-back = (
     ap (λ (p : Dwc2DataPlan). p .count) plan-is,
     λ i h. ap (λ (p : Dwc2DataPlan). getD (p .stages) i blankStage) plan-is ∙ List·getD-append (dataStages r) _ blankStage i h,
@@ -118,9 +122,12 @@ module _ (r : DataRequest) (a : List ℕ) (e : dataAnswer r (length a) ≡ Plann
   stage-rest i h = omega (arith, stage-descs i (omega arith), stages-number)
 
   -- Only the last descriptor of a stage ends one: with `end-read` and `interrupt-read`, only it has end of list and interrupt.
-  pub stage-ends : (i j : ℕ) → i < length (dataStages r) → j < stageAt r i .descs → ends (stageAt r i .«desc_base» + j) (countOf r) ≡ eqb (j + 1) (stageAt r i .descs)
+  pub stage-ends :
+      (i j : ℕ) → i < length (dataStages r) → j < stageAt r i .descs → ends (stageAt r i .«desc_base» + j) (countOf r) ≡ eqb (j + 1) (stageAt r i .descs)
   stage-ends i j h l =
-      ap (λ (b : ℕ). ends (b + j) (countOf r)) (stage-from i h) ∙ ends-stage (countOf r) i j (omega (arith, stage-descs i h)) ∙ ap (eqb (j + 1)) (sym (stage-descs i h))
+      ap (λ (b : ℕ). ends (b + j) (countOf r)) (stage-from i h)
+      ∙ ends-stage (countOf r) i j (omega (arith, stage-descs i h))
+      ∙ ap (eqb (j + 1)) (sym (stage-descs i h))
 
   -- The address of a stage is the base plus the lengths of all descriptors before it: here version one went wrong after a dip.
   pub stage-address : (i : ℕ) → i < length (dataStages r) → stageAt r i .«dma_addr» ≡ r .base + bytesBefore r (256 * i)
@@ -164,7 +171,8 @@ module _ (r : DataRequest) (a : List ℕ) (e : dataAnswer r (length a) ≡ Plann
   stage-pid i h =
       let size : max 1 (sizeOf r) ≡ sizeOf r = omega arith in
       ap (λ (s : Dwc2TransferStage). s .hctsiz) (stage-is i h)
-      ∙ ap₂ (λ (b m : ℕ). hctsizWord (pidOfToggle (advanced (r .toggle .0) (b / m))) (min 256 (countOf r - 256 * i)) 0) (sym (before-is r (256 * i) (begun i h))) size
+      ∙ ap₂ (λ (b m : ℕ). hctsizWord (pidOfToggle (advanced (r .toggle .0) (b / m))) (min 256 (countOf r - 256 * i)) 0)
+      (sym (before-is r (256 * i) (begun i h))) size
       ∙ ap (λ (n : ℕ). hctsizWord (pidOfToggle (advanced (r .toggle .0) (bytesBefore r (256 * i) / sizeOf r))) n 0) (sym (stage-descs i h))
 
   -- All stages program the channel alike.

@@ -67,7 +67,8 @@ before-is r k h =
 hcchar-way : (r : DataRequest) → isSet directionIn (dataHcchar r) ≡ isIn (r .direction)
 hcchar-way r =
     ap (λ (x : ℕ). eqb x 1)
-    (hcchar-fields (r .device) (r .endpoint) (r .direction) (epTypeOf (r .kind)) (sizeOf r) (isLow (r .«port_speed»)) 1 (oddOf (r .kind) (r .«odd_frame»)) 2 (omega arith))
+    (hcchar-fields (r .device) (r .endpoint) (r .direction) (epTypeOf (r .kind)) (sizeOf r) (isLow (r .«port_speed»)) 1 (oddOf (r .kind) (r .«odd_frame»)) 2
+    (omega arith))
     ∙ go (r .direction)
   where
     go : (d : Direction) → eqb (directionNumber d % 2) 1 ≡ isIn d
@@ -99,7 +100,8 @@ module _ (r : DataRequest) (a : List ℕ) (e : dataAnswer r (length a) ≡ Plann
       let f = facts in
       let none : 0 * chunkOf (sizeOf r) ≡ 0 = zero-mul (chunkOf (sizeOf r)) in
       subst⁻¹ (Filled (r .len) (sizeOf r) (isIn (r .direction)) (r .base) 0 (countOf r) a) array-is
-      (stages-laid (dataHcchar r) (sizeOf r) (isIn (r .direction)) (hcchar-size r (f .size)) (hcchar-way r) (r .len) (r .base) 4 (countOf r) (r .len) (r .base) 0 (r .toggle .0) a
+      (stages-laid (dataHcchar r) (sizeOf r) (isIn (r .direction)) (hcchar-size r (f .size)) (hcchar-way r) (r .len) (r .base) 4 (countOf r) (r .len) (r .base)
+      0 (r .toggle .0) a
       (packets-some (r .len) (chunkOf (sizeOf r))) (omega arith) (zero-add (countOf r)) (omega arith) (omega arith) refl (omega arith))
 
   -- ---- addresses
@@ -145,7 +147,8 @@ module _ (r : DataRequest) (a : List ℕ) (e : dataAnswer r (length a) ≡ Plann
 
   -- The status word of a descriptor counts its own length, rounded up to whole packets for IN, and marks the last descriptor of each stage:
   -- each 256th, and the very last.
-  pub counts : (k : ℕ) → k < countOf r → statusAt (dataArray r a) k ≡ chainStatus (initialLen (lengthAt r k) (sizeOf r) (isIn (r .direction))) (ends k (countOf r))
+  pub counts :
+      (k : ℕ) → k < countOf r → statusAt (dataArray r a) k ≡ chainStatus (initialLen (lengthAt r k) (sizeOf r) (isIn (r .direction))) (ends k (countOf r))
   counts k h = filled .statuses k (omega arith) h
 
   -- The byte count in it is that length: the field of 17 bits cuts nothing off.
@@ -158,7 +161,8 @@ module _ (r : DataRequest) (a : List ℕ) (e : dataAnswer r (length a) ≡ Plann
 
   -- Every descriptor is active, so that the controller leaves none out.
   pub active-read : (k : ℕ) → k < countOf r → get active (statusAt (dataArray r a) k) ≡ 1
-  active-read k h = ap (get active) (counts k h) ∙ chain-fields (initialLen (lengthAt r k) (sizeOf r) (isIn (r .direction))) (ends k (countOf r)) 3 (omega arith)
+  active-read k h =
+      ap (get active) (counts k h) ∙ chain-fields (initialLen (lengthAt r k) (sizeOf r) (isIn (r .direction))) (ends k (countOf r)) 3 (omega arith)
 
   -- End of list stands exactly where a stage ends: the controller neither stops early nor runs on into the next stage.
   pub end-read : (k : ℕ) → k < countOf r → get endOfList (statusAt (dataArray r a) k) ≡ flagOf (ends k (countOf r))

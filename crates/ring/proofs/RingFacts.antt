@@ -68,7 +68,11 @@ gap-least g c t d h e =
     let x = g - t % g in
     let sum : t + d + x ≡ d + t / g * g + g = omega (arith, div-add-mod' t g) in
     let same : gridGap g c t ≡ d % g =
-    ap (λ (y : ℕ). (y + x) % g) (sym e) ∙ mod-add-mod (t + d) g x ∙ ap (λ (y : ℕ). y % g) sum ∙ add-mod-right (d + t / g * g) g ∙ add-mul-mod-self-right d (t / g) g in
+    ap (λ (y : ℕ). (y + x) % g) (sym e)
+    ∙ mod-add-mod (t + d) g x
+    ∙ ap (λ (y : ℕ). y % g) sum
+    ∙ add-mod-right (d + t / g * g) g
+    ∙ add-mul-mod-self-right d (t / g) g in
     subst⁻¹ (λ (y : ℕ). y ≤ d) same (mod-le d g)
 
 module _ (c t interval R : ℕ) (pos : 0 < R) where
@@ -103,7 +107,9 @@ module _ (start interval : ℕ) (speed : Speed) where
   service-frames-length : length (serviceFrames start interval speed) ≡ 64 / gcd (frameStep speed interval) 64
   service-frames-length = ap length service-frames-are ∙ length-slotsFrom 64 (start % 64) (frameStep speed interval) 0 (64 / gcd (frameStep speed interval) 64)
 
-  service-frames-at : (k : ℕ) → k < length (serviceFrames start interval speed) → getD (serviceFrames start interval speed) k 0 ≡ slotAt 64 (start % 64) (frameStep speed interval) k
+  service-frames-at :
+      (k : ℕ) → k < length (serviceFrames start interval speed)
+      → getD (serviceFrames start interval speed) k 0 ≡ slotAt 64 (start % 64) (frameStep speed interval) k
   service-frames-at k h =
       ap (λ (l : List ℕ). getD l k 0) service-frames-are
       ∙ getD-slotsFrom 64 (start % 64) (frameStep speed interval) 0 (64 / gcd (frameStep speed interval) 64) k (omega (arith, service-frames-length))
@@ -115,14 +121,18 @@ module _ (start interval : ℕ) (speed : Speed) where
       omega (arith, service-frames-length, turns-pos 64 (frameStep speed interval) (omega arith), div-le-self 64 (gcd (frameStep speed interval) 64))
 
   -- They are distinct.
-  pub service-frames-apart : (j k : ℕ) → j < k → k < length (serviceFrames start interval speed) → getD (serviceFrames start interval speed) j 0 ≡ getD (serviceFrames start interval speed) k 0 → ⊥
+  pub service-frames-apart :
+      (j k : ℕ) → j < k → k < length (serviceFrames start interval speed)
+      → getD (serviceFrames start interval speed) j 0 ≡ getD (serviceFrames start interval speed) k 0 → ⊥
   service-frames-apart j k l h e =
       let d : k ≡ j + (k - j) = omega arith in
       steps-apart 64 (frameStep speed interval) (omega arith) (start % 64) j (k - j) (omega arith) (omega (arith, service-frames-length))
       (sym (service-frames-at j (omega arith)) ∙ e ∙ service-frames-at k h ∙ ap (slotAt 64 (start % 64) (frameStep speed interval)) d)
 
   -- The step after the last is the first.
-  pub service-frames-round : (k : ℕ) → k + 1 ≡ length (serviceFrames start interval speed) → (getD (serviceFrames start interval speed) k 0 + frameStep speed interval) % 64 ≡ getD (serviceFrames start interval speed) 0 0
+  pub service-frames-round :
+      (k : ℕ) → k + 1 ≡ length (serviceFrames start interval speed)
+      → (getD (serviceFrames start interval speed) k 0 + frameStep speed interval) % 64 ≡ getD (serviceFrames start interval speed) 0 0
   service-frames-round k e =
       let last : suc k ≡ 64 / gcd (frameStep speed interval) 64 = omega (arith, service-frames-length) in
       ap (λ (x : ℕ). (x + frameStep speed interval) % 64) (service-frames-at k (omega arith)) ∙ next-slot 64 (start % 64) (frameStep speed interval) k

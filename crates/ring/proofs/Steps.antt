@@ -61,7 +61,8 @@ module _ (R i : ℕ) (pos : 0 < R) where
       ap (λ (x : ℕ). (s + x) % R) whole ∙ add-mul-mod-self-left s R (i / g)
 
   -- a walk from a slot, by i until the slot comes again, visits the slots of R/g packets: fuel above what is left changes nothing
-  pub walk-visits : (s : ℕ) → s < R → (fuel k left : ℕ) → k + left ≡ R / gcd i R → 0 < left → left ≤ fuel → walk R i s fuel (slotAt R s i k) ≡ slotsFrom R s i k left
+  pub walk-visits :
+      (s : ℕ) → s < R → (fuel k left : ℕ) → k + left ≡ R / gcd i R → 0 < left → left ≤ fuel → walk R i s fuel (slotAt R s i k) ≡ slotsFrom R s i k left
   unfolding walk
   walk-visits s below zero k left e h l = absurd (omega arith)
   walk-visits s below (suc fuel) k zero e h l = absurd (omega arith)
@@ -71,7 +72,9 @@ module _ (R i : ℕ) (pos : 0 < R) where
       ap (λ (b : Bool). slotAt R s i k ∷ unlessBack b (walk R i s fuel ((slotAt R s i k + i) % R))) (eq-eqb _ _ back)
   walk-visits s below (suc fuel) k (suc (suc left)) e h l =
       let on : (slotAt R s i k + i) % R ≡ s → ⊥ =
-      λ back. steps-apart s 0 (suc k) (omega arith) (omega arith) (first-slot R s i ∙ mod-eq-of-lt below ∙ sym back ∙ next-slot R s i k ∙ ap (slotAt R s i) (sym (zero-add (suc k)))) in
+      λ back.
+      steps-apart s 0 (suc k) (omega arith) (omega arith)
+      (first-slot R s i ∙ mod-eq-of-lt below ∙ sym back ∙ next-slot R s i k ∙ ap (slotAt R s i) (sym (zero-add (suc k)))) in
       ap (λ (b : Bool). slotAt R s i k ∷ unlessBack b (walk R i s fuel ((slotAt R s i k + i) % R))) (ne-eqb _ _ on)
       ∙ ap (λ (x : ℕ). slotAt R s i k ∷ walk R i s fuel x) (next-slot R s i k)
       ∙ ap (λ (l : List ℕ). slotAt R s i k ∷ l) (walk-visits s below fuel (suc k) (suc left) (omega arith) (omega arith) (omega arith))

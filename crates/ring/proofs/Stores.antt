@@ -76,7 +76,8 @@ stored-none left xs ring e = rw e
 
 module _ (R insert step i addr : ℕ) (lengths : List ℕ) where
   -- no packet is left: the ring stays
-  pub stored-end : (left : ℕ) (ring : List ℕ) → length lengths ≤ i → ring ≡ stored (take left (map asWord (storesFrom R insert step i addr (drop i lengths)))) ring
+  pub stored-end :
+      (left : ℕ) (ring : List ℕ) → length lengths ≤ i → ring ≡ stored (take left (map asWord (storesFrom R insert step i addr (drop i lengths)))) ring
   stored-end left ring h = rw (drop-of-length-le lengths h, take-nil {A = Store} left)
 
   module _ (slot low : ℕ) (d : DmaDescriptor) (h : i < length lengths) (at : slot ≡ slotAt R insert step i) (wraps : low ≡ addr % 4_294_967_296)

@@ -1,4 +1,5 @@
-// The sums of the descriptor ring, and the packets of a submission stored into it: document 01, "Ring sums" and "Submit". Every function answers for every input, and none has a `requires`.
+// The sums of the descriptor ring, and the packets of a submission stored into it: document 01, "Ring sums" and "Submit".
+// Every function answers for every input, and none has a `requires`.
 mod frames;
 mod grid;
 mod pid;

@@ -26,7 +26,8 @@ pub fn store_packets(
     lengths: &[u32],
     words: u32,
 )
-    ensures { λ _. ⌜ now (ring .exit) ≡ stored (take words (map asWord (storesFrom (max 1 slots) insert step 0 base (now (lengths .entry))))) (now (ring .entry)) ⌝ }
+    ensures { λ _. ⌜ now (ring .exit)
+        ≡ stored (take words (map asWord (storesFrom (max 1 slots) insert step 0 base (now (lengths .entry))))) (now (ring .entry)) ⌝ }
 {
     let mut slot = insert % at_least_one(slots);
     let mut addr = base;

@@ -234,7 +234,9 @@ impl IsoChannelState {
         ring: &mut [u32],
         results: &mut [u64],
     ) -> Reclaimed
-        ensures { λ r. ⌜ (r ≡ reclaimed self id event (now (ring .entry)) (length (now (results .entry)))) × (now (ring .exit) ≡ reclaimedRing self id event (now (ring .entry)) (length (now (results .entry)))) × (now (results .exit) ≡ reclaimedResults self id event (now (ring .entry)) (now (results .entry))) ⌝ }
+        ensures { λ r. ⌜ (r ≡ reclaimed self id event (now (ring .entry)) (length (now (results .entry))))
+            × (now (ring .exit) ≡ reclaimedRing self id event (now (ring .entry)) (length (now (results .entry))))
+            × (now (results .exit) ≡ reclaimedResults self id event (now (ring .entry)) (now (results .entry))) ⌝ }
     {
         let words = ring_words(self.cfg);
         if (ring.len() < words) | (results.len() < 255) {

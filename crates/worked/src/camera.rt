@@ -134,7 +134,10 @@ fn transfer(reading: u32, bytes: u32) -> IsoTransfer
 
 // Raw 8 starts at frame 10: the two packets go to slots 10 and 11.
 fn pending(mode: IsoMode, ring: &mut [u32]) -> IsoChannelState
-    ensures { λ r. ⌜ (r ≡ submitted (idleSession (cameraConfig Full 1 mode)) (cameraTransfer 8 384) (192 ∷ 192 ∷ []) (openedRing (cameraConfig Full 1 mode) (now (ring .entry))) .session) × (now (ring .exit) ≡ submittedRing (idleSession (cameraConfig Full 1 mode)) (cameraTransfer 8 384) (192 ∷ 192 ∷ []) (openedRing (cameraConfig Full 1 mode) (now (ring .entry)))) ⌝ }
+    ensures { λ r. ⌜ (r ≡ submitted (idleSession (cameraConfig Full 1 mode)) (cameraTransfer 8 384) (192 ∷ 192 ∷ [])
+        (openedRing (cameraConfig Full 1 mode) (now (ring .entry))) .session)
+        × (now (ring .exit) ≡ submittedRing (idleSession (cameraConfig Full 1 mode)) (cameraTransfer 8 384) (192 ∷ 192 ∷ [])
+        (openedRing (cameraConfig Full 1 mode) (now (ring .entry)))) ⌝ }
 {
     let opened = IsoChannelState::open(config(Speed::Full, 1, mode), ring);
     let done = opened.session.submit(transfer(8, 384), &[192, 192], ring);
@@ -142,7 +145,8 @@ fn pending(mode: IsoMode, ring: &mut [u32]) -> IsoChannelState
 }
 
 fn again(session: IsoChannelState, ring: &mut [u32]) -> SubmitAnswer
-    ensures { λ r. ⌜ (r ≡ submitted session (cameraTransfer 71 384) (192 ∷ 192 ∷ []) (now (ring .entry)) .answer) × (now (ring .exit) ≡ submittedRing session (cameraTransfer 71 384) (192 ∷ 192 ∷ []) (now (ring .entry))) ⌝ }
+    ensures { λ r. ⌜ (r ≡ submitted session (cameraTransfer 71 384) (192 ∷ 192 ∷ []) (now (ring .entry)) .answer)
+        × (now (ring .exit) ≡ submittedRing session (cameraTransfer 71 384) (192 ∷ 192 ∷ []) (now (ring .entry))) ⌝ }
 {
     let done = session.submit(transfer(71, 384), &[192, 192], ring);
     done.answer

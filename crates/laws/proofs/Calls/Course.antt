@@ -34,7 +34,8 @@ use Rattle.session.specs.Reclaim.{isFound, reclaimedRing}
 use Rattle.laws.proofs.Calls.WellFormed.{WellFormed, facts, Call, Submit, Poll, Reclaim, Cancel, Reset, Recover}
 use Rattle.session.proofs.Laws.Record.{Sound}
 use Rattle.session.proofs.Laws.Admitted.{admitted, told-of}
-use Rattle.session.proofs.Laws.Ended.{packets, map-amend, ended-packets}
+use Rattle.session.proofs.Laws.Lists.{map-amend}
+use Rattle.session.proofs.Laws.Ended.{packets, ended-packets}
 use Rattle.session.proofs.Laws.Stores.{stores-some, first-stores-some}
 use Rattle.laws.proofs.Calls.Drained.{number, slot, drained-leaves, drained-none}
 use Rattle.session.proofs.Laws.Polls.{by-way}

@@ -16,10 +16,10 @@ use Rattle.session.specs.declared.types.IsoChannelState.{IsoChannelState}
 use Rattle.session.specs.Session.{blankRequest, blankPlan}
 use Rattle.session.specs.Settle.{settledPlan, oldest, oldestFrom, oldestTo, oldestPlans, settledPlans, settledRequest, slotsCleared, Drained}
 use Rattle.session.specs.Settle.{settledSession, settledRing, isServed, drain, drained}
-use Rattle.session.proofs.Laws.Lists.{getD-slice, getD-sets-before}
+use Rattle.session.proofs.Laws.Lists.{getD-slice, getD-sets-before, map-amend}
 use Rattle.session.proofs.Laws.Sums.{packets-next, packets-past, packets-split}
 use Rattle.session.proofs.Laws.Record.{Sound}
-use Rattle.session.proofs.Laws.Ended.{packets, packets-kept, map-amend}
+use Rattle.session.proofs.Laws.Ended.{packets, packets-kept}
 use Rattle.session.proofs.Laws.Settled.{oldest-in, settled-sound, drained-past, drained-stop, drained-next}
 use Rattle.session.proofs.Laws.Tests.{chosen}
 

@@ -19,16 +19,17 @@ use Rattle.session.specs.End.{withOutcome, ended, endedRing}
 use Rattle.session.specs.Poll.{recoveredRing}
 use Rattle.session.specs.Poll.{reply, recovered}
 use Rattle.laws.specs.Ending.{IdleAfter, Disconnected}
-use Rattle.session.proofs.Laws.Lists.{getD-sets-before}
+use Rattle.session.proofs.Laws.Lists.{getD-sets-before, getD-amended}
 use Rattle.session.proofs.Laws.Record.{Sound, sound, not-bad}
 use Rattle.session.proofs.Laws.Replies.{lent-done}
-use Rattle.session.proofs.Laws.Ended.{getD-amended, recovered-sound}
+use Rattle.session.proofs.Laws.Ended.{recovered-sound}
 
 -- ---- recovery, where the ring is long enough and the record good
 
 module _ (s : IsoChannelState) (ring : List ℕ) (long : ringWords (s .cfg) ≤ length ring) (good : isBadRecord s ≡ false) where
-  recovery : (recovered s (length ring) ≡ reply answer.Done false false (ended outcome.Disconnected s)) × (recoveredRing s ring ≡ endedRing s ring)
-  recovery = lent-done s ring (reply answer.Done false false (ended outcome.Disconnected s)) (endedRing s ring) (le-ltb (length ring) (ringWords (s .cfg)) long) good
+  pub recovery : (recovered s (length ring) ≡ reply answer.Done false false (ended outcome.Disconnected s)) × (recoveredRing s ring ≡ endedRing s ring)
+  recovery =
+      lent-done s ring (reply answer.Done false false (ended outcome.Disconnected s)) (endedRing s ring) (le-ltb (length ring) (ringWords (s .cfg)) long) good
 
   pub recovery-answers : recovered s (length ring) .answer ≡ answer.Done
   recovery-answers = ap (λ (r : IsoReply). r .answer) (recovery .0)
@@ -62,7 +63,10 @@ module _ (s : IsoChannelState) (ring : List ℕ) (long : ringWords (s .cfg) ≤ 
 
   -- what stands in the ring does not matter: any other gives the same session and the same answer
   pub recovery-same : (other : List ℕ) → ringWords (s .cfg) ≤ length other → recovered s (length other) ≡ recovered s (length ring)
-  recovery-same other h = lent-done s other (reply answer.Done false false (ended outcome.Disconnected s)) (endedRing s other) (le-ltb (length other) (ringWords (s .cfg)) h) good .0 ∙ sym (recovery .0)
+  recovery-same other h =
+      lent-done s other (reply answer.Done false false (ended outcome.Disconnected s)) (endedRing s other) (le-ltb (length other) (ringWords (s .cfg)) h)
+      good .0
+      ∙ sym (recovery .0)
 
   -- ---- the requests, in tables of their lengths
 
@@ -76,7 +80,8 @@ module _ (s : IsoChannelState) (ring : List ℕ) (long : ringWords (s .cfg) ≤ 
     recovery-fails i h k =
         let e : getD (recovered s (length ring) .session .requests) i blankRequest ≡ withOutcome outcome.Disconnected (getD (s .requests) i blankRequest) =
         ap (λ (r : IsoReply). getD (r .session .requests) i blankRequest) (recovery .0)
-        ∙ getD-amended (withOutcome outcome.Disconnected) (s .head .done) (s .head .count) i (s .requests) blankRequest h k (omega (arith, facts .count-in, requests-long)) in
+        ∙ getD-amended (withOutcome outcome.Disconnected) (s .head .done) (s .head .count) i (s .requests) blankRequest h k
+        (omega (arith, facts .count-in, requests-long)) in
         subst⁻¹ (Disconnected (getD (s .requests) i blankRequest)) e (record { outcome = refl; id = refl; packets = refl; length-moved = refl })
 
     pub recovery-keeps :

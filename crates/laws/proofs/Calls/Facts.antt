@@ -158,7 +158,8 @@ module _ (s : IsoChannelState) (t : IsoTransfer) (lengths ring : List ℕ) where
   unplugged-first = ⊎-elim (λ h. told-of s t lengths ring Early h .1) (λ h. told-of s t lengths ring Late h .1)
 
   -- The whole ring becomes zero; words behind it stay.
-  pub unplugged-ring : (submitWay s t lengths ring ≡ Early) ⊎ (submitWay s t lengths ring ≡ Late) → submittedRing s t lengths ring ≡ cleared (ringWords (s .cfg)) ring
+  pub unplugged-ring :
+      (submitWay s t lengths ring ≡ Early) ⊎ (submitWay s t lengths ring ≡ Late) → submittedRing s t lengths ring ≡ cleared (ringWords (s .cfg)) ring
   unplugged-ring = ⊎-elim (λ h. ap (λ (w : SubmitWay). ringAfter w s t lengths ring) h) (λ h. ap (λ (w : SubmitWay). ringAfter w s t lengths ring) h)
 
   -- Cursor and start become zero, a request number is spent, and all else is as it came.

@@ -96,49 +96,26 @@ held-test s t lengths ring h =
     any-held-where (pendingPlans s) (slotsFrom R insert step 0 n) (h .i) (subst⁻¹ (λ (k : ℕ). h .i < k) (length-slotsFrom R insert step 0 n) (h .packet))
     (held-where (pendingPlans s) (getD (slotsFrom R insert step 0 n) (h .i) 0) (h .k) (h .pending) (h .same ∙ sym at))
 
--- what each way leaves is the same in both modes, but for the mode
-same-session :
-    (way : SubmitWay) (s : IsoChannelState) (t : IsoTransfer) (lengths ring : List ℕ)
-    → inMode Guarded (sessionAfter way (inMode Compatible s) t lengths ring) ≡ sessionAfter way (inMode Guarded s) t lengths ring
-same-session (Refuse n) s t lengths ring = refl
-same-session (TooLong i) s t lengths ring = refl
-same-session (Spend n) s t lengths ring = refl
-same-session Early s t lengths ring = refl
-same-session Cut s t lengths ring = refl
-same-session Late s t lengths ring = refl
-same-session Accept s t lengths ring = refl
+-- what each way answers and leaves is the same in both modes, but for the mode
+record Alike (way : SubmitWay) (s : IsoChannelState) (t : IsoTransfer) (lengths ring : List ℕ) : Type 0 where
+  session : inMode Guarded (sessionAfter way (inMode Compatible s) t lengths ring) ≡ sessionAfter way (inMode Guarded s) t lengths ring
+  words : ringAfter way (inMode Guarded s) t lengths ring ≡ ringAfter way (inMode Compatible s) t lengths ring
+  answer : answerOf way (inMode Guarded s) ≡ answerOf way (inMode Compatible s)
+  start : startAfter way (inMode Guarded s) t ≡ startAfter way (inMode Compatible s) t
 
-same-ring :
-    (way : SubmitWay) (s : IsoChannelState) (t : IsoTransfer) (lengths ring : List ℕ)
-    → ringAfter way (inMode Guarded s) t lengths ring ≡ ringAfter way (inMode Compatible s) t lengths ring
-same-ring (Refuse n) s t lengths ring = refl
-same-ring (TooLong i) s t lengths ring = refl
-same-ring (Spend n) s t lengths ring = refl
-same-ring Early s t lengths ring = refl
-same-ring Cut s t lengths ring = refl
-same-ring Late s t lengths ring = refl
-same-ring Accept s t lengths ring = refl
-
-same-answer : (way : SubmitWay) (s : IsoChannelState) → answerOf way (inMode Guarded s) ≡ answerOf way (inMode Compatible s)
-same-answer (Refuse n) s = refl
-same-answer (TooLong i) s = refl
-same-answer (Spend n) s = refl
-same-answer Early s = refl
-same-answer Cut s = refl
-same-answer Late s = refl
-same-answer Accept s = refl
-
-same-start : (way : SubmitWay) (s : IsoChannelState) (t : IsoTransfer) → startAfter way (inMode Guarded s) t ≡ startAfter way (inMode Compatible s) t
-same-start (Refuse n) s t = refl
-same-start (TooLong i) s t = refl
-same-start (Spend n) s t = refl
-same-start Early s t = refl
-same-start Cut s t = refl
-same-start Late s t = refl
-same-start Accept s t = refl
+alike : (way : SubmitWay) (s : IsoChannelState) (t : IsoTransfer) (lengths ring : List ℕ) → Alike way s t lengths ring
+alike (Refuse n) s t lengths ring = record { session = refl; words = refl; answer = refl; start = refl }
+alike (TooLong i) s t lengths ring = record { session = refl; words = refl; answer = refl; start = refl }
+alike (Spend n) s t lengths ring = record { session = refl; words = refl; answer = refl; start = refl }
+alike Early s t lengths ring = record { session = refl; words = refl; answer = refl; start = refl }
+alike Cut s t lengths ring = record { session = refl; words = refl; answer = refl; start = refl }
+alike Late s t lengths ring = record { session = refl; words = refl; answer = refl; start = refl }
+alike Accept s t lengths ring = record { session = refl; words = refl; answer = refl; start = refl }
 
 -- the answer 13 comes by one way
-thirteen : (way : SubmitWay) (s : IsoChannelState) (t : IsoTransfer) (lengths ring : List ℕ) → Told s t lengths ring way → answerOf way s ≡ answer.Refused 13 → way ≡ Spend 13
+thirteen :
+    (way : SubmitWay) (s : IsoChannelState) (t : IsoTransfer) (lengths ring : List ℕ) → Told s t lengths ring way → answerOf way s ≡ answer.Refused 13
+    → way ≡ Spend 13
 thirteen (Refuse n) s t lengths ring h e =
     let n-is : n ≡ 13 = cc in
     absurd (⊎-elim (λ (q : n ≡ 17). omega arith) (⊎-elim (λ (q : n ≡ 18). omega arith) (λ q. omega arith)) (entry-number s t lengths ring n (h .0) (h .1)))
@@ -151,7 +128,9 @@ thirteen Accept s t lengths ring h e = let z : _≡_ {A = ℕ} 0 1 = cc in absur
 
 module _ (s : IsoChannelState) (t : IsoTransfer) (lengths ring : List ℕ) where
   -- Where guarded mode does not go the way of refusal 13, it goes the way of compatible mode.
-  pub guarded-way : (submitWay (inMode Guarded s) t lengths ring ≡ Spend 13 → ⊥) → submitWay (inMode Guarded s) t lengths ring ≡ submitWay (inMode Compatible s) t lengths ring
+  pub guarded-way :
+      (submitWay (inMode Guarded s) t lengths ring ≡ Spend 13 → ⊥)
+      → submitWay (inMode Guarded s) t lengths ring ≡ submitWay (inMode Compatible s) t lengths ring
   guarded-way h =
       let e = entryRefusal s t (length lengths) (length ring) in
       without-last (Refuse e) (TooLong (tooLong s lengths)) (gateWay s t (length lengths)) (not (eqb e 0)) (ltb (tooLong s lengths) (length lengths))
@@ -166,21 +145,21 @@ module _ (s : IsoChannelState) (t : IsoTransfer) (lengths ring : List ℕ) where
       (submitWay (inMode Guarded s) t lengths ring ≡ Spend 13 → ⊥)
       → submitted (inMode Guarded s) t lengths ring .answer ≡ submitted (inMode Compatible s) t lengths ring .answer
   guarded-answer h =
-      same-answer (submitWay (inMode Guarded s) t lengths ring) s ∙ ap (λ (w : SubmitWay). answerOf w (inMode Compatible s)) (guarded-way h)
+      alike (submitWay (inMode Guarded s) t lengths ring) s t lengths ring .answer ∙ ap (λ (w : SubmitWay). answerOf w (inMode Compatible s)) (guarded-way h)
 
   -- What is handed out for the channel is equal.
   pub guarded-start :
       (submitWay (inMode Guarded s) t lengths ring ≡ Spend 13 → ⊥)
       → submitted (inMode Guarded s) t lengths ring .start ≡ submitted (inMode Compatible s) t lengths ring .start
   guarded-start h =
-      same-start (submitWay (inMode Guarded s) t lengths ring) s t ∙ ap (λ (w : SubmitWay). startAfter w (inMode Compatible s) t) (guarded-way h)
+      alike (submitWay (inMode Guarded s) t lengths ring) s t lengths ring .start ∙ ap (λ (w : SubmitWay). startAfter w (inMode Compatible s) t) (guarded-way h)
 
   -- The rings are equal.
   pub guarded-ring :
       (submitWay (inMode Guarded s) t lengths ring ≡ Spend 13 → ⊥)
       → submittedRing (inMode Guarded s) t lengths ring ≡ submittedRing (inMode Compatible s) t lengths ring
   guarded-ring h =
-      same-ring (submitWay (inMode Guarded s) t lengths ring) s t lengths ring
+      alike (submitWay (inMode Guarded s) t lengths ring) s t lengths ring .words
       ∙ ap (λ (w : SubmitWay). ringAfter w (inMode Compatible s) t lengths ring) (guarded-way h)
 
   -- The sessions are equal but for their mode.
@@ -188,7 +167,7 @@ module _ (s : IsoChannelState) (t : IsoTransfer) (lengths ring : List ℕ) where
       (submitWay (inMode Guarded s) t lengths ring ≡ Spend 13 → ⊥)
       → inMode Guarded (submitted (inMode Compatible s) t lengths ring .session) ≡ submitted (inMode Guarded s) t lengths ring .session
   guarded-session h =
-      same-session (submitWay (inMode Compatible s) t lengths ring) s t lengths ring
+      alike (submitWay (inMode Compatible s) t lengths ring) s t lengths ring .session
       ∙ ap (λ (w : SubmitWay). sessionAfter w (inMode Guarded s) t lengths ring) (sym (guarded-way h))
 
   -- Guarded mode goes the way of refusal 13 exactly if a submission in compatible mode passes every test and a planned slot belongs to a pending request.
@@ -198,7 +177,9 @@ module _ (s : IsoChannelState) (t : IsoTransfer) (lengths ring : List ℕ) where
       there : submitWay (inMode Guarded s) t lengths ring ≡ Spend 13 → Admitted (inMode Compatible s) t lengths ring × SlotHeld s t lengths ring
       there h =
           let e = told-of (inMode Guarded s) t lengths ring (Spend 13) h in
-          let f = only-last (not (eqb (sum lengths) (t .«buffer_len»))) (isBeyond (t .base) (sum lengths)) (not (s .head .live) && not (t .«channel_free»)) (testHeld s t lengths ring) (e .2) in
+          let f =
+          only-last (not (eqb (sum lengths) (t .«buffer_len»))) (isBeyond (t .base) (sum lengths)) (not (s .head .live) && not (t .«channel_free»))
+          (testHeld s t lengths ring) (e .2) in
           let c : Clear (inMode Compatible s) t lengths ring = record { entry = e .0; short = e .1; spend = f .0 } in
           (admitted (inMode Compatible s) t lengths ring c, slot-held s t lengths ring (f .1))
 

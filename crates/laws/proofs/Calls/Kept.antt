@@ -9,7 +9,7 @@ use lib.Dec.{ltb}
 use lib.ListN.{length, getD, set, length-set}
 use lib.Seq.{sets, slice, getD-set-same, getD-set-other, length-sets}
 use borrow.Author.Tests.{ltb-true, ltb-false}
-use Rattle.ring.specs.RingSums.{packetLimit, slotAt}
+use Rattle.ring.specs.RingSums.{slotAt}
 use Rattle.ring.proofs.RingFacts.{ring-size-pos}
 use Rattle.session.specs.declared.types.IsoChannelState.{IsoChannelState}
 use Rattle.session.specs.declared.types.IsoRequest.{IsoRequest}
@@ -22,7 +22,8 @@ use Rattle.session.specs.Place.{insertOf, stepOf, plansFrom}
 use Rattle.session.specs.Way.{submitWay}
 use Rattle.session.specs.Submit.{withHead, spent, unplugged, newRequest, accepted, sessionAfter, submitted}
 use Rattle.session.proofs.Laws.Sums.{packets-append, room-few}
-use Rattle.session.proofs.Laws.Record.{Sound, GoodRequest, GoodPlan, renewed-sound}
+use Rattle.session.proofs.Laws.Record.{Sound, GoodRequest, renewed-sound}
+use Rattle.session.proofs.Laws.Settled.{Good}
 use Rattle.session.proofs.Laws.Stores.{newPlan, length-plansFrom, getD-plansFrom}
 use Rattle.session.proofs.Laws.Admitted.{Admitted, admitted, Told, told}
 use Rattle.session.proofs.Laws.Lists.{slice-pushed, getD-sets-before, getD-sets-in}
@@ -52,9 +53,6 @@ pushed s lengths = newRequest (s .head .«next_request_id») (length lengths)
 abbrev newPlans : IsoChannelState → IsoTransfer → List ℕ → List ℕ → List IsoPacketPlan
 newPlans s t lengths ring = plansFrom (slots (s .cfg)) (insertOf s t ring) (stepOf (s .cfg)) 0 lengths
 
-abbrev Good : IsoChannelState → IsoPacketPlan → Type 0
-Good s = GoodPlan (packetLimit (s .cfg .speed)) (slots (s .cfg))
-
 -- an accepted submission
 module _ (s : IsoChannelState) (t : IsoTransfer) (lengths ring : List ℕ) (g : Sound s) (h : Admitted s t lengths ring) where
   few : length lengths ≤ 255
@@ -81,7 +79,8 @@ module _ (s : IsoChannelState) (t : IsoTransfer) (lengths ring : List ℕ) (g : 
       go false e =
           let last : i ≡ s .head .count = omega (arith, ltb-false i (s .head .count) e) in
           let good : GoodRequest (pushed s lengths) = record { some = h .entry .some; few = few } in
-          subst⁻¹ GoodRequest (ap (λ (k : ℕ). getD (accepted s t lengths ring .requests) k blankRequest) last ∙ getD-set-same (s .requests) (s .head .count) (pushed s lengths) blankRequest fits) good
+          subst⁻¹ GoodRequest (ap (λ (k : ℕ). getD (accepted s t lengths ring .requests) k blankRequest) last
+          ∙ getD-set-same (s .requests) (s .head .count) (pushed s lengths) blankRequest fits) good
 
   -- and so is each plan
   plan-kept : (i : ℕ) → i < allPackets s + length lengths → Good s (getD (accepted s t lengths ring .plans) i blankPlan)

@@ -17,7 +17,7 @@ use Rattle.session.specs.Cancel.{placeOf, requestAt}
 use Rattle.session.specs.Reclaim.{requestOf, removed}
 use Rattle.session.proofs.Laws.Lists.{front-kept, getD-front, closed-parts}
 use Rattle.session.proofs.Laws.Record.{Sound}
-use Rattle.session.proofs.Laws.Ended.{map-slice}
+use Rattle.session.proofs.Laws.Lists.{map-slice}
 use Rattle.laws.proofs.Calls.Drained.{number}
 
 -- ---- in a list of requests

@@ -34,7 +34,9 @@ sets-two l i a b vs =
     ap₂ (λ (j k : ℕ). sets (set (set l i a) j b) k vs) one two
 
 -- stores into the part of a list from i on are stores into the list from i on
-pub sets-part : (l vs : List ℕ) (i : ℕ) → i + length vs ≤ length l → take i l ++ (sets (take (length l - i) (drop i l)) 0 vs ++ drop (length l - i) (drop i l)) ≡ sets l i vs
+pub sets-part :
+    (l vs : List ℕ) (i : ℕ) → i + length vs ≤ length l
+    → take i l ++ (sets (take (length l - i) (drop i l)) 0 vs ++ drop (length l - i) (drop i l)) ≡ sets l i vs
 sets-part l vs i h =
     let n : length l - i ≡ length (drop i l) = sym (length-drop i l) in
     rw (n, take-length, drop-length, append-nil, sets-eq vs (drop i l) 0 (omega (arith, length-drop i l)), sets-eq vs l i h, drop-drop, zero-add)
@@ -59,7 +61,8 @@ suc-less n = omega arith
 
 -- one descriptor, and the rest of the chain
 pub chain-more : (m : ℕ) (isIn : Bool) (left rest buf : ℕ) → 1 < left
-    → chainWords m isIn left rest buf ≡ chainStatus (initialLen (chunkOf m) m isIn) false ∷ buf ∷ chainWords m isIn (left - 1) (rest - chunkOf m) (buf + chunkOf m)
+    → chainWords m isIn left rest buf
+    ≡ chainStatus (initialLen (chunkOf m) m isIn) false ∷ buf ∷ chainWords m isIn (left - 1) (rest - chunkOf m) (buf + chunkOf m)
 chain-more m isIn zero rest buf h = absurd (omega arith)
 chain-more m isIn (suc zero) rest buf h = absurd (omega arith)
 chain-more m isIn (suc (suc n)) rest buf h =
@@ -70,7 +73,8 @@ chain-last m isIn left rest buf e = rw e
 
 -- a descriptor is stored: what is left of the chain, stored behind it, gives the whole
 pub store-more : (m : ℕ) (isIn : Bool) (left rest buf k at : ℕ) (l l′ : List ℕ) (d : DmaDescriptor) → 1 < left → k ≡ chunkOf m → d ≡ linkOf buf k m isIn false
-    → l′ ≡ set (set l at (d .status)) (at + 1) (d .paddr) → sets l′ (at + 2) (chainWords m isIn (left - 1) (rest - k) (buf + k)) ≡ sets l at (chainWords m isIn left rest buf)
+    → l′ ≡ set (set l at (d .status)) (at + 1) (d .paddr)
+    → sets l′ (at + 2) (chainWords m isIn (left - 1) (rest - k) (buf + k)) ≡ sets l at (chainWords m isIn left rest buf)
 store-more m isIn left rest buf k at l l′ d h e f g =
     rw (g, f, e, chain-more m isIn left rest buf h)
     (sym (sets-two l at (chainStatus (initialLen (chunkOf m) m isIn) false) buf (chainWords m isIn (left - 1) (rest - chunkOf m) (buf + chunkOf m))))
@@ -101,7 +105,9 @@ length-chain m isIn (suc (suc n)) len addr = omega (arith, length-chain m isIn (
 -- ---- a stage
 
 -- two words a descriptor at most: a setup stage has one descriptor
-long : (s : Dwc2TransferStage) → length (chainWords (get packetSize (s .hcchar)) (isSet directionIn (s .hcchar)) (s .descs) (s .len) (s .«dma_addr»)) ≤ 2 * s .descs
+long :
+    (s : Dwc2TransferStage)
+    → length (chainWords (get packetSize (s .hcchar)) (isSet directionIn (s .hcchar)) (s .descs) (s .len) (s .«dma_addr»)) ≤ 2 * s .descs
 long s = omega (arith, length-chain (get packetSize (s .hcchar)) (isSet directionIn (s .hcchar)) (s .descs) (s .len) (s .«dma_addr»))
 
 length-role : (r : Dwc2StageRole) (s : Dwc2TransferStage) → 0 < s .descs → length (roleWords r s) ≤ 2 * s .descs

@@ -101,20 +101,23 @@ plannable r words e =
       setup-reach = setup-fits;
       data-reach =
           λ h.
-          let f : isBeyond (r .«data_dma») bytes ≡ false = subst (λ (b : Bool). (b && isBeyond (r .«data_dma») bytes) ≡ false) (lt-ltb 0 (r .len) h) (then .0) in
+          let f : isBeyond (r .«data_dma») bytes ≡ false =
+          subst (λ (b : Bool). (b && isBeyond (r .«data_dma») bytes) ≡ false) (lt-ltb 0 (r .len) h) (then .0) in
           omega (arith, ltb-false 4_294_967_295 (r .«data_dma» + bytes) f, rounded-more (r .len) m (isIn (r .direction)));
       status-reach = status-within (statusWay r) (r .«setup_dma») (r .«status_dma») m (omega arith) (then .1);
     }
 
 -- So the one descriptor of a planned data stage holds all of its data.
-pub planned-one-descriptor : (r : ControlRequest) (words : ℕ) → controlAnswer r words ≡ Planned → splitOf (r .len) (controlSize (r .«max_packet_size»)) .count ≡ 1
+pub planned-one-descriptor :
+    (r : ControlRequest) (words : ℕ) → controlAnswer r words ≡ Planned → splitOf (r .len) (controlSize (r .«max_packet_size»)) .count ≡ 1
 planned-one-descriptor r words e =
     let f = plannable r words e in
     one-descriptor (r .len) (r .«max_packet_size») (f .short) (f .small)
 
 -- A stage of one descriptor fits where its descriptor and its bytes do.
 pub one-fits :
-    (role : Dwc2StageRole) (hcchar : ℕ) (pid : Dwc2Pid) (addr base len words : ℕ) → 2 * (base + 1) ≤ words → addr + len ≤ 4_294_967_295 → StageFits (stageOf role hcchar pid addr base 1 len) words
+    (role : Dwc2StageRole) (hcchar : ℕ) (pid : Dwc2Pid) (addr base len words : ℕ) → 2 * (base + 1) ≤ words → addr + len ≤ 4_294_967_295
+    → StageFits (stageOf role hcchar pid addr base 1 len) words
 one-fits role hcchar pid addr base len words room reach = record { some = omega arith; room = room; full = omega arith; reach = reach }
 
 -- the plan and the stages where there is data, and where there is none

@@ -43,7 +43,8 @@ few-fit len m small few =
 pub hcchar-size : (r : DataRequest) → r .«max_packet_size» ≤ 2047 → get packetSize (dataHcchar r) ≡ sizeOf r
 hcchar-size r h =
     let fits : sizeOf r < 2048 = omega arith in
-    hcchar-fields (r .device) (r .endpoint) (r .direction) (epTypeOf (r .kind)) (sizeOf r) (isLow (r .«port_speed»)) 1 (oddOf (r .kind) (r .«odd_frame»)) 0 (omega arith)
+    hcchar-fields (r .device) (r .endpoint) (r .direction) (epTypeOf (r .kind)) (sizeOf r) (isLow (r .«port_speed»)) 1 (oddOf (r .kind) (r .«odd_frame»)) 0
+    (omega arith)
     ∙ mod-eq-of-lt fits
 
 -- what an accepted request says of its numbers
@@ -156,14 +157,16 @@ pub turn :
     → a′ ≡ laidStage stage a
     → plan′ ≡ withStage m plan stage
     → (laidOut (ahead hcchar m plan′ (left - 256) (len - most) (addr + most) (base + 256)) a′ ≡ laidOut (ahead hcchar m plan left len addr base) a)
-    × (withStages m plan′ (ahead hcchar m plan′ (left - 256) (len - most) (addr + most) (base + 256)) ≡ withStages m plan (ahead hcchar m plan left len addr base))
+    × (withStages m plan′ (ahead hcchar m plan′ (left - 256) (len - most) (addr + most) (base + 256))
+    ≡ withStages m plan (ahead hcchar m plan left len addr base))
 turn hcchar m most left len addr base plan plan′ stage a a′ h l em es ea ep =
     let k = 256 * chunkOf m in
     let s = dataStage hcchar 256 k addr base (plan .toggle .0) in
     let es′ : stage ≡ s = es ∙ ap (λ (n : ℕ). dataStage hcchar 256 n addr base (plan .toggle .0)) em in
     let less : 4 - (plan .count + 1) ≡ 4 - plan .count - 1 = omega arith in
     let more = stages-more hcchar m (4 - plan .count) left len addr base (plan .toggle .0) (omega arith) l in
-    let rest : ℕ → List Dwc2TransferStage = λ n. stagesFrom hcchar m n (left - 256) (len - k) (addr + k) (base + 256) (advanced (plan .toggle .0) (packets k m)) in (
+    let rest : ℕ → List Dwc2TransferStage =
+    λ n. stagesFrom hcchar m n (left - 256) (len - k) (addr + k) (base + 256) (advanced (plan .toggle .0) (packets k m)) in (
       rw (ea, ep, es′, em) (ap (λ (n : ℕ). laidOut (rest n) (laidStage s a)) less ∙ ap (λ (ss : List Dwc2TransferStage). laidOut ss a) (sym more)),
       rw (ep, es′, em) (ap (λ (n : ℕ). withStages m (withStage m plan s) (rest n)) less ∙ ap (withStages m plan) (sym more)),
     )

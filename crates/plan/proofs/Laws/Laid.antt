@@ -40,14 +40,17 @@ sets-at l (v ∷ vs) i (suc k) f h =
 twice : (i : ℕ) → 2 * suc i ≡ suc (suc (2 * i))
 twice i = omega arith
 
-chain-inner : (m : ℕ) (isIn : Bool) (n len addr i : ℕ) → i + 1 < n → getD (chainWords m isIn n len addr) (2 * i) 0 ≡ chainStatus (initialLen (chunkOf m) m isIn) false
+chain-inner :
+    (m : ℕ) (isIn : Bool) (n len addr i : ℕ) → i + 1 < n → getD (chainWords m isIn n len addr) (2 * i) 0 ≡ chainStatus (initialLen (chunkOf m) m isIn) false
 chain-inner m isIn zero len addr i h = absurd (omega arith)
 chain-inner m isIn (suc zero) len addr i h = absurd (omega arith)
 chain-inner m isIn (suc (suc n)) len addr zero h = refl
 chain-inner m isIn (suc (suc n)) len addr (suc i) h =
-    ap (λ (j : ℕ). getD (chainWords m isIn (suc (suc n)) len addr) j 0) (twice i) ∙ chain-inner m isIn (suc n) (len - chunkOf m) (addr + chunkOf m) i (omega arith)
+    ap (λ (j : ℕ). getD (chainWords m isIn (suc (suc n)) len addr) j 0) (twice i)
+    ∙ chain-inner m isIn (suc n) (len - chunkOf m) (addr + chunkOf m) i (omega arith)
 
-chain-end : (m : ℕ) (isIn : Bool) (n len addr : ℕ) → getD (chainWords m isIn (suc n) len addr) (2 * n) 0 ≡ chainStatus (initialLen (len - n * chunkOf m) m isIn) true
+chain-end :
+    (m : ℕ) (isIn : Bool) (n len addr : ℕ) → getD (chainWords m isIn (suc n) len addr) (2 * n) 0 ≡ chainStatus (initialLen (len - n * chunkOf m) m isIn) true
 chain-end m isIn zero len addr =
     let all : len ≡ len - 0 * chunkOf m = omega (arith, zero-mul (chunkOf m)) in
     ap (λ (l : ℕ). chainStatus (initialLen l m isIn) true) all
@@ -64,7 +67,9 @@ chain-address m isIn (suc (suc n)) len addr zero h = omega (arith, zero-mul (chu
 chain-address m isIn (suc (suc n)) len addr (suc i) h =
     let e : 2 * suc i + 1 ≡ suc (suc (2 * i + 1)) = omega arith in
     let place : addr + chunkOf m + i * chunkOf m ≡ addr + suc i * chunkOf m = omega (arith, suc-mul i (chunkOf m)) in
-    ap (λ (j : ℕ). getD (chainWords m isIn (suc (suc n)) len addr) j 0) e ∙ chain-address m isIn (suc n) (len - chunkOf m) (addr + chunkOf m) i (omega arith) ∙ place
+    ap (λ (j : ℕ). getD (chainWords m isIn (suc (suc n)) len addr) j 0) e
+    ∙ chain-address m isIn (suc n) (len - chunkOf m) (addr + chunkOf m) i (omega arith)
+    ∙ place
 
 -- ---- a part of the array
 
@@ -77,7 +82,9 @@ pub record Laid (status address : ℕ → ℕ) (from to : ℕ) (a b : List ℕ) 
   pub addresses : (k : ℕ) → from ≤ k → k < to → getD b (2 * k + 1) 0 ≡ address k
 
 -- two parts, one behind the other
-pub joined : (status address : ℕ → ℕ) (i j k : ℕ) (a b c : List ℕ) → i ≤ j → j ≤ k → Laid status address i j a b → Laid status address j k b c → Laid status address i k a c
+pub joined :
+    (status address : ℕ → ℕ) (i j k : ℕ) (a b c : List ℕ) → i ≤ j → j ≤ k → Laid status address i j a b → Laid status address j k b c
+    → Laid status address i k a c
 joined status address i j k a b c h l p q =
     record {
       size = q .size ∙ p .size;

@@ -42,7 +42,9 @@ pub ends-stage : (n i j : ℕ) → j < min 256 (n - 256 * i) → ends (256 * i +
 ends-stage n i j h =
     let more : j + 1 ≤ min 256 (n - 256 * i) = omega arith in
     ⊎-elim
-    (λ e. either 256 (n - 256 * i) (λ l. ends-full (256 * i + j) n (omega arith)) (λ l. ends-last (256 * i + j) n (omega arith)) ∙ sym (eq-eqb (j + 1) (min 256 (n - 256 * i)) e))
+    (λ e.
+    either 256 (n - 256 * i) (λ l. ends-full (256 * i + j) n (omega arith)) (λ l. ends-last (256 * i + j) n (omega arith))
+    ∙ sym (eq-eqb (j + 1) (min 256 (n - 256 * i)) e))
     (λ l. ends-not (256 * i + j) n (omega arith) (omega arith) ∙ sym (ne-eqb (j + 1) (min 256 (n - 256 * i)) (omega arith)))
     (eq-or-lt-of-le more)
 
@@ -51,7 +53,8 @@ abbrev pub statusOf : ℕ → ℕ → Bool → ℕ → ℕ
 statusOf total m isIn k = chainStatus (initialLen (getD (lengths total m) k 0) m isIn) (ends k (splitOf total m .count))
 
 status-is :
-    (total m : ℕ) (isIn : Bool) (k len : ℕ) (end : Bool) → getD (lengths total m) k 0 ≡ len → ends k (splitOf total m .count) ≡ end → chainStatus (initialLen len m isIn) end ≡ statusOf total m isIn k
+    (total m : ℕ) (isIn : Bool) (k len : ℕ) (end : Bool) → getD (lengths total m) k 0 ≡ len → ends k (splitOf total m .count) ≡ end
+    → chainStatus (initialLen len m isIn) end ≡ statusOf total m isIn k
 status-is total m isIn k len end e f = sym (ap₂ (λ (l : ℕ) (x : Bool). chainStatus (initialLen l m isIn) x) e f)
 
 -- The descriptors from one number up to another are those of a transfer of so many bytes from an address on.
@@ -82,7 +85,9 @@ module _ (hcchar m : ℕ) (isIn : Bool) (size : get packetSize hcchar ≡ m) (wa
   stage-laid descs len addr base t a some few fits here whole room end =
       subst⁻¹ (Filled total m isIn start base (base + descs) a) (ap₂ (λ (p : ℕ) (d : Bool). sets a (2 * base) (chainWords p d descs len addr)) size way)
       (chain-laid (statusOf total m isIn) (λ (k : ℕ). start + k * chunkOf m) m isIn descs len addr base a some (omega arith)
-      (λ i h. status-is total m isIn (base + i) (chunkOf m) false (lengths-full total m (base + i) (omega arith)) (ends-not (base + i) (splitOf total m .count) (omega arith) (omega arith)))
+      (λ i h.
+      status-is total m isIn (base + i) (chunkOf m) false (lengths-full total m (base + i) (omega arith))
+      (ends-not (base + i) (splitOf total m .count) (omega arith) (omega arith)))
       end
       (λ i h. omega (arith, add-mul base i (chunkOf m))))
 
@@ -130,10 +135,13 @@ module _ (hcchar m : ℕ) (isIn : Bool) (size : get packetSize hcchar ≡ m) (wa
       let on : (base + 256) * chunkOf m ≡ base * chunkOf m + k = add-mul base 256 (chunkOf m) in
       either 256 descs
       (λ h. let within : (base + 256) * chunkOf m ≤ total = chunks-within total m (base + 256) (omega arith) in
-      subst⁻¹ (λ (ss : List Dwc2TransferStage). Filled total m isIn start base (splitOf total m .count) a (laidOut ss a)) (stages-next hcchar m fuel descs len addr base t h)
+      subst⁻¹ (λ (ss : List Dwc2TransferStage). Filled total m isIn start base (splitOf total m .count) a (laidOut ss a))
+      (stages-next hcchar m fuel descs len addr base t h)
       (joined (statusOf total m isIn) (λ (k : ℕ). start + k * chunkOf m) base (base + 256) (splitOf total m .count) a first _ (omega arith) (omega arith)
       (full-laid addr base t a (omega arith) here whole room)
       (stages-laid fuel (descs - 256) (len - k) (addr + k) (base + 256) (advanced t (packets k m)) first (omega arith) (omega arith) (omega arith)
       (omega arith) (omega arith) (omega arith) (omega arith))))
-      (λ h. subst⁻¹ (λ (ss : List Dwc2TransferStage). Filled total m isIn start base (splitOf total m .count) a (laidOut ss a)) (stages-last hcchar m (suc fuel) descs len addr base t (omega arith) h)
+      (λ h.
+      subst⁻¹ (λ (ss : List Dwc2TransferStage). Filled total m isIn start base (splitOf total m .count) a (laidOut ss a))
+      (stages-last hcchar m (suc fuel) descs len addr base t (omega arith) h)
       (last-laid descs len addr base t a some h count bytes here whole room))

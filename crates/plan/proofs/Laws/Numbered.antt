@@ -25,7 +25,8 @@ full-whole : (m : ℕ) → 256 * chunkOf m ≡ fullOf m * max 1 m
 full-whole m = sym (mul-assoc 256 ((131_071 - (max 1 m - 1)) / max 1 m) (max 1 m))
 
 full-packets : (m : ℕ) → m ≤ 65_536 → packets (256 * chunkOf m) m ≡ fullOf m
-full-packets m small = ap (λ (b : ℕ). packets b m) (full-whole m) ∙ packets-exact (fullOf m) m (⊎-elim (λ z. absurd (none z)) (λ h. h) (eq-zero-or-pos (fullOf m)))
+full-packets m small =
+    ap (λ (b : ℕ). packets b m) (full-whole m) ∙ packets-exact (fullOf m) m (⊎-elim (λ z. absurd (none z)) (λ h. h) (eq-zero-or-pos (fullOf m)))
   where
     none : fullOf m ≡ 0 → ⊥
     none z = omega (arith, chunk-pos m small, full-whole m, ap (λ (q : ℕ). q * max 1 m) z, zero-mul (max 1 m))
@@ -53,14 +54,16 @@ stages-toggle hcchar m (suc fuel) descs len addr base t small some few full =
     let some-left : k < len = omega (arith, full h) in
     let all : k + (len - k) ≡ len = omega arith in
     ap (toggleAfter m t) (stages-next hcchar m fuel descs len addr base t h)
-    ∙ stages-toggle hcchar m fuel (descs - 256) (len - k) (addr + k) (base + 256) (advanced t (packets k m)) small (omega arith) (omega arith) (λ l. omega (arith, full h))
+    ∙ stages-toggle hcchar m fuel (descs - 256) (len - k) (addr + k) (base + 256) (advanced t (packets k m)) small (omega arith) (omega arith)
+    (λ l. omega (arith, full h))
     ∙ advanced-add t (packets k m) (packets (len - k) m)
     ∙ ap (advanced t) (packets-behind m (len - k) small (omega arith) ∙ ap (λ (l : ℕ). packets l m) all))
     (λ h. ap (toggleAfter m t) (stages-last hcchar m (suc fuel) descs len addr base t (omega arith) h))
 
 -- there are as many as it takes to hold the descriptors
 pub stages-count :
-    (hcchar m fuel descs len addr base : ℕ) (t : Bool) → 0 < descs → descs ≤ 256 * fuel → length (stagesFrom hcchar m fuel descs len addr base t) ≡ packets descs 256
+    (hcchar m fuel descs len addr base : ℕ) (t : Bool) → 0 < descs → descs ≤ 256 * fuel
+    → length (stagesFrom hcchar m fuel descs len addr base t) ≡ packets descs 256
 stages-count hcchar m zero descs len addr base t some few = absurd (omega arith)
 stages-count hcchar m (suc fuel) descs len addr base t some few =
     let k = 256 * chunkOf m in
@@ -71,31 +74,40 @@ stages-count hcchar m (suc fuel) descs len addr base t some few =
     (λ h. ap length (stages-last hcchar m (suc fuel) descs len addr base t (omega arith) h) ∙ omega arith)
 
 -- a stage by equal numbers
-same-stage : (hcchar : ℕ) {n n′ l l′ a a′ b b′ : ℕ} {t t′ : Bool} → n ≡ n′ → l ≡ l′ → a ≡ a′ → b ≡ b′ → t ≡ t′ → dataStage hcchar n l a b t ≡ dataStage hcchar n′ l′ a′ b′ t′
+same-stage :
+    (hcchar : ℕ) {n n′ l l′ a a′ b b′ : ℕ} {t t′ : Bool} → n ≡ n′ → l ≡ l′ → a ≡ a′ → b ≡ b′ → t ≡ t′
+    → dataStage hcchar n l a b t ≡ dataStage hcchar n′ l′ a′ b′ t′
 same-stage hcchar p q r s u = λ i. dataStage hcchar (p i) (q i) (r i) (s i) (u i)
 
 -- stage i of those still to come, by what there is to do before the first
 abbrev pub numbered : ℕ → ℕ → ℕ → ℕ → ℕ → ℕ → Bool → ℕ → Dwc2TransferStage
 numbered hcchar m descs len addr base t i =
-    dataStage hcchar (min 256 (descs - 256 * i)) (min (256 * chunkOf m) (len - 256 * i * chunkOf m)) (addr + 256 * i * chunkOf m) (base + 256 * i) (advanced t (256 * i * chunkOf m / max 1 m))
+    dataStage hcchar (min 256 (descs - 256 * i)) (min (256 * chunkOf m) (len - 256 * i * chunkOf m)) (addr + 256 * i * chunkOf m) (base + 256 * i)
+    (advanced t (256 * i * chunkOf m / max 1 m))
 
-first-is : (hcchar m descs len addr base : ℕ) (t : Bool) (n l : ℕ) → n ≡ min 256 descs → l ≡ min (256 * chunkOf m) len → dataStage hcchar n l addr base t ≡ numbered hcchar m descs len addr base t 0
+first-is :
+    (hcchar m descs len addr base : ℕ) (t : Bool) (n l : ℕ) → n ≡ min 256 descs → l ≡ min (256 * chunkOf m) len
+    → dataStage hcchar n l addr base t ≡ numbered hcchar m descs len addr base t 0
 first-is hcchar m descs len addr base t n l p q =
     let z : 0 * chunkOf m ≡ 0 = zero-mul (chunkOf m) in
-    same-stage hcchar (omega arith) (omega arith) (omega arith) (omega arith) (sym (ap (λ (k : ℕ). advanced t (k / max 1 m)) z ∙ ap (advanced t) (zero-div (max 1 m))))
+    same-stage hcchar (omega arith) (omega arith) (omega arith) (omega arith)
+    (sym (ap (λ (k : ℕ). advanced t (k / max 1 m)) z ∙ ap (advanced t) (zero-div (max 1 m))))
 
 next-is :
     (hcchar m descs len addr base : ℕ) (t : Bool) (i : ℕ) → m ≤ 65_536
-    → numbered hcchar m (descs - 256) (len - 256 * chunkOf m) (addr + 256 * chunkOf m) (base + 256) (advanced t (packets (256 * chunkOf m) m)) i ≡ numbered hcchar m descs len addr base t (suc i)
+    → numbered hcchar m (descs - 256) (len - 256 * chunkOf m) (addr + 256 * chunkOf m) (base + 256) (advanced t (packets (256 * chunkOf m) m)) i
+    ≡ numbered hcchar m descs len addr base t (suc i)
 next-is hcchar m descs len addr base t i small =
     let step : 256 * suc i ≡ 256 + 256 * i = omega arith in
     let on : 256 * suc i * chunkOf m ≡ 256 * chunkOf m + 256 * i * chunkOf m = ap (λ (k : ℕ). k * chunkOf m) step ∙ add-mul 256 (256 * i) (chunkOf m) in
     same-stage hcchar (omega arith) (omega arith) (omega arith) (omega arith)
-    (advanced-add t (packets (256 * chunkOf m) m) (256 * i * chunkOf m / max 1 m) ∙ ap (advanced t) (whole-behind m (256 * i * chunkOf m) small ∙ ap (λ (k : ℕ). k / max 1 m) (sym on)))
+    (advanced-add t (packets (256 * chunkOf m) m) (256 * i * chunkOf m / max 1 m)
+    ∙ ap (advanced t) (whole-behind m (256 * i * chunkOf m) small ∙ ap (λ (k : ℕ). k / max 1 m) (sym on)))
 
 -- each stage still to come has 256 descriptors or what is left, the bytes of these, and the toggle flipped by the packets before it
 pub stages-at :
-    (hcchar m fuel descs len addr base : ℕ) (t : Bool) (i : ℕ) → m ≤ 65_536 → 256 * i < descs → descs ≤ 256 * fuel → (descs - 1) * chunkOf m ≤ len → len ≤ descs * chunkOf m
+    (hcchar m fuel descs len addr base : ℕ) (t : Bool) (i : ℕ) → m ≤ 65_536 → 256 * i < descs → descs ≤ 256 * fuel → (descs - 1) * chunkOf m ≤ len
+    → len ≤ descs * chunkOf m
     → getD (stagesFrom hcchar m fuel descs len addr base t) i blankStage ≡ numbered hcchar m descs len addr base t i
 stages-at hcchar m zero descs len addr base t i small h few full fits = absurd (omega arith)
 stages-at hcchar m (suc fuel) descs len addr base t zero small h few full fits =
@@ -112,5 +124,6 @@ stages-at hcchar m (suc fuel) descs len addr base t (suc i) small h few full fit
     let parts : descs ≡ descs - 256 + 256 = omega arith in
     let on : descs * chunkOf m ≡ (descs - 256) * chunkOf m + k = ap (λ (n : ℕ). n * chunkOf m) parts ∙ add-mul (descs - 256) 256 (chunkOf m) in
     ap (λ (ss : List Dwc2TransferStage). getD ss (suc i) blankStage) (stages-next hcchar m fuel descs len addr base t l)
-    ∙ stages-at hcchar m fuel (descs - 256) (len - k) (addr + k) (base + 256) (advanced t (packets k m)) i small (omega arith) (omega arith) (full-left descs (chunkOf m) len l full .1) (omega arith)
+    ∙ stages-at hcchar m fuel (descs - 256) (len - k) (addr + k) (base + 256) (advanced t (packets k m)) i small (omega arith) (omega arith)
+    (full-left descs (chunkOf m) len l full .1) (omega arith)
     ∙ next-is hcchar m descs len addr base t i small

@@ -228,7 +228,8 @@ pub advanced-add : (t : Bool) (a b : ℕ) → advanced (advanced t a) b ≡ adva
 advanced-add t a b =
     go t (a % 2) (b % 2) (mod-lt a (omega arith)) (mod-lt b (omega arith)) ∙ ap (λ (x : ℕ). cond (eqb x 1) (not t) t) (sym (add-mod a b 2))
   where
-    go : (t : Bool) (x y : ℕ) → x < 2 → y < 2 → cond (eqb y 1) (not (cond (eqb x 1) (not t) t)) (cond (eqb x 1) (not t) t) ≡ cond (eqb ((x + y) % 2) 1) (not t) t
+    go :
+        (t : Bool) (x y : ℕ) → x < 2 → y < 2 → cond (eqb y 1) (not (cond (eqb x 1) (not t) t)) (cond (eqb x 1) (not t) t) ≡ cond (eqb ((x + y) % 2) 1) (not t) t
     go t zero zero h l = refl
     go t zero (suc zero) h l = refl
     go t (suc zero) zero h l = refl

@@ -55,12 +55,14 @@ pub record Clear (s : IsoChannelState) (t : IsoTransfer) (lengths ring : List �
 abbrev pub Told : IsoChannelState → IsoTransfer → List ℕ → List ℕ → SubmitWay → Type 0
 Told s t lengths ring (Refuse n) = (n ≡ entryRefusal s t (length lengths) (length ring)) × (n ≡ 0 → ⊥)
 Told s t lengths ring (TooLong i) = (entryRefusal s t (length lengths) (length ring) ≡ 0) × (i ≡ tooLong s lengths) × (i < length lengths)
-Told s t lengths ring (Spend n) = (entryRefusal s t (length lengths) (length ring) ≡ 0) × (length lengths ≤ tooLong s lengths) × (n ≡ spendRefusal s t lengths ring) × (n ≡ 0 → ⊥)
+Told s t lengths ring (Spend n) =
+    (entryRefusal s t (length lengths) (length ring) ≡ 0) × (length lengths ≤ tooLong s lengths) × (n ≡ spendRefusal s t lengths ring) × (n ≡ 0 → ⊥)
 Told s t lengths ring Early = Clear s t lengths ring × (s .head .live ≡ false) × (t .«gate_program» ≡ false)
 Told s t lengths ring Cut = Clear s t lengths ring × (t .words < 2 * length lengths) × (s .head .live ≡ false → t .«gate_program» ≡ true)
 Told s t lengths ring Late = Clear s t lengths ring × (s .head .live ≡ false) × (t .«gate_enable» ≡ false)
 Told s t lengths ring Accept =
-    Clear s t lengths ring × (2 * length lengths ≤ t .words) × (s .head .live ≡ false → t .«gate_program» ≡ true) × (s .head .live ≡ false → t .«gate_enable» ≡ true)
+    Clear s t lengths ring × (2 * length lengths ≤ t .words) × (s .head .live ≡ false → t .«gate_program» ≡ true)
+    × (s .head .live ≡ false → t .«gate_enable» ≡ true)
 
 -- the tests of 12 and of the gates, which ask only where no channel is live: that they hold, that they do not, and back
 both : (live gate : Bool) → (not live && not gate) ≡ true → (live ≡ false) × (gate ≡ false)
@@ -101,7 +103,8 @@ module _ (s : IsoChannelState) (t : IsoTransfer) (lengths ring : List ℕ) where
       let i = tooLong s lengths in
       let n = length lengths in
       let p = spendRefusal s t lengths ring in
-      choose (Told s t lengths ring) e i p (not (eqb e 0)) (ltb i n) (not (eqb p 0)) (not (s .head .live) && not (t .«gate_program»)) (ltb (t .words) (2 * n)) (not (s .head .live) && not (t .«gate_enable»))
+      choose (Told s t lengths ring) e i p (not (eqb e 0)) (ltb i n) (not (eqb p 0)) (not (s .head .live) && not (t .«gate_program»)) (ltb (t .words) (2 * n))
+      (not (s .head .live) && not (t .«gate_enable»))
       (λ a. (refl, is-some e a))
       (λ a b. (is-zero e a, refl, ltb-true i n b))
       (λ a b c. (is-zero e a, ltb-false i n b, refl, is-some p c))
@@ -223,7 +226,8 @@ pass : (a b c x y z : Bool) (u v w : SubmitWay) → a ≡ false → b ≡ false 
     → cond a u (cond b v (cond c w (cond x Early (cond y Cut (cond z Late Accept))))) ≡ cond y Cut (cond z Late Accept)
 pass a b c x y z u v w e f g h = rw (e, f, g, h)
 
-module _ (s : IsoChannelState) (t : IsoTransfer) (lengths ring : List ℕ) (c : Clear s t lengths ring) (gate : s .head .live ≡ false → t .«gate_program» ≡ true) where
+module _ (s : IsoChannelState) (t : IsoTransfer) (lengths ring : List ℕ) (c : Clear s t lengths ring)
+    (gate : s .head .live ≡ false → t .«gate_program» ≡ true) where
   pub passes :
       submitWay s t lengths ring ≡ cond (ltb (t .words) (2 * length lengths)) Cut (cond (not (s .head .live) && not (t .«gate_enable»)) Late Accept)
   passes =
@@ -231,7 +235,8 @@ module _ (s : IsoChannelState) (t : IsoTransfer) (lengths ring : List ℕ) (c : 
       let i = tooLong s lengths in
       let n = length lengths in
       let p = spendRefusal s t lengths ring in
-      pass (not (eqb e 0)) (ltb i n) (not (eqb p 0)) (not (s .head .live) && not (t .«gate_program»)) (ltb (t .words) (2 * n)) (not (s .head .live) && not (t .«gate_enable»))
+      pass (not (eqb e 0)) (ltb i n) (not (eqb p 0)) (not (s .head .live) && not (t .«gate_program»)) (ltb (t .words) (2 * n))
+      (not (s .head .live) && not (t .«gate_enable»))
       (Refuse e)
       (TooLong i)
       (Spend p)

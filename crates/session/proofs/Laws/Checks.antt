@@ -94,7 +94,8 @@ module _ (s : IsoChannelState) (t : IsoTransfer) (lengths ring : List ℕ) (n : 
   spend-number e h =
       not-zero SpendNumber n
       (subst⁻¹ (λ (k : ℕ). (k ≡ 0) ⊎ SpendNumber k) e
-      (one-of (λ (k : ℕ). (k ≡ 0) ⊎ SpendNumber k) (spendChecks s t lengths ring) (inr (omega arith) and inr (omega arith) and inr (omega arith) and inr (omega arith) and tt) (inl refl)))
+      (one-of (λ (k : ℕ). (k ≡ 0) ⊎ SpendNumber k) (spendChecks s t lengths ring)
+      (inr (omega arith) and inr (omega arith) and inr (omega arith) and inr (omega arith) and tt) (inl refl)))
       h
 
 -- ---- the first long packet
@@ -125,5 +126,6 @@ pub short-all : (limit : ℕ) (lengths : List ℕ) → ((k : ℕ) → k < length
 short-all limit [] h = omega arith
 short-all limit (l ∷ ls) h =
     let rest : length ls ≤ firstLong limit ls = short-all limit ls (λ k m. h (suc k) (omega arith)) in
-    let here : firstLong limit (l ∷ ls) ≡ suc (firstLong limit ls) = ap (λ (b : Bool). cond b 0 (suc (firstLong limit ls))) (le-ltb limit l (h 0 (omega arith))) in
+    let here : firstLong limit (l ∷ ls) ≡ suc (firstLong limit ls) =
+    ap (λ (b : Bool). cond b 0 (suc (firstLong limit ls))) (le-ltb limit l (h 0 (omega arith))) in
     omega arith

@@ -3,11 +3,11 @@
 use mathlib.Core.Path.{_≡_, refl, _∙_, sym, ap}
 use mathlib.Core.Bool.{Bool, true, false, cond}
 use mathlib.Core.List.{List, [], _∷_, map}
-use Prim.Native.Nat.{ℕ, zero, suc, _+_, _-_, _≤_, _<_}
+use Prim.Native.Nat.{ℕ, _+_, _-_, _<_}
 use native.Mathlib.Omega.{arith}
 use lib.Dec.{ltb}
-use lib.ListN.{length, getD, set, take, drop, length-set, length-map, List·getD-map}
-use lib.Seq.{sets, slice, length-sets, length-slice, map-set-same}
+use lib.ListN.{getD, set, length-set, List·getD-map}
+use lib.Seq.{slice, length-sets, map-set-same}
 use borrow.Author.Tests.{ltb-true, ltb-false}
 use Rattle.ring.proofs.RingFacts.{ring-size-pos}
 use Rattle.session.specs.declared.types.IsoChannelState.{IsoChannelState}
@@ -27,49 +27,8 @@ use Rattle.session.specs.Poll.{reply, refusedReply, withReason, recovere
 use Rattle.session.specs.Cancel.{requestAt, withCancelled, cancelled}
 use Rattle.session.proofs.Laws.Sums.{packets-past}
 use Rattle.session.proofs.Laws.Record.{Sound, GoodRequest, renewed-sound}
-use Rattle.session.proofs.Laws.Lists.{getD-slice, getD-sets-in, getD-map-in, amend-next, amend-past}
+use Rattle.session.proofs.Laws.Lists.{map-slice, map-amend}
 use Rattle.session.proofs.Laws.Tests.{chosen}
-
--- ---- lists of which a part is changed in place
-
-module _ {A B : Type 0} (p : A → B) where
-  map-take : (n : ℕ) (l : List A) → map p (take n l) ≡ take n (map p l)
-  map-take zero l = refl
-  map-take (suc n) [] = refl
-  map-take (suc n) (a ∷ l) = ap (λ (r : List B). p a ∷ r) (map-take n l)
-
-  map-drop : (n : ℕ) (l : List A) → map p (drop n l) ≡ drop n (map p l)
-  map-drop zero l = refl
-  map-drop (suc n) [] = refl
-  map-drop (suc n) (a ∷ l) = map-drop n l
-
-  pub map-slice : (f t : ℕ) (l : List A) → map p (slice f t l) ≡ slice f t (map p l)
-  map-slice f t l = map-drop f (take t l) ∙ ap (drop f) (map-take t l)
-
-  -- what a change of an element leaves, a change of a part of a list leaves
-  pub map-amend :
-      (f : A → A) (d : A) → ((a : A) → p (f a) ≡ p a) → (n i t : ℕ) (l : List A) → i + n ≡ t → t ≤ length l
-      → map p (sets l i (map f (slice i t l))) ≡ map p l
-  map-amend f d keeps zero i t l e k = ap (map p) (amend-past f i t l (omega arith))
-  map-amend f d keeps (suc n) i t l e k =
-      let v : A = f (getD l i d) in
-      ap (map p) (amend-next f i t l d (omega arith) k)
-      ∙ map-amend f d keeps n (i + 1) t (set l i v) (omega arith) (omega (arith, length-set l i v))
-      ∙ map-set-same p l i v d (keeps (getD l i d))
-
-module _ {A : Type 0} where
-  -- an entry of the part that was changed
-  pub getD-amended :
-      (f : A → A) (i t k : ℕ) (l : List A) (d : A) → i ≤ k → k < t → t ≤ length l
-      → getD (sets l i (map f (slice i t l))) k d ≡ f (getD l k d)
-  getD-amended f i t k l d h u fits =
-      let j = k - i in
-      let at : i + j ≡ k = omega arith in
-      let many : length (map f (slice i t l)) ≡ t - i = length-map (slice i t l) f ∙ length-slice i t l fits in
-      ap (λ (n : ℕ). getD (sets l i (map f (slice i t l))) n d) (sym at)
-      ∙ getD-sets-in (map f (slice i t l)) l i j d (omega (arith, many)) (omega (arith, many))
-      ∙ getD-map-in f (slice i t l) j d d (omega (arith, length-slice i t l fits))
-      ∙ ap f (getD-slice i t j l d (omega arith) ∙ ap (λ (n : ℕ). getD l n d) at)
 
 -- ---- tables of requests with the same numbers of packets
 
@@ -108,7 +67,8 @@ module _ (o : IsoOutcome) (s : IsoChannelState) (g : Sound s) where
   ended-sound =
       let none : pendingPackets (ended o s) ≡ 0 = packets-past (s .head .count) (s .head .count) (endedRequests o s) (omega arith) in
       record {
-        requests-long = length-sets (s .requests) (s .head .done) (map (withOutcome o) (slice (s .head .done) (s .head .count) (s .requests))) ∙ g .requests-long;
+        requests-long =
+            length-sets (s .requests) (s .head .done) (map (withOutcome o) (slice (s .head .done) (s .head .count) (s .requests))) ∙ g .requests-long;
         plans-long = g .plans-long;
         config = g .config;
         done-in = omega arith;
@@ -163,32 +123,42 @@ reason-sound r s g h =
 
 -- ---- the calls, whatever they answer
 
-pub picked : (b : Bool) (x y : IsoReply) → (b ≡ true → Sound (x .session)) → (b ≡ false → Sound (y .session)) → Sound (cond b x y .session)
-picked = chosen (λ (x : IsoReply). Sound (x .session))
+-- what holds of the session, and of each that a call may leave, holds of the one that it leaves
+module _ (P : IsoChannelState → Type 0) where
+  pub picked : (b : Bool) (x y : IsoReply) → (b ≡ true → P (x .session)) → (b ≡ false → P (y .session)) → P (cond b x y .session)
+  picked = chosen (λ (x : IsoReply). P (x .session))
+
+  pub reset-picked : (s : IsoChannelState) → P s → P (atStart s) → P (resetReply s .session)
+  reset-picked s g h =
+      let empty = reply answer.Done false false (atStart s) in
+      picked (isBadRecord s) (refusedReply 18 s) (cond (isEmpty s) empty (refusedReply 16 s)) (λ b. g)
+      (λ b. picked (isEmpty s) empty (refusedReply 16 s) (λ e. h) (λ e. g))
+
+  pub cancel-picked :
+      (s : IsoChannelState) (id : ℕ) → P s → P (withCancelled (requestAt id s) s) → (s .head .done < s .head .count → P (withReason reason.Cancelled s))
+      → P (cancelled s id .session)
+  cancel-picked s id g h r =
+      let at : ℕ = requestAt id s in
+      let amended-reply = reply answer.Done false false (withCancelled at s) in
+      let stands = reply answer.Done false false s in
+      let halting = reply answer.Done false true (withReason reason.Cancelled s) in
+      let pending = cond (hasReason (s .fatal)) stands halting in
+      let known = cond (ltb at (s .head .count)) pending (refusedReply 15 s) in
+      picked (isBadRecord s) (refusedReply 18 s) (cond (ltb at (s .head .done)) amended-reply known) (λ b. g)
+      (λ b. picked (ltb at (s .head .done)) amended-reply known (λ e. h)
+      (λ e. picked (ltb at (s .head .count)) pending (refusedReply 15 s)
+      (λ u. picked (hasReason (s .fatal)) stands halting (λ f. g)
+      (λ f. r (omega (arith, ltb-false at (s .head .done) e, ltb-true at (s .head .count) u))))
+      (λ u. g)))
 
 pub recovered-sound : (s : IsoChannelState) (words : ℕ) → Sound s → Sound (recovered s words .session)
 recovered-sound s words g =
     let over = reply answer.Done false false (ended outcome.Disconnected s) in
-    picked (ltb words (ringWords (s .cfg))) (refusedReply 17 s) (cond (isBadRecord s) (refusedReply 18 s) over) (λ e. g)
-    (λ e. picked (isBadRecord s) (refusedReply 18 s) over (λ b. g) (λ b. ended-sound outcome.Disconnected s g))
+    picked Sound (ltb words (ringWords (s .cfg))) (refusedReply 17 s) (cond (isBadRecord s) (refusedReply 18 s) over) (λ e. g)
+    (λ e. picked Sound (isBadRecord s) (refusedReply 18 s) over (λ b. g) (λ b. ended-sound outcome.Disconnected s g))
 
 pub reset-reply-sound : (s : IsoChannelState) → Sound s → Sound (resetReply s .session)
-reset-reply-sound s g =
-    let empty = reply answer.Done false false (atStart s) in
-    picked (isBadRecord s) (refusedReply 18 s) (cond (isEmpty s) empty (refusedReply 16 s)) (λ b. g)
-    (λ b. picked (isEmpty s) empty (refusedReply 16 s) (λ e. reset-sound s g) (λ e. g))
+reset-reply-sound s g = reset-picked Sound s g (reset-sound s g)
 
 pub cancelled-sound : (s : IsoChannelState) (id : ℕ) → Sound s → Sound (cancelled s id .session)
-cancelled-sound s id g =
-    let at : ℕ = requestAt id s in
-    let amended-reply = reply answer.Done false false (withCancelled at s) in
-    let stands = reply answer.Done false false s in
-    let halting = reply answer.Done false true (withReason reason.Cancelled s) in
-    let pending = cond (hasReason (s .fatal)) stands halting in
-    let known = cond (ltb at (s .head .count)) pending (refusedReply 15 s) in
-    picked (isBadRecord s) (refusedReply 18 s) (cond (ltb at (s .head .done)) amended-reply known) (λ b. g)
-    (λ b. picked (ltb at (s .head .done)) amended-reply known (λ e. amended-sound at s g)
-    (λ e. picked (ltb at (s .head .count)) pending (refusedReply 15 s)
-    (λ u. picked (hasReason (s .fatal)) stands halting (λ f. g)
-    (λ f. reason-sound reason.Cancelled s g (omega (arith, ltb-false at (s .head .done) e, ltb-true at (s .head .count) u))))
-    (λ u. g)))
+cancelled-sound s id g = cancel-picked Sound s id g (amended-sound (requestAt id s) s g) (reason-sound reason.Cancelled s g)

@@ -29,7 +29,8 @@ held-more R insert step i n ps h =
     rw (e, add-one i)
 
 -- packet i's slot is held, so one is; it is not, so the others decide
-module _ (R insert step i n : ℕ) (ps : List IsoPacketPlan) (slot : ℕ) (marked : Bool) (h : i < n) (at : slot ≡ slotAt R insert step i) (same : marked ≡ isHeld ps slot) where
+module _ (R insert step i n : ℕ) (ps : List IsoPacketPlan) (slot : ℕ) (marked : Bool) (h : i < n) (at : slot ≡ slotAt R insert step i)
+    (same : marked ≡ isHeld ps slot) where
   pub held-here : marked ≡ true → true ≡ anyHeld ps (slotsFrom R insert step i (n - i))
   held-here e = rw (held-more R insert step i n ps h, ← at, ← same, e)
 

@@ -10,7 +10,7 @@ use native.Mathlib.Numerals.{add-one}
 use native.Mathlib.Omega.{arith}
 use lib.Dec.{ltb}
 use lib.ListN.{length, getD, set, take, drop, length-map, length-take, length-set, length-append, take-append-drop, drop-of-length-le}
-use lib.Seq.{sets, slice, take-length, length-sets, sets-eq, take-suc-set, take-set-lt, drop-set-lt, getD-set-same, getD-set-other, slice-cons, length-slice, length-take-le, take-take, take-at, take-append-add, drop-append-le, drop-append-add, drop-drop, getD-drop, getD-take}
+use lib.Seq.{sets, slice, map-set-same, take-length, length-sets, sets-eq, take-suc-set, take-set-lt, drop-set-lt, getD-set-same, getD-set-other, slice-cons, length-slice, length-take-le, take-take, take-at, take-append-add, drop-append-le, drop-append-add, drop-drop, getD-drop, getD-take}
 use borrow.Author.Tests.{ltb-true, ltb-false}
 
 module _ {ℓ} {A : Type ℓ} where
@@ -82,7 +82,8 @@ module _ {ℓ} {A : Type ℓ} where
   slice-sets [] l i h = slice-past i (i + 0) l (omega arith)
   slice-sets (a ∷ vs) l i h =
       let long : i + suc (length vs) ≤ length (sets (set l i a) (suc i) vs) = omega (arith, length-sets (set l i a) (suc i) vs, length-set l i a) in
-      let first : getD (sets (set l i a) (suc i) vs) i a ≡ a = getD-sets-before vs (set l i a) (suc i) i a (omega arith) ∙ getD-set-same l i a a (omega arith) in
+      let first : getD (sets (set l i a) (suc i) vs) i a ≡ a =
+      getD-sets-before vs (set l i a) (suc i) i a (omega arith) ∙ getD-set-same l i a a (omega arith) in
       let to : i + suc (length vs) ≡ suc i + length vs = omega arith in
       slice-cons i (i + suc (length vs)) (sets (set l i a) (suc i) vs) a (omega arith) long
       ∙ ap (λ (x : A). x ∷ slice (suc i) (i + suc (length vs)) (sets (set l i a) (suc i) vs)) first
@@ -99,35 +100,26 @@ module _ {ℓ} {A : Type ℓ} where
   pub slice-after-set : (f t i : ℕ) (l : List A) (a : A) → i < f → i < t → slice f t (set l i a) ≡ slice f t l
   slice-after-set f t i l a h k = ap (drop f) (take-set-lt t l i a k) ∙ drop-set-lt f (take t l) i a h
 
-  -- one turn of a walk that writes what each entry of a part of one list becomes into another, and its end
-  module _ {B : Type ℓ} (f : A → B) where
+  -- one turn of a walk that writes what a part of one list becomes into another, and its end
+  module _ {B : Type ℓ} (g : List A → List B) where
     pub write-next :
-        (at i t : ℕ) (l : List A) (d : A) (xs : List B) (v : B) → i < t → t ≤ length l → v ≡ f (getD l i d)
-        → sets (set xs at v) (at + 1) (map f (slice (i + 1) t l)) ≡ sets xs at (map f (slice i t l))
-    write-next at i t l d xs v h k e =
-        ap (λ (x : B). sets (set xs at x) (at + 1) (map f (slice (i + 1) t l))) e
-        ∙ ap (λ (m : ℕ). sets (set xs at (f (getD l i d))) m (map f (slice (i + 1) t l))) (add-one at)
-        ∙ ap (λ (ys : List A). sets xs at (map f ys)) (sym (slice-next i t l d h k))
+        (at i t : ℕ) (l : List A) (d : A) (xs : List B) (v : B) → i < t → t ≤ length l → ((rest : List A) → g (getD l i d ∷ rest) ≡ v ∷ g rest)
+        → sets (set xs at v) (at + 1) (g (slice (i + 1) t l)) ≡ sets xs at (g (slice i t l))
+    write-next at i t l d xs v h k turn =
+        ap (λ (m : ℕ). sets (set xs at v) m (g (slice (i + 1) t l))) (add-one at)
+        ∙ ap (sets xs at) (sym (ap g (slice-next i t l d h k) ∙ turn (slice (i + 1) t l)))
 
-    pub write-past : (at i t : ℕ) (l : List A) (xs : List B) → t ≤ i → sets xs at (map f (slice i t l)) ≡ xs
-    write-past at i t l xs h = ap (λ (ys : List A). sets xs at (map f ys)) (slice-past i t l h)
+    pub write-past : (at i t : ℕ) (l : List A) (xs : List B) → g [] ≡ [] → t ≤ i → sets xs at (g (slice i t l)) ≡ xs
+    write-past at i t l xs none h = ap (sets xs at) (ap g (slice-past i t l h) ∙ none)
 
-  -- one turn of a walk that changes each entry of a part in place: what is left to change, applied to the list now, is what was left before
-  pub amend-by :
-      (f : A → A) (i t : ℕ) (l : List A) (d v : A) → i < t → t ≤ length l → v ≡ f (getD l i d)
-      → sets (set l i v) (i + 1) (map f (slice (i + 1) t (set l i v))) ≡ sets l i (map f (slice i t l))
-  amend-by f i t l d v h k e =
-      ap (λ (vs : List A). sets (set l i v) (i + 1) (map f vs)) (slice-after-set (i + 1) t i l v (omega arith) h) ∙ write-next f i i t l d l v h k e
-
-  -- the same the other way round, without a name for the new entry
+  -- the same in one list, where the walk writes no further on than it reads: what is left to write, into the list now, is what was left before
   pub amend-next :
-      (f : A → A) (i t : ℕ) (l : List A) (d : A) → i < t → t ≤ length l
-      → sets l i (map f (slice i t l)) ≡ sets (set l i (f (getD l i d))) (i + 1) (map f (slice (i + 1) t (set l i (f (getD l i d)))))
-  amend-next f i t l d h k = sym (amend-by f i t l d (f (getD l i d)) h k refl)
-
-  -- and where nothing is left, the list is as it is
-  pub amend-past : (f : A → A) (i t : ℕ) (l : List A) → t ≤ i → sets l i (map f (slice i t l)) ≡ l
-  amend-past f i t l h = write-past f i i t l l h
+      (g : List A → List A) (into i t : ℕ) (l : List A) (d v : A) → into ≤ i → i < t → t ≤ length l
+      → ((rest : List A) → g (getD l i d ∷ rest) ≡ v ∷ g rest)
+      → sets (set l into v) (into + 1) (g (slice (i + 1) t (set l into v))) ≡ sets l into (g (slice i t l))
+  amend-next g into i t l d v h k fits turn =
+      ap (λ (vs : List A). sets (set l into v) (into + 1) (g vs)) (slice-after-set (i + 1) t into l v (omega arith) (omega arith))
+      ∙ write-next g into i t l d l v k fits turn
 
   -- and where all is left, each entry is changed
   pub amend-all : (f : A → A) (l : List A) → sets l 0 (map f (slice 0 (length l) l)) ≡ map f l
@@ -153,19 +145,6 @@ module _ {ℓ} {A : Type ℓ} where
   part-stored f t l vs h k e =
       let end : t ≡ f + length vs = omega (arith, e, length-slice f t l k) in
       ap (λ (a : List A). a ++ vs ++ drop t l) (take-take f t l h) ∙ ap (λ (m : ℕ). take f l ++ vs ++ drop m l) end ∙ sym (sets-eq vs l f (omega arith))
-
-  -- one turn of a walk that moves the entries of a part down, and its end
-  pub close-next :
-      (into i t : ℕ) (l : List A) (d : A) → into ≤ i → i < t → t ≤ length l
-      → sets (set l into (getD l i d)) (into + 1) (slice (i + 1) t (set l into (getD l i d))) ≡ sets l into (slice i t l)
-  close-next into i t l d h k n =
-      let v : A = getD l i d in
-      ap (sets (set l into v) (into + 1)) (slice-after-set (i + 1) t into l v (omega arith) (omega arith))
-      ∙ ap (λ (m : ℕ). sets (set l into v) m (slice (i + 1) t l)) (add-one into)
-      ∙ ap (sets l into) (sym (slice-next i t l d k n))
-
-  pub close-past : (into i t : ℕ) (l : List A) → t ≤ i → sets l into (slice i t l) ≡ l
-  close-past into i t l h = ap (sets l into) (slice-past i t l h)
 
   -- a run of stores and what stands before it
   pub front-sets : (vs l : List A) (i : ℕ) → i + length vs ≤ length l → slice 0 (i + length vs) (sets l i vs) ≡ slice 0 i l ++ vs
@@ -234,6 +213,73 @@ module _ {ℓ} {A : Type ℓ} where
       (P : A → Type 0) (at f t : ℕ) (l : List A) (d : A) → at ≤ f → f ≤ t → t ≤ length l → ((i : ℕ) → i < t → P (getD l i d))
       → (i : ℕ) → i < at + (t - f) → P (getD (sets l at (slice f t l)) i d)
   closed-each P at f t l d h k n g = closed-parts P at f t l d h k n (λ i u. g i (omega arith)) (λ i u v. g i v)
+
+-- where a walk over a table from `from` to `to` stands that puts what the entries become at `at` and behind it: what is still to put, put into the
+-- table as it is now, gives the goal; one turn more; and where nothing is left, the table is the goal
+module _ {A : Type 0} where
+  pub record Walk (g : List A → List A) (size at from to : ℕ) (first : List A) (end : ℕ) (now : List A) (into i : ℕ) : Type 0 where
+    pub ends : end ≡ to
+    pub within : i ≤ to
+    pub behind : into ≤ i
+    pub long : length now ≡ size
+    pub goal : sets now into (g (slice i to now)) ≡ sets first at (g (slice from to first))
+
+  module _ {g : List A → List A} {size at from to : ℕ} {first : List A} {end : ℕ} {now : List A} {into i : ℕ} where
+    pub walk-on :
+        (d v : A) → Walk g size at from to first end now into i → i < to → to ≤ size → ((rest : List A) → g (getD now i d ∷ rest) ≡ v ∷ g rest)
+        → Walk g size at from to first end (set now into v) (into + 1) (i + 1)
+    walk-on d v w h fits turn =
+        record {
+          ends = w .ends;
+          within = omega arith;
+          behind = omega arith;
+          long = length-set now into v ∙ w .long;
+          goal = amend-next g into i to now d v (w .behind) h (omega arith) turn ∙ w .goal;
+        }
+
+    pub walked : Walk g size at from to first end now into i → g [] ≡ [] → to ≤ i → now ≡ sets first at (g (slice from to first))
+    walked w none h = sym (write-past g into i to now now none h) ∙ w .goal
+
+-- ---- lists of which a part is changed in place
+
+module _ {A B : Type 0} (p : A → B) where
+  map-take : (n : ℕ) (l : List A) → map p (take n l) ≡ take n (map p l)
+  map-take zero l = refl
+  map-take (suc n) [] = refl
+  map-take (suc n) (a ∷ l) = ap (λ (r : List B). p a ∷ r) (map-take n l)
+
+  pub map-drop : (n : ℕ) (l : List A) → map p (drop n l) ≡ drop n (map p l)
+  map-drop zero l = refl
+  map-drop (suc n) [] = refl
+  map-drop (suc n) (a ∷ l) = map-drop n l
+
+  pub map-slice : (f t : ℕ) (l : List A) → map p (slice f t l) ≡ slice f t (map p l)
+  map-slice f t l = map-drop f (take t l) ∙ ap (drop f) (map-take t l)
+
+  -- what a change of an element leaves, a change of a part of a list leaves
+  pub map-amend :
+      (f : A → A) (d : A) → ((a : A) → p (f a) ≡ p a) → (n i t : ℕ) (l : List A) → i + n ≡ t → t ≤ length l
+      → map p (sets l i (map f (slice i t l))) ≡ map p l
+  map-amend f d keeps zero i t l e k = ap (map p) (write-past (map f) i i t l l refl (omega arith))
+  map-amend f d keeps (suc n) i t l e k =
+      let v : A = f (getD l i d) in
+      ap (map p) (sym (amend-next (map f) i i t l d v (omega arith) (omega arith) k (λ rest. refl)))
+      ∙ map-amend f d keeps n (i + 1) t (set l i v) (omega arith) (omega (arith, length-set l i v))
+      ∙ map-set-same p l i v d (keeps (getD l i d))
+
+module _ {A : Type 0} where
+  -- an entry of the part that was changed
+  pub getD-amended :
+      (f : A → A) (i t k : ℕ) (l : List A) (d : A) → i ≤ k → k < t → t ≤ length l
+      → getD (sets l i (map f (slice i t l))) k d ≡ f (getD l k d)
+  getD-amended f i t k l d h u fits =
+      let j = k - i in
+      let at : i + j ≡ k = omega arith in
+      let many : length (map f (slice i t l)) ≡ t - i = length-map (slice i t l) f ∙ length-slice i t l fits in
+      ap (λ (n : ℕ). getD (sets l i (map f (slice i t l))) n d) (sym at)
+      ∙ getD-sets-in (map f (slice i t l)) l i j d (omega (arith, many)) (omega (arith, many))
+      ∙ getD-map-in f (slice i t l) j d d (omega (arith, length-slice i t l fits))
+      ∙ ap f (getD-slice i t j l d (omega arith) ∙ ap (λ (n : ℕ). getD l n d) at)
 
 -- a store that puts something other than 0, or goes elsewhere, makes no entry 0
 pub set-some : (l : List ℕ) (i a k : ℕ) → (k ≡ i → a ≢ 0) → getD l k 0 ≢ 0 → getD (set l i a) k 0 ≢ 0

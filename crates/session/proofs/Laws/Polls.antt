@@ -24,22 +24,31 @@ use Rattle.session.specs.Session.{ringWords}
 use Rattle.session.specs.Record.{isBadRecord}
 use Rattle.session.specs.Poll.{outcomeOf, wayByReason, wayByFault, pollWay, polledBy, polledRingBy, refusedReply, polled, polledRing}
 
-pub unexpected : {f : IsoFatal} {b : Bool} (word : ℕ) → f ≡ fatal.Nothing → b ≡ isSet halted word → b ≡ true → End (outcome.UnexpectedHalt word) ≡ wayByReason f word
+pub unexpected :
+    {f : IsoFatal} {b : Bool} (word : ℕ) → f ≡ fatal.Nothing → b ≡ isSet halted word → b ≡ true → End (outcome.UnexpectedHalt word) ≡ wayByReason f word
 unexpected word e p t = let h : isSet halted word ≡ true = sym p ∙ t in rw (e, h)
 
-pub settles : {f : IsoFatal} {b bit : Bool} (word : ℕ) → f ≡ fatal.Nothing → b ≡ isSet halted word → b ≡ false → bit ≡ isSet complete word → Settle bit ≡ wayByReason f word
+pub settles :
+    {f : IsoFatal} {b bit : Bool} (word : ℕ) → f ≡ fatal.Nothing → b ≡ isSet halted word → b ≡ false → bit ≡ isSet complete word
+    → Settle bit ≡ wayByReason f word
 settles word e p t q = let h : isSet halted word ≡ false = sym p ∙ t in rw (e, h, q)
 
-pub ends : {f : IsoFatal} {b : Bool} {o : IsoOutcome} (r : IsoHaltReason) (word : ℕ) → f ≡ fatal.Reason r → b ≡ isSet halted word → b ≡ true → o ≡ outcomeOf r → End o ≡ wayByReason f word
+pub ends :
+    {f : IsoFatal} {b : Bool} {o : IsoOutcome} (r : IsoHaltReason) (word : ℕ) → f ≡ fatal.Reason r → b ≡ isSet halted word → b ≡ true → o ≡ outcomeOf r
+    → End o ≡ wayByReason f word
 ends r word e p t q = let h : isSet halted word ≡ true = sym p ∙ t in rw (e, h, q)
 
 pub waits : {f : IsoFatal} {b : Bool} (r : IsoHaltReason) (word : ℕ) → f ≡ fatal.Reason r → b ≡ isSet halted word → b ≡ false → Wait ≡ wayByReason f word
 waits r word e p t = let h : isSet halted word ≡ false = sym p ∙ t in rw (e, h)
 
-pub fault-ends : {g : HcintFault} {b : Bool} (k : Dwc2TransferFault) (f : IsoFatal) (word : ℕ) → g ≡ fault.Fault k → b ≡ isSet halted word → b ≡ true → End (outcome.Fault k word) ≡ wayByFault g f word
+pub fault-ends :
+    {g : HcintFault} {b : Bool} (k : Dwc2TransferFault) (f : IsoFatal) (word : ℕ) → g ≡ fault.Fault k → b ≡ isSet halted word → b ≡ true
+    → End (outcome.Fault k word) ≡ wayByFault g f word
 fault-ends k f word e p t = let h : isSet halted word ≡ true = sym p ∙ t in rw (e, h)
 
-pub fault-halts : {g : HcintFault} {b : Bool} (k : Dwc2TransferFault) (f : IsoFatal) (word : ℕ) → g ≡ fault.Fault k → b ≡ isSet halted word → b ≡ false → Halt (reason.Fault k word) ≡ wayByFault g f word
+pub fault-halts :
+    {g : HcintFault} {b : Bool} (k : Dwc2TransferFault) (f : IsoFatal) (word : ℕ) → g ≡ fault.Fault k → b ≡ isSet halted word → b ≡ false
+    → Halt (reason.Fault k word) ≡ wayByFault g f word
 fault-halts k f word e p t = let h : isSet halted word ≡ false = sym p ∙ t in rw (e, h)
 
 pub no-fault : {g : HcintFault} {w : PollWay} (f : IsoFatal) (word : ℕ) → g ≡ fault.Nothing → w ≡ wayByReason f word → w ≡ wayByFault g f word

@@ -1,11 +1,11 @@
 -- Reclaiming: what looking, looking again and the whole call answer at each exit; and that a sound record stays sound through the call.
-use mathlib.Core.Path.{_≡_, _∙_, sym, ap, subst}
+use mathlib.Core.Path.{_≡_, _∙_, sym, ap}
 use mathlib.Core.Bool.{Bool, true, false, cond}
 use mathlib.Core.List.{List}
 use Prim.Native.Nat.{ℕ, _≤_, _<_}
 use lib.Dec.{ltb}
 use lib.ListN.{length}
-use borrow.Author.Tests.{ltb-true, lt-ltb, le-ltb}
+use borrow.Author.Tests.{ltb-true}
 use Rattle.session.specs.declared.types.IsoChannelState.{IsoChannelState}
 use Rattle.session.specs.declared.reply.IsoAnswer.the-variants as answer
 use Rattle.session.specs.declared.reply.IsoEvent.{IsoEvent}
@@ -23,15 +23,15 @@ use Rattle.session.proofs.Laws.Polled.{polled-sound}
 use Rattle.session.proofs.Laws.Polls.{polled-by, polled-ring-by}
 use Rattle.session.proofs.Laws.Record.{Sound}
 use Rattle.session.proofs.Laws.Removed.{removed-sound}
-use Rattle.session.proofs.Laws.Tests.{first, second, in-turn, chosen}
+use Rattle.session.proofs.Laws.Tests.{below, not-below, first, second, in-turn, chosen}
 
 -- the number found, or not, by where its place is
 module _ (id : ℕ) (s : IsoChannelState) {at : ℕ} (place : at ≡ requestAt id s) where
   found : at < s .head .done → isFound id s ≡ true
-  found h = lt-ltb (requestAt id s) (s .head .done) (subst (λ (n : ℕ). n < s .head .done) place h)
+  found h = below (s .head .done) place h
 
   not-found : s .head .done ≤ at → isFound id s ≡ false
-  not-found h = le-ltb (requestAt id s) (s .head .done) (subst (λ (n : ℕ). s .head .done ≤ n) place h)
+  not-found h = not-below (s .head .done) place h
 
   -- ---- looking
 
@@ -93,14 +93,14 @@ module _ (id : ℕ) (s : IsoChannelState) {at : ℕ} (place : at ≡ requestAt i
         {r : Reclaimed} → s .head .done ≤ at → at < s .head .count → r ≡ stays reclaim.NotYet
         → (r ≡ lookedAgain id taken halt s) × (results ≡ lookedResults id s results)
     again-pending h k p =
-        let known : within ≡ true = lt-ltb (requestAt id s) (s .head .count) (subst (λ (n : ℕ). n < s .head .count) place k) in
+        let known : within ≡ true = below (s .head .count) place k in
         again-left reclaim.NotYet h (first within reclaim.NotYet (reclaim.Refused 15) known) p
 
     pub again-unknown :
         {r : Reclaimed} → s .head .done ≤ at → s .head .count ≤ at → r ≡ stays (reclaim.Refused 15)
         → (r ≡ lookedAgain id taken halt s) × (results ≡ lookedResults id s results)
     again-unknown h k p =
-        let unknown : within ≡ false = le-ltb (requestAt id s) (s .head .count) (subst (λ (n : ℕ). s .head .count ≤ n) place k) in
+        let unknown : within ≡ false = not-below (s .head .count) place k in
         again-left (reclaim.Refused 15) h (second within reclaim.NotYet (reclaim.Refused 15) unknown) p
 
 -- ---- the whole call
@@ -155,7 +155,7 @@ module _ (s : IsoChannelState) (id : ℕ) (e : IsoEvent) (ring results : List �
 
 pub looked-sound : (id : ℕ) (e : IsoEvent) (s : IsoChannelState) (ring : List ℕ) → Sound s → Sound (looked id e s ring .session)
 looked-sound id e s ring g =
-    picked (isFound id s) (reply answer.Done false false s) (polledBy (pollWay s e) s ring) (λ f. g) (λ f. polled-sound s e ring g)
+    picked Sound (isFound id s) (reply answer.Done false false s) (polledBy (pollWay s e) s ring) (λ f. g) (λ f. polled-sound s e ring g)
 
 picked-sound : (b : Bool) (x y : Reclaimed) → (b ≡ true → Sound (x .session)) → (b ≡ false → Sound (y .session)) → Sound (cond b x y .session)
 picked-sound = chosen (λ (x : Reclaimed). Sound (x .session))

@@ -162,7 +162,8 @@ sound s rl pl e =
     let n4 = neither plans (isBadState s) (n3 .1) in
     let front = neither (isBadConfig (s .cfg)) (isBadCounts s) (n1 .0) in
     let counts = neither (ltb (s .head .count) (s .head .done)) (ltb 64 (s .head .count)) (front .1) in
-    let state = neither (leb (slots (s .cfg)) (s .head .«td_last»)) (not (s .head .live) && (ltb (s .head .done) (s .head .count) || hasReason (s .fatal))) (n4 .1) in
+    let state =
+    neither (leb (slots (s .cfg)) (s .head .«td_last»)) (not (s .head .live) && (ltb (s .head .done) (s .head .count) || hasReason (s .fatal))) (n4 .1) in
     let idle = idle-tests (s .head .live) (ltb (s .head .done) (s .head .count)) (hasReason (s .fatal)) (state .1) in
     let within : s .head .count ≤ 64 = ltb-false 64 (s .head .count) (counts .1) in
     let few : allPackets s ≤ 1024 = good-sums s e .0 in
@@ -173,10 +174,13 @@ sound s rl pl e =
       config = good-config (s .cfg) (front .0);
       done-in = done-in;
       count-in = within;
-      request = front-each GoodRequest (s .head .count) (s .requests) blankRequest (omega arith) (good-requests (slice 0 (s .head .count) (s .requests)) (n2 .0));
+      request =
+          front-each GoodRequest (s .head .count) (s .requests) blankRequest (omega arith) (good-requests (slice 0 (s .head .count) (s .requests)) (n2 .0));
       all-few = few;
       pending-few = good-sums s e .1;
-      plan = front-each (GoodPlan (packetLimit (s .cfg .speed)) (slots (s .cfg))) (allPackets s) (s .plans) blankPlan (omega arith) (good-plans (packetLimit (s .cfg .speed)) (slots (s .cfg)) (slice 0 (allPackets s) (s .plans)) (n4 .0));
+      plan =
+          front-each (GoodPlan (packetLimit (s .cfg .speed)) (slots (s .cfg))) (allPackets s) (s .plans) blankPlan (omega arith)
+          (good-plans (packetLimit (s .cfg .speed)) (slots (s .cfg)) (slice 0 (allPackets s) (s .plans)) (n4 .0));
       cursor = leb-false (slots (s .cfg)) (s .head .«td_last») (state .0);
       idle-done = λ off. omega (arith, done-in, ltb-false (s .head .done) (s .head .count) (idle off .0));
       idle-nothing = λ off. no-reason (s .fatal) (idle off .1);
@@ -185,7 +189,8 @@ sound s rl pl e =
 -- and back: these facts are all that the check asks
 not-bad-config : (cfg : IsoConfig) → GoodConfig cfg → isBadConfig cfg ≡ false
 not-bad-config cfg g =
-    none (le-ltb 15 (cfg .endpoint) (g .endpoint)) (none (le-ltb 127 (cfg .device) (g .device)) (none (le-ltb 2047 (cfg .«max_packet_size») (g .size)) (le-ltb 3 (cfg .mult) (g .mult))))
+    none (le-ltb 15 (cfg .endpoint) (g .endpoint))
+    (none (le-ltb 127 (cfg .device) (g .device)) (none (le-ltb 2047 (cfg .«max_packet_size») (g .size)) (le-ltb 3 (cfg .mult) (g .mult))))
 
 not-bad-requests : (l : List IsoRequest) → ((i : ℕ) → i < length l → GoodRequest (getD l i blankRequest)) → anyBadRequest l ≡ false
 not-bad-requests [] g = refl
@@ -208,11 +213,14 @@ not-bad-plans limit slots (p ∷ l) g =
 pub not-bad : (s : IsoChannelState) → Sound s → isBadRecord s ≡ false
 not-bad s g =
     none (none (not-bad-config (s .cfg) (g .config)) (none (le-ltb (s .head .count) (s .head .done) (g .done-in)) (le-ltb 64 (s .head .count) (g .count-in))))
-    (none (not-bad-requests (slice 0 (s .head .count) (s .requests)) (front-kept GoodRequest (s .head .count) (s .requests) blankRequest (omega arith) (g .request)))
+    (none
+    (not-bad-requests (slice 0 (s .head .count) (s .requests)) (front-kept GoodRequest (s .head .count) (s .requests) blankRequest (omega arith) (g .request)))
     (none (none (le-ltb 1024 (allPackets s) (g .all-few)) (le-ltb (room (s .cfg)) (pendingPackets s) (g .pending-few)))
-    (none (not-bad-plans (packetLimit (s .cfg .speed)) (slots (s .cfg)) (slice 0 (allPackets s) (s .plans)) (front-kept (GoodPlan (packetLimit (s .cfg .speed)) (slots (s .cfg))) (allPackets s) (s .plans) blankPlan (omega arith) (g .plan)))
+    (none (not-bad-plans (packetLimit (s .cfg .speed)) (slots (s .cfg)) (slice 0 (allPackets s) (s .plans))
+    (front-kept (GoodPlan (packetLimit (s .cfg .speed)) (slots (s .cfg))) (allPackets s) (s .plans) blankPlan (omega arith) (g .plan)))
     (none (lt-leb (slots (s .cfg)) (s .head .«td_last») (g .cursor))
-    (unless (s .head .live) (ltb (s .head .done) (s .head .count) || hasReason (s .fatal)) (λ off. none (le-ltb (s .head .done) (s .head .count) (omega (arith, g .idle-done off))) (ap hasReason (g .idle-nothing off))))))))
+    (unless (s .head .live) (ltb (s .head .done) (s .head .count) || hasReason (s .fatal))
+    (λ off. none (le-ltb (s .head .done) (s .head .count) (omega (arith, g .idle-done off))) (ap hasReason (g .idle-nothing off))))))))
 
 -- a session with requests pending has packets pending
 pub pending-some : (s : IsoChannelState) → Sound s → s .head .done < s .head .count → 0 < pendingPackets s

@@ -84,7 +84,8 @@ module _ (at : ℕ) (s : IsoChannelState) (g : Sound s) (h : at < s .head .done)
       omega (arith, few, fewer-plans, parts, pending-behind) in
       ap (λ (n : ℕ). slice n (allPackets (removed at s)) (removed at s .plans)) from
       ∙ ap (λ (n : ℕ). slice (plansBegin at s + ((allPackets s - pendingPackets s) - plansEnd at s)) n (removed at s .plans)) (sym fewer-plans)
-      ∙ closed-end (plansBegin at s) (plansEnd at s) (allPackets s - pendingPackets s) (allPackets s) (s .plans) (omega arith) pending-behind (omega arith) plans-fit
+      ∙ closed-end (plansBegin at s) (plansEnd at s) (allPackets s - pendingPackets s) (allPackets s) (s .plans) (omega arith) pending-behind (omega arith)
+      plans-fit
 
   -- the pending requests and their plans are as they were
   pub removed-pending : (pendingRequests (removed at s) ≡ pendingRequests s) × (pendingPlans (removed at s) ≡ pendingPlans s)

@@ -1,12 +1,13 @@
 -- The answers of recovery, reset and cancelling: what each is where the tests before it were passed and its own held; and how the walk for a
 -- request's number goes on.
-use mathlib.Core.Path.{_≡_, _∙_, ap}
+use mathlib.Core.Path.{_≡_, _∙_, sym, ap, subst}
 use mathlib.Core.Bool.{Bool, true, false, cond}
 use mathlib.Core.List.{List}
 use Prim.Native.Nat.{ℕ, suc, _+_, _≤_, _<_}
 use lib.Dec.{eqb, ltb}
 use lib.ListN.{length, getD}
 use lib.Seq.{slice}
+use borrow.Author.Tests.{lt-ltb, le-ltb}
 use Rattle.session.specs.declared.types.IsoChannelState.{IsoChannelState}
 use Rattle.session.specs.declared.types.IsoHaltReason.the-variants as reason
 use Rattle.session.specs.declared.types.IsoRequest.{IsoRequest}
@@ -30,16 +31,35 @@ module _ (s : IsoChannelState) (ring : List ℕ) (r : IsoReply) (words : List �
   abbrev inner-words : List ℕ
   inner-words = cond (isBadRecord s) ring words
 
-  pub lent-short : short ≡ true → (cond short (refusedReply 17 s) inner ≡ refusedReply 17 s) × (cond short ring inner-words ≡ ring)
-  lent-short e = (first short (refusedReply 17 s) inner e, first short ring inner-words e)
-
-  pub lent-bad :
-      short ≡ false → isBadRecord s ≡ true → (cond short (refusedReply 17 s) inner ≡ refusedReply 18 s) × (cond short ring inner-words ≡ ring)
-  lent-bad e b = (in-turn (refusedReply 17 s) (refusedReply 18 s) r e b, in-turn ring ring words e b)
+  -- the reply and the ring of the definition
+  abbrev Told : IsoReply → List ℕ → Type 0
+  Told answered left = (answered ≡ cond short (refusedReply 17 s) inner) × (left ≡ cond short ring inner-words)
 
   pub lent-done :
       short ≡ false → isBadRecord s ≡ false → (cond short (refusedReply 17 s) inner ≡ r) × (cond short ring inner-words ≡ words)
   lent-done e b = (in-turn (refusedReply 17 s) (refusedReply 18 s) r e b, in-turn ring ring words e b)
+
+  -- each exit, by what the code knows there: how many words it asks for, and whether the record is bad
+  pub lent-short : {n : ℕ} {answered : IsoReply} → n ≡ ringWords (s .cfg) → length ring < n → answered ≡ refusedReply 17 s → Told answered ring
+  lent-short asked h p =
+      let e : short ≡ true = lt-ltb (length ring) (ringWords (s .cfg)) (subst (λ (k : ℕ). length ring < k) asked h) in
+      (p ∙ sym (first short (refusedReply 17 s) inner e), sym (first short ring inner-words e))
+
+  long : {n : ℕ} → n ≡ ringWords (s .cfg) → n ≤ length ring → short ≡ false
+  long asked h = le-ltb (length ring) (ringWords (s .cfg)) (subst (λ (k : ℕ). k ≤ length ring) asked h)
+
+  pub lent-bad :
+      {n : ℕ} {bad : Bool} {answered : IsoReply} → n ≡ ringWords (s .cfg) → n ≤ length ring → bad ≡ isBadRecord s → bad ≡ true
+      → answered ≡ refusedReply 18 s → Told answered ring
+  lent-bad asked h is b p = (
+    p ∙ sym (in-turn (refusedReply 17 s) (refusedReply 18 s) r (long asked h) (sym is ∙ b)),
+    sym (in-turn ring ring words (long asked h) (sym is ∙ b)),
+  )
+
+  pub lent-left :
+      {n : ℕ} {bad : Bool} {answered : IsoReply} {left : List ℕ} → n ≡ ringWords (s .cfg) → n ≤ length ring → bad ≡ isBadRecord s → bad ≡ false
+      → answered ≡ r → left ≡ words → Told answered left
+  lent-left asked h is b p q = let d = lent-done (long asked h) (sym is ∙ b) in (p ∙ sym (d .0), q ∙ sym (d .1))
 
 -- reset
 module _ (s : IsoChannelState) where

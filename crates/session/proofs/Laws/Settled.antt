@@ -22,15 +22,6 @@ use Rattle.session.proofs.Laws.Lists.{slice-next, slice-past, slice-aft
 use Rattle.session.proofs.Laws.Sums.{packets-next, packets-split}
 use Rattle.session.proofs.Laws.Record.{Sound, GoodRequest, GoodPlan}
 
--- the bytes of one plan more, and of none
-pub moved-next :
-    (i t : ℕ) (l : List IsoPacketPlan) → i < t → t ≤ length l
-    → movedTotal (slice i t l) ≡ getD l i blankPlan .actual + movedTotal (slice (i + 1) t l)
-moved-next i t l h k = ap movedTotal (slice-next i t l blankPlan h k)
-
-pub moved-past : (i t : ℕ) (l : List IsoPacketPlan) → t ≤ i → movedTotal (slice i t l) ≡ 0
-moved-past i t l h = ap movedTotal (slice-past i t l h)
-
 -- the slots still to clear, after one plan's is, and where none is left
 pub cleared-next :
     (i t : ℕ) (l : List IsoPacketPlan) (ring now : List ℕ) → i < t → t ≤ length l
@@ -47,7 +38,11 @@ cleared-past i t l ring h = sym (ap (λ (ps : List IsoPacketPlan). slotsCleared 
 -- its plans lie among those in use, and it has some
 pub oldest-in : (s : IsoChannelState) → Sound s → s .head .done < s .head .count → oldestTo s ≤ allPackets s
 oldest-in s g h =
-    omega (arith, packets-split (s .head .done) (s .head .count) (s .requests) (omega arith) (omega (arith, g .requests-long, g .count-in)), packets-next (s .head .done) (s .head .count) (s .requests) h (omega (arith, g .requests-long, g .count-in)))
+    omega (
+      arith,
+      packets-split (s .head .done) (s .head .count) (s .requests) (omega arith) (omega (arith, g .requests-long, g .count-in)),
+      packets-next (s .head .done) (s .head .count) (s .requests) h (omega (arith, g .requests-long, g .count-in)),
+    )
 
 pub oldest-some : (s : IsoChannelState) → Sound s → s .head .done < s .head .count → 0 < oldestTo s
 oldest-some s g h = omega (arith, g .request (s .head .done) h .some)
@@ -98,7 +93,7 @@ pub moved-within : (d : Direction) (planned status : ℕ) → movedLength d plan
 moved-within In planned status = omega arith
 moved-within Out planned status = omega arith
 
-abbrev Good : IsoChannelState → IsoPacketPlan → Type 0
+abbrev pub Good : IsoChannelState → IsoPacketPlan → Type 0
 Good s = GoodPlan (packetLimit (s .cfg .speed)) (slots (s .cfg))
 
 module _ (s : IsoChannelState) (ring : List ℕ) (g : Sound s) (h : s .head .done < s .head .count) where
@@ -106,12 +101,15 @@ module _ (s : IsoChannelState) (ring : List ℕ) (g : Sound s) (h : s .head .don
   within = omega (arith, g .requests-long, g .count-in)
 
   -- the packets of the requests after the oldest one, and of all, are as they were
-  rest-kept : packetsOf (slice (s .head .done + 1) (s .head .count) (settledSession s ring .requests)) ≡ packetsOf (slice (s .head .done + 1) (s .head .count) (s .requests))
+  rest-kept :
+      packetsOf (slice (s .head .done + 1) (s .head .count) (settledSession s ring .requests))
+      ≡ packetsOf (slice (s .head .done + 1) (s .head .count) (s .requests))
   rest-kept =
       ap packetsOf (slice-after-set (s .head .done + 1) (s .head .count) (s .head .done) (s .requests) (settledRequest s ring) (omega arith) h)
 
   front-same : packetsOf (slice 0 (s .head .done) (settledSession s ring .requests)) ≡ packetsOf (slice 0 (s .head .done) (s .requests))
-  front-same = ap (λ (l : List IsoRequest). packetsOf (drop 0 l)) (take-set-le (s .head .done) (s .requests) (s .head .done) (settledRequest s ring) (omega arith))
+  front-same =
+      ap (λ (l : List IsoRequest). packetsOf (drop 0 l)) (take-set-le (s .head .done) (s .requests) (s .head .done) (settledRequest s ring) (omega arith))
 
   here-same : getD (settledSession s ring .requests) (s .head .done) blankRequest .packets ≡ oldest s .packets
   here-same = ap (λ (r : IsoRequest). r .packets) (getD-set-same (s .requests) (s .head .done) (settledRequest s ring) blankRequest (omega (arith, within)))
@@ -142,12 +140,13 @@ module _ (s : IsoChannelState) (ring : List ℕ) (g : Sound s) (h : s .head .don
           ∙ getD-set-same (s .requests) (s .head .done) (settledRequest s ring) blankRequest (omega (arith, within)))
           good
       go false e =
-          subst⁻¹ GoodRequest (getD-set-other (s .requests) (s .head .done) i (settledRequest s ring) blankRequest (eqb-false i (s .head .done) e)) (g .request i l)
+          subst⁻¹ GoodRequest (getD-set-other (s .requests) (s .head .done) i (settledRequest s ring) blankRequest (eqb-false i (s .head .done) e))
+          (g .request i l)
 
   fits-plans : oldestTo s ≤ length (s .plans)
   fits-plans = omega (arith, oldest-in s g h, g .all-few, g .plans-long)
 
-  settled-count : length (settledPlans s ring) ≡ oldest s .packets
+  pub settled-count : length (settledPlans s ring) ≡ oldest s .packets
   settled-count =
       omega (arith, length-map (oldestPlans s) (settledPlan (s .cfg .direction) ring), length-slice (oldestFrom s) (oldestTo s) (s .plans) fits-plans)
 
@@ -163,7 +162,8 @@ module _ (s : IsoChannelState) (ring : List ℕ) (g : Sound s) (h : s .head .don
           subst⁻¹ (Good s)
           (ap (λ (j : ℕ). getD (settledSession s ring .plans) j blankPlan) at
           ∙ getD-sets-in (settledPlans s ring) (s .plans) (oldestFrom s) k blankPlan (omega (arith, settled-count)) (omega (arith, settled-count, fits-plans))
-          ∙ getD-map-in (settledPlan (s .cfg .direction) ring) (oldestPlans s) k blankPlan blankPlan (omega (arith, settled-count, length-map (oldestPlans s) (settledPlan (s .cfg .direction) ring)))
+          ∙ getD-map-in (settledPlan (s .cfg .direction) ring) (oldestPlans s) k blankPlan blankPlan
+          (omega (arith, settled-count, length-map (oldestPlans s) (settledPlan (s .cfg .direction) ring)))
           ∙ ap (settledPlan (s .cfg .direction) ring) (getD-slice (oldestFrom s) (oldestTo s) k (s .plans) blankPlan (omega arith)))
           good
 
@@ -172,7 +172,8 @@ module _ (s : IsoChannelState) (ring : List ℕ) (g : Sound s) (h : s .head .don
           let below : i < oldestTo s = ltb-true i (oldestTo s) e in
           amended (i - oldestFrom s) (omega arith) (omega arith)
       behind false e from =
-          subst⁻¹ (Good s) (getD-sets-after (settledPlans s ring) (s .plans) (oldestFrom s) i blankPlan (omega (arith, settled-count, ltb-false i (oldestTo s) e))) (g .plan i l)
+          subst⁻¹ (Good s)
+          (getD-sets-after (settledPlans s ring) (s .plans) (oldestFrom s) i blankPlan (omega (arith, settled-count, ltb-false i (oldestTo s) e))) (g .plan i l)
 
       go : (b : Bool) → ltb i (oldestFrom s) ≡ b → Good s (getD (settledSession s ring .plans) i blankPlan)
       go true e =
@@ -207,7 +208,9 @@ drain-sound zero bit s ring g h = g
 drain-sound (suc k) bit s ring g h =
     picked (bit || isServed s ring) (drain-sound k false (settledSession s ring) (settledRing s ring) (settled-sound s ring g (omega arith)) (omega arith))
   where
-    picked : (b : Bool) → Sound (drain k false (settledSession s ring) (settledRing s ring) .session) → Sound (cond b (drain k false (settledSession s ring) (settledRing s ring)) (record { session = s; ring = ring }) .session)
+    picked :
+        (b : Bool) → Sound (drain k false (settledSession s ring) (settledRing s ring) .session)
+        → Sound (cond b (drain k false (settledSession s ring) (settledRing s ring)) (record { session = s; ring = ring }) .session)
     picked true n = n
     picked false n = g
 

@@ -103,7 +103,8 @@ module _ (R insert step : ℕ) where
 
   -- the slot and the length of plan k of a submission
   pub plan-of : (lengths : List ℕ) (k : ℕ) → k < length lengths
-      → (getD (plansFrom R insert step 0 lengths) k blankPlan .«desc_index» ≡ slotAt R insert step k) × (getD (plansFrom R insert step 0 lengths) k blankPlan .planned ≡ getD lengths k 0)
+      → (getD (plansFrom R insert step 0 lengths) k blankPlan .«desc_index» ≡ slotAt R insert step k)
+      × (getD (plansFrom R insert step 0 lengths) k blankPlan .planned ≡ getD lengths k 0)
   plan-of lengths k h =
       let e = getD-plansFrom 0 lengths k h in
       (ap (λ (p : IsoPacketPlan). p .«desc_index») e ∙ ap (slotAt R insert step) (zero-add k), ap (λ (p : IsoPacketPlan). p .planned) e)
@@ -128,17 +129,11 @@ module _ (R insert step i n : ℕ) (lengths : List ℕ) (table : List IsoPacketP
       → sets (set table to (newPlan (getD lengths i 0) slot)) (to + 1) (plansFrom R insert step (i + 1) (drop (i + 1) (take n lengths)))
       ≡ sets table to (plansFrom R insert step i (drop i (take n lengths)))
   plans-next slot h fits at =
-      ap (λ (len : ℕ). sets (set table to (newPlan len slot)) (to + 1) (plansFrom R insert step (i + 1) (drop (i + 1) (take n lengths)))) (sym (getD-take n lengths i 0 h))
+      ap (λ (len : ℕ). sets (set table to (newPlan len slot)) (to + 1) (plansFrom R insert step (i + 1) (drop (i + 1) (take n lengths))))
+      (sym (getD-take n lengths i 0 h))
       ∙ plans-more R insert step i (take n lengths) table to slot (omega (arith, length-take-le n lengths fits)) at
 
 -- ---- lengths
-
--- the sum of what is left is the length there and the sum of what is left after it; past the end it is 0
-pub sum-more : (lengths : List ℕ) (i : ℕ) → i < length lengths → sum (drop i lengths) ≡ getD lengths i 0 + sum (drop (i + 1) lengths)
-sum-more lengths i h = rw (drop-more lengths i h)
-
-pub sum-end : (lengths : List ℕ) (i : ℕ) → length lengths ≤ i → sum (drop i lengths) ≡ 0
-sum-end lengths i h = rw (drop-of-length-le lengths h)
 
 -- the first long packet of what is left: here, further on, or none
 pub long-here : (limit : ℕ) (lengths : List ℕ) (i : ℕ) → i < length lengths → limit < getD lengths i 0 → firstLong limit (drop i lengths) ≡ 0

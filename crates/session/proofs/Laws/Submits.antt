@@ -89,14 +89,18 @@ module _ (s : IsoChannelState) (t : IsoTransfer) (lengths ring : List ℕ) (inse
   -- the session: a request and its plans behind the others where packets were added, else the tables as they were
   module _ (n all slot : ℕ) (requests : List IsoRequest) (plans : List IsoPacketPlan)
       (put : plans ≡ sets (s .plans) all (plansFrom (slots (s .cfg)) insert (stepOf (s .cfg)) 0 (take n lengths)))
-      (push : ((0 < n) × (requests ≡ set (s .requests) (s .head .count) (newRequest (s .head .«next_request_id») n))) ⊎ ((n ≤ 0) × (requests ≡ s .requests))) where
+      (push : ((0 < n) × (requests ≡ set (s .requests) (s .head .count) (newRequest (s .head .«next_request_id») n)))
+      ⊎ ((n ≤ 0) × (requests ≡ s .requests))) where
     same-plans : n ≡ 0 → plans ≡ s .plans
     same-plans e = put ∙ ap (λ (k : ℕ). sets (s .plans) all (plansFrom (slots (s .cfg)) insert (stepOf (s .cfg)) 0 (take k lengths))) e
 
     same-requests : n ≡ 0 → requests ≡ s .requests
     same-requests e = ⊎-elim (λ w. absurd (omega (arith, w .0))) (λ w. w .1) push
 
-    kept : (way : SubmitWay) → n ≡ 0 → whole (s .cfg) (headAfter way (s .cfg) (s .head) t slot) (s .fatal) requests plans ≡ whole (s .cfg) (headAfter way (s .cfg) (s .head) t slot) (s .fatal) (s .requests) (s .plans)
+    kept :
+        (way : SubmitWay) → n ≡ 0
+        → whole (s .cfg) (headAfter way (s .cfg) (s .head) t slot) (s .fatal) requests plans
+        ≡ whole (s .cfg) (headAfter way (s .cfg) (s .head) t slot) (s .fatal) (s .requests) (s .plans)
     kept way e = ap₂ (whole (s .cfg) (headAfter way (s .cfg) (s .head) t slot) (s .fatal)) (same-requests e) (same-plans e)
 
     pushed : 0 < n → requests ≡ set (s .requests) (s .head .count) (newRequest (s .head .«next_request_id») n)
@@ -128,7 +132,8 @@ module _ (s : IsoChannelState) (t : IsoTransfer) (lengths ring : List ℕ) (inse
         ∙ ap₂ (whole (s .cfg) (headAfter Accept (s .cfg) (s .head) t (slotAt R i step (length lengths))) (s .fatal)) asked planned
 
 -- the whole answer, from the session as the code leaves it before its numbers
-module _ (s : IsoChannelState) (t : IsoTransfer) (lengths ring : List ℕ) (insert n all slot : ℕ) (way : SubmitWay) (self : IsoChannelState) (plans : List IsoPacketPlan) where
+module _ (s : IsoChannelState) (t : IsoTransfer) (lengths ring : List ℕ) (insert n all slot : ℕ) (way : SubmitWay) (self : IsoChannelState)
+    (plans : List IsoPacketPlan) where
   abbrev pub Pushed : Type 0
   Pushed =
       ((0 < n) × (self ≡ whole (s .cfg) (s .head) (s .fatal) (set (s .requests) (s .head .count) (newRequest (s .head .«next_request_id») n)) plans))
@@ -146,14 +151,18 @@ module _ (s : IsoChannelState) (t : IsoTransfer) (lengths ring : List ℕ) (inse
       ≡ submittedBy way s t lengths ring
   submitted-by answer start next push put e at f last a b h =
       ap (λ (x : SubmitAnswer). of x start (whole (self .cfg) next (self .fatal) (self .requests) (self .plans))) (a ∙ answer-only way s)
-      ∙ ap (λ (y : IsoChannelStart). of (answerOf way s) y (whole (self .cfg) next (self .fatal) (self .requests) (self .plans))) (b ∙ start-by s t n way (length lengths) e (λ w. f w .1))
-      ∙ ap (of (answerOf way s) (startAfter way s t)) (⊎-elim (λ w. left (set (s .requests) (s .head .count) (newRequest (s .head .«next_request_id») n)) (inl (w .0, refl)) (w .1)) (λ w. left (s .requests) (inr (w .0, refl)) (w .1)) push)
+      ∙ ap (λ (y : IsoChannelStart). of (answerOf way s) y (whole (self .cfg) next (self .fatal) (self .requests) (self .plans)))
+      (b ∙ start-by s t n way (length lengths) e (λ w. f w .1))
+      ∙ ap (of (answerOf way s) (startAfter way s t))
+      (⊎-elim (λ w. left (set (s .requests) (s .head .count) (newRequest (s .head .«next_request_id») n)) (inl (w .0, refl)) (w .1))
+      (λ w. left (s .requests) (inr (w .0, refl)) (w .1)) push)
     where
       of : SubmitAnswer → IsoChannelStart → IsoChannelState → Submitted
       of x y z = record { answer = x; start = y; session = z }
 
       left :
-          (requests : List IsoRequest) → ((0 < n) × (requests ≡ set (s .requests) (s .head .count) (newRequest (s .head .«next_request_id») n))) ⊎ ((n ≤ 0) × (requests ≡ s .requests))
+          (requests : List IsoRequest)
+          → ((0 < n) × (requests ≡ set (s .requests) (s .head .count) (newRequest (s .head .«next_request_id») n))) ⊎ ((n ≤ 0) × (requests ≡ s .requests))
           → self ≡ whole (s .cfg) (s .head) (s .fatal) requests plans
           → whole (self .cfg) next (self .fatal) (self .requests) (self .plans) ≡ sessionAfter way s t lengths ring
       left requests p q =

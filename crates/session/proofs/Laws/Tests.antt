@@ -1,6 +1,9 @@
--- Laws of tests: when an `or` and an `and` are false, and what a test chooses.
-use mathlib.Core.Path.{_≡_, refl, _∙_, ap}
+-- Laws of tests: when an `or` and an `and` are false, what a test of a number says that has another name, and what a test chooses.
+use mathlib.Core.Path.{_≡_, refl, _∙_, ap, subst}
 use mathlib.Core.Bool.{Bool, true, false, not, _||_, _&&_, cond}
+use Prim.Native.Nat.{ℕ, _≤_, _<_}
+use lib.Dec.{ltb}
+use borrow.Author.Tests.{lt-ltb, le-ltb}
 
 -- of sides that are false
 pub none : {a b : Bool} → a ≡ false → b ≡ false → (a || b) ≡ false
@@ -9,6 +12,13 @@ none p q = cc
 pub unless : (t b : Bool) → (t ≡ false → b ≡ false) → (not t && b) ≡ false
 unless true b h = refl
 unless false b h = h refl
+
+-- whether a number that the code knows by another name is below n
+pub below : {a b : ℕ} (n : ℕ) → a ≡ b → a < n → ltb b n ≡ true
+below {b = b} n e h = lt-ltb b n (subst (λ (k : ℕ). k < n) e h)
+
+pub not-below : {a b : ℕ} (n : ℕ) → a ≡ b → n ≤ a → ltb b n ≡ false
+not-below {b = b} n e h = le-ltb b n (subst (λ (k : ℕ). n ≤ k) e h)
 
 -- a choice by a test that is known, by two in turn, and what holds of it whatever the test
 module _ {A : Type 0} where

@@ -1,5 +1,5 @@
 -- The laws of the tests of a submission: the code's flags are the definition's tests, and numbers that agree in each flag are equal.
-use mathlib.Core.Path.{_≡_, _∙_, sym, ap, subst}
+use mathlib.Core.Path.{_≡_, _∙_, sym, ap}
 use mathlib.Core.Bool.{Bool, true, false, not, _&&_, _||_, cond}
 use mathlib.Core.List.{List, [], _∷_}
 use Prim.Native.Nat.{ℕ, _+_, _-_, _≤_, _<_}
@@ -16,6 +16,7 @@ use Rattle.session.specs.declared.types.IsoChannelState.{IsoChannelState
 use Rattle.session.specs.Way.{_⇒_, entryNumber, spendNumber, submitWay}
 use Rattle.session.specs.Submit.{submittedBy, submitted, ringAfter, submittedRing}
 use Rattle.session.proofs.Laws.Checks.{_and_, none-holds}
+use Rattle.session.proofs.Laws.Tests.{below, not-below}
 
 -- one more than count is above the limit just where count reaches it
 count-test : (limit count : ℕ) → leb limit count ≡ ltb limit (count + 1)
@@ -67,14 +68,14 @@ refuse-way r entry long n spend gate e h = let f : eqb entry 0 ≡ false = ne-eq
 pub long-way : (x entry long n spend : ℕ) (gate : SubmitWay) → entry ≡ 0 → x ≡ long → x < n → TooLong x ≡ wayOf entry long n spend gate
 long-way x entry long n spend gate z e h =
     let f : eqb entry 0 ≡ true = eq-eqb entry 0 z in
-    let g : ltb long n ≡ true = lt-ltb long n (subst (λ (y : ℕ). y < n) e h) in
+    let g : ltb long n ≡ true = below n e h in
     rw (f, g, e)
 
 pub spend-way :
     (y x entry long n spend : ℕ) (gate : SubmitWay) → entry ≡ 0 → x ≡ long → n ≤ x → y ≡ spend → (y ≡ 0 → ⊥) → Spend y ≡ wayOf entry long n spend gate
 spend-way y x entry long n spend gate z e h p o =
     let f : eqb entry 0 ≡ true = eq-eqb entry 0 z in
-    let g : ltb long n ≡ false = le-ltb long n (subst (λ (k : ℕ). n ≤ k) e h) in
+    let g : ltb long n ≡ false = not-below n e h in
     let q : eqb spend 0 ≡ false = ne-eqb spend 0 (λ w. o (p ∙ w)) in
     rw (f, g, q, p)
 
@@ -82,13 +83,17 @@ pub gated-way :
     (x entry long n spend : ℕ) (way gate : SubmitWay) → entry ≡ 0 → x ≡ long → n ≤ x → spend ≡ 0 → way ≡ gate → way ≡ wayOf entry long n spend gate
 gated-way x entry long n spend way gate z e h o w =
     let f : eqb entry 0 ≡ true = eq-eqb entry 0 z in
-    let g : ltb long n ≡ false = le-ltb long n (subst (λ (k : ℕ). n ≤ k) e h) in
+    let g : ltb long n ≡ false = not-below n e h in
     let q : eqb spend 0 ≡ true = eq-eqb spend 0 o in
     rw (f, g, q) w
 
 -- what the call leaves follows from the way
-pub answer-by : (s : IsoChannelState) (t : IsoTransfer) (lengths ring : List ℕ) {way : SubmitWay} {r : Submitted} → way ≡ submitWay s t lengths ring → r ≡ submittedBy way s t lengths ring → r ≡ submitted s t lengths ring
+pub answer-by :
+    (s : IsoChannelState) (t : IsoTransfer) (lengths ring : List ℕ) {way : SubmitWay} {r : Submitted} → way ≡ submitWay s t lengths ring
+    → r ≡ submittedBy way s t lengths ring → r ≡ submitted s t lengths ring
 answer-by s t lengths ring e p = p ∙ ap (λ (w : SubmitWay). submittedBy w s t lengths ring) e
 
-pub ring-by : (s : IsoChannelState) (t : IsoTransfer) (lengths ring : List ℕ) {way : SubmitWay} {r : List ℕ} → way ≡ submitWay s t lengths ring → r ≡ ringAfter way s t lengths ring → r ≡ submittedRing s t lengths ring
+pub ring-by :
+    (s : IsoChannelState) (t : IsoTransfer) (lengths ring : List ℕ) {way : SubmitWay} {r : List ℕ} → way ≡ submitWay s t lengths ring
+    → r ≡ ringAfter way s t lengths ring → r ≡ submittedRing s t lengths ring
 ring-by s t lengths ring e p = p ∙ ap (λ (w : SubmitWay). ringAfter w s t lengths ring) e

@@ -19,7 +19,8 @@ chain-fields count last = read-back (chainEntries count last) tt
 pub setup-fields : ReadBack setupEntries
 setup-fields = read-back setupEntries tt
 
-pub hcchar-fields : (dev ep : ℕ) (dir : Direction) (type : Dwc2EpType) (mps : ℕ) (low : Bool) (m : ℕ) (odd : Bool) → ReadBack (hccharEntries dev ep dir type mps low m odd)
+pub hcchar-fields :
+    (dev ep : ℕ) (dir : Direction) (type : Dwc2EpType) (mps : ℕ) (low : Bool) (m : ℕ) (odd : Bool) → ReadBack (hccharEntries dev ep dir type mps low m odd)
 hcchar-fields dev ep dir type mps low m odd = read-back (hccharEntries dev ep dir type mps low m odd) tt
 
 pub hctsiz-fields : (pid : Dwc2Pid) (descs info : ℕ) → ReadBack (hctsizEntries pid descs info)
@@ -37,5 +38,7 @@ pub iso-never-ends : (len : ℕ) (last : Bool) → get endOfList (isoStatus len 
 iso-never-ends len last = read-clear endOfList (isoEntries len last) tt tt
 
 -- bits 30 and 31, by which a channel is stopped and started, stay 0
-pub hcchar-not-started : (dev ep : ℕ) (dir : Direction) (type : Dwc2EpType) (mps : ℕ) (low : Bool) (m : ℕ) (odd : Bool) → get (bits 30 2) (hccharWord dev ep dir type mps low m odd) ≡ 0
+pub hcchar-not-started :
+    (dev ep : ℕ) (dir : Direction) (type : Dwc2EpType) (mps : ℕ) (low : Bool) (m : ℕ) (odd : Bool)
+    → get (bits 30 2) (hccharWord dev ep dir type mps low m odd) ≡ 0
 hcchar-not-started dev ep dir type mps low m odd = read-clear (bits 30 2) (hccharEntries dev ep dir type mps low m odd) tt tt

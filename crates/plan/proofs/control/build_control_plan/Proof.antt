@@ -17,7 +17,8 @@ is-planned-requires c κs = search needs
 
 plan-control-requires : tie.Need-plan-control-requires
 plan-control-requires c κs =
-    sym (c .before .before .before .control-answer .ensures) ∙ planned (c .before .before .before .control-answer .result) (sym (c .before .before .is-planned .ensures) ∙ c .before .if1 .taken)
+    let control-answer = c .before .before .before .control-answer in
+    sym (control-answer .ensures) ∙ planned (control-answer .result) (sym (c .before .before .is-planned .ensures) ∙ c .before .if1 .taken)
 
 same-length : tie.Need-same-length
 same-length c = search needs
@@ -37,10 +38,11 @@ refuse-control-requires c κs = search needs
 
 returns-2 : tie.Need-returns-2
 returns-2 c =
+    let control-answer = c .before .before .before .control-answer in
     let a = c .before .before .before .before .before .args in
     let no : isPlanned (controlAnswer (a .request) (length (a .array .now))) ≡ false =
-    ap isPlanned (sym (c .before .before .before .control-answer .ensures)) ∙ sym (c .before .before .is-planned .ensures) ∙ c .before .if1 .left in (
-      c .refuse-control .ensures ∙ ap refusedControl (c .before .before .before .control-answer .ensures) ∙ sym (if-refused (controlAnswer (a .request) (length (a .array .now))) _ _ no),
+    ap isPlanned (sym (control-answer .ensures)) ∙ sym (c .before .before .is-planned .ensures) ∙ c .before .if1 .left in (
+      c .refuse-control .ensures ∙ ap refusedControl (control-answer .ensures) ∙ sym (if-refused (controlAnswer (a .request) (length (a .array .now))) _ _ no),
       sym (if-refused (controlAnswer (a .request) (length (a .array .now))) _ _ no),
     )
 

@@ -38,7 +38,8 @@ data-stage-of-requires c κs =
 build-stage-descs-requires-2 : tie.Need-build-stage-descs-requires-2
 build-stage-descs-requires-2 c κs =
     let reach = can (c .before .before .before .before .before .before .before .before .before .before) .data-reach (c .before .before .if1 .taken) in
-    rw (c .before .data-stage-of .ensures) (one-fits ControlData _ Data1 _ 1 _ _ (omega (arith, room1 (c .before .before .before .before .before .before))) reach)
+    rw (c .before .data-stage-of .ensures)
+    (one-fits ControlData _ Data1 _ 1 _ _ (omega (arith, room1 (c .before .before .before .before .before .before))) reach)
 
 status-stage-requires : tie.Need-status-stage-requires
 status-stage-requires c κs = can (c .before .before .before .before .before .before .before .before .before .before .before .before .before) .status-reach
@@ -46,14 +47,16 @@ status-stage-requires c κs = can (c .before .before .before .before .before .be
 build-stage-descs-requires-3 : tie.Need-build-stage-descs-requires-3
 build-stage-descs-requires-3 c κs =
     let reach = can (c .before .before .before .before .before .before .before .before .before .before .before .before .before .before .before) .status-reach in
-    rw (c .before .status-stage .ensures) (one-fits ControlStatus _ Data1 _ 2 0 _ (omega (arith, room2 (c .before .before .before .before))) (omega (arith, reach)))
+    rw (c .before .status-stage .ensures)
+    (one-fits ControlStatus _ Data1 _ 2 0 _ (omega (arith, room2 (c .before .before .before .before))) (omega (arith, reach)))
 
 same-length : tie.Need-same-length
 same-length c = search needs
 
 returns : tie.Need-returns
 returns c =
-    let a = c .before .before .before .before .before .before .before .before .before .before .before .before .before .before .before .before .before .before .args in
+    let a =
+    c .before .before .before .before .before .before .before .before .before .before .before .before .before .before .before .before .before .before .args in
     planned-with-data
     (a .request)
     (now (a .array))
@@ -74,7 +77,8 @@ status-stage-requires-2 c κs = can (c .before .before .before .before .before .
 build-stage-descs-requires-4 : tie.Need-build-stage-descs-requires-4
 build-stage-descs-requires-4 c κs =
     let reach = can (c .before .before .before .before .before .before .before .before .before .before .before) .status-reach in
-    rw (c .before .status-stage2 .ensures) (one-fits ControlStatus _ Data1 _ 1 0 _ (omega (arith, room1 (c .before .before .before .before .before .before .before))) (omega (arith, reach)))
+    rw (c .before .status-stage2 .ensures)
+    (one-fits ControlStatus _ Data1 _ 1 0 _ (omega (arith, room1 (c .before .before .before .before .before .before .before))) (omega (arith, reach)))
 
 same-length-2 : tie.Need-same-length-2
 same-length-2 c = search needs

@@ -8,7 +8,8 @@ use Rattle.plan.proofs.control.status_stage.Statement.{statement}
 use Rattle.plan.proofs.control.status_stage.Tie as tie
 
 -- the address for the direction of the status stage
-addr : (c : tie.After-status-addr) → let r = c .before .before .before .before .before .args .request in c .status-addr .result ≡ statusAddr (statusWay r) (r .«setup_dma») (r .«status_dma»)
+addr : (c : tie.After-status-addr) → let r =
+    c .before .before .before .before .before .args .request in c .status-addr .result ≡ statusAddr (statusWay r) (r .«setup_dma») (r .«status_dma»)
 addr c =
     let r = c .before .before .before .before .before .args .request in
     c .status-addr .ensures ∙ ap (λ (d : Direction). statusAddr d (r .«setup_dma») (r .«status_dma»)) (c .before .before .before .status-direction .ensures)

@@ -37,7 +37,8 @@ size-of-requires c κs = search needs
 
 past2 :
     (c : tie.Else2)
-    → isBad (c .before .before .before .args .request .endpoint) (c .before .before .before .args .request .device) (c .before .before .before .args .request .«max_packet_size») ≡ false
+    → let a = c .before .before .before .args in
+    isBad (a .request .endpoint) (a .request .device) (a .request .«max_packet_size») ≡ false
 past2 c = sym (c .before .is-bad .ensures) ∙ c .if2 .left
 
 split-dma-lengths-requires : tie.Need-split-dma-lengths-requires
@@ -46,21 +47,26 @@ split-dma-lengths-requires c κs = search needs
 -- the split is that of the size raised to 1
 split-is :
     (c : tie.After-split-dma-lengths)
-    → c .split-dma-lengths .result .count ≡ splitOf (c .before .before .before .before .before .args .request .len) (sizeOf (c .before .before .before .before .before .args .request)) .count
+    → let a = c .before .before .before .before .before .args in
+    c .split-dma-lengths .result .count ≡ splitOf (a .request .len) (sizeOf (a .request)) .count
 split-is c =
-    ap (λ (s : DmaSplit). s .count) (c .split-dma-lengths .ensures) ∙ ap (λ (m : ℕ). splitOf (c .before .before .before .before .before .args .request .len) m .count) (c .before .size-of .ensures)
+    ap (λ (s : DmaSplit). s .count) (c .split-dma-lengths .ensures)
+    ∙ ap (λ (m : ℕ). splitOf (c .before .before .before .before .before .args .request .len) m .count) (c .before .size-of .ensures)
 
 returns-3 : tie.Need-returns-3
 returns-3 c =
-    let r = c .before .before .before .before .before .before .before .args .request in
-    let e1 : isShort (c .before .before .before .before .before .before .before .args .words) ≡ false = past1 (c .before .before .before .before .before .before) in
+    let a = c .before .before .before .before .before .before .before .args in
+    let r = a .request in
+    let e1 : isShort (a .words) ≡ false = past1 (c .before .before .before .before .before .before) in
     let e2 : isBad (r .endpoint) (r .device) (r .«max_packet_size») ≡ false = past2 (c .before .before .before .before) in
-    let e3 : ltb 1024 (splitOf (r .len) (sizeOf r) .count) ≡ true = lt-ltb 1024 _ (subst (λ (n : ℕ). 1024 < n) (split-is (c .before .before)) (c .if3 .taken)) in
+    let e3 : ltb 1024 (splitOf (r .len) (sizeOf r) .count) ≡ true =
+    lt-ltb 1024 _ (subst (λ (n : ℕ). 1024 < n) (split-is (c .before .before)) (c .if3 .taken)) in
     simp (e1, e2, e3)
 
 few :
     (c : tie.Else3)
-    → splitOf (c .before .before .before .before .before .before .before .args .request .len) (sizeOf (c .before .before .before .before .before .before .before .args .request)) .count ≤ 1024
+    → let a = c .before .before .before .before .before .before .before .args in
+    splitOf (a .request .len) (sizeOf (a .request)) .count ≤ 1024
 few c = subst (λ (n : ℕ). n ≤ 1024) (split-is (c .before .before)) (c .if3 .left)
 
 size-small : (c : tie.After-size-of) → sizeOf (c .before .before .before .before .args .request) ≤ 65_536
@@ -95,24 +101,29 @@ beyond-is c =
     let r = c .before .before .before .before .before .before .before .before .before .before .before .args .request in
     c .is-beyond .ensures
     ∙ ap (isBeyond (r .base))
-    (c .before .initial-len .ensures ∙ ap₂ (initialLen (r .len)) (c .before .before .before .before .before .before .before .size-of .ensures) (c .before .before .is-in .ensures))
+    (c .before .initial-len .ensures
+    ∙ ap₂ (initialLen (r .len)) (c .before .before .before .before .before .before .before .size-of .ensures) (c .before .before .is-in .ensures))
 
 returns-4 : tie.Need-returns-4
 returns-4 c =
-    let r = c .before .before .before .before .before .before .before .before .before .before .before .before .args .request in
-    let e1 : isShort (c .before .before .before .before .before .before .before .before .before .before .before .before .args .words) ≡ false =
+    let a = c .before .before .before .before .before .before .before .before .before .before .before .before .args in
+    let r = a .request in
+    let e1 : isShort (a .words) ≡ false =
     past1 (c .before .before .before .before .before .before .before .before .before .before .before) in
-    let e2 : isBad (r .endpoint) (r .device) (r .«max_packet_size») ≡ false = past2 (c .before .before .before .before .before .before .before .before .before) in
+    let e2 : isBad (r .endpoint) (r .device) (r .«max_packet_size») ≡ false =
+    past2 (c .before .before .before .before .before .before .before .before .before) in
     let e3 : ltb 1024 (splitOf (r .len) (sizeOf r) .count) ≡ false = le-ltb 1024 _ (few (c .before .before .before .before .before)) in
     let e4 : isBeyond (r .base) (initialLen (r .len) (sizeOf r) (isIn (r .direction))) ≡ true = sym (beyond-is (c .before)) ∙ c .if4 .taken in
     simp (e1, e2, e3, e4)
 
 returns-5 : tie.Need-returns-5
 returns-5 c =
-    let r = c .before .before .before .before .before .before .before .before .before .before .before .before .args .request in
-    let e1 : isShort (c .before .before .before .before .before .before .before .before .before .before .before .before .args .words) ≡ false =
+    let a = c .before .before .before .before .before .before .before .before .before .before .before .before .args in
+    let r = a .request in
+    let e1 : isShort (a .words) ≡ false =
     past1 (c .before .before .before .before .before .before .before .before .before .before .before) in
-    let e2 : isBad (r .endpoint) (r .device) (r .«max_packet_size») ≡ false = past2 (c .before .before .before .before .before .before .before .before .before) in
+    let e2 : isBad (r .endpoint) (r .device) (r .«max_packet_size») ≡ false =
+    past2 (c .before .before .before .before .before .before .before .before .before) in
     let e3 : ltb 1024 (splitOf (r .len) (sizeOf r) .count) ≡ false = le-ltb 1024 _ (few (c .before .before .before .before .before)) in
     let e4 : isBeyond (r .base) (initialLen (r .len) (sizeOf r) (isIn (r .direction))) ≡ false = sym (beyond-is (c .before)) ∙ c .if4 .left in
     simp (e1, e2, e3, e4)

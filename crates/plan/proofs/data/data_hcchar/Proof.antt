@@ -20,7 +20,13 @@ hcchar-requires c κs = search needs
 
 returns : tie.Need-returns
 returns c =
-    rw (c .hcchar .ensures, c .before .is-low .ensures, c .before .before .ep-type-of .ensures, c .before .before .before .size-of .ensures, c .before .before .before .before .odd-of .ensures)
+    rw (
+      c .hcchar .ensures,
+      c .before .is-low .ensures,
+      c .before .before .ep-type-of .ensures,
+      c .before .before .before .size-of .ensures,
+      c .before .before .before .before .odd-of .ensures,
+    )
 
 pub data-hcchar-spec : {M : Type 1} → statement M
 data-hcchar-spec =

@@ -18,7 +18,8 @@ is-planned-requires c κs = search needs
 
 plan-data-requires : tie.Need-plan-data-requires
 plan-data-requires c κs =
-    sym (c .before .before .before .data-answer .ensures) ∙ planned (c .before .before .before .data-answer .result) (sym (c .before .before .is-planned .ensures) ∙ c .before .if1 .taken)
+    let data-answer = c .before .before .before .data-answer in
+    sym (data-answer .ensures) ∙ planned (data-answer .result) (sym (c .before .before .is-planned .ensures) ∙ c .before .if1 .taken)
 
 same-length : tie.Need-same-length
 same-length c = search needs

@@ -47,7 +47,8 @@ facts : (c : tie.Start Inv-loop μ-loop) → Accepted (c .args .request) (length
 facts c = accepted (c .args .request) (length (c .args .array .now)) (c .pre)
 
 split-is :
-    (c : tie.After-split-dma-lengths Inv-loop μ-loop) → c .split-dma-lengths .result ≡ splitOf (c .before .before .before .args .request .len) (sizeOf (c .before .before .before .args .request))
+    (c : tie.After-split-dma-lengths Inv-loop μ-loop) → let a = c .before .before .before .args in
+    c .split-dma-lengths .result ≡ splitOf (a .request .len) (sizeOf (a .request))
 split-is c = c .split-dma-lengths .ensures ∙ ap (splitOf (c .before .before .before .args .request .len)) (c .before .size-of .ensures)
 
 chunk-is : (c : tie.After-split-dma-lengths Inv-loop μ-loop) → c .split-dma-lengths .result .chunk ≡ chunkOf (c .before .size-of .result)
@@ -84,31 +85,36 @@ start-is :
     (c .before .before .before .before .before .before .args .request .base) 0
     ≡ dataStages (c .before .before .before .before .before .before .args .request)
 start-is c =
+    let data-hcchar = c .before .before .data-hcchar in
+    let size-of = c .before .before .before .before .size-of in
     let r = c .before .before .before .before .before .before .args .request in
     ap
-    (λ (p : Dwc2DataPlan). ahead (c .before .before .data-hcchar .result) (c .before .before .before .before .size-of .result) p
+    (λ (p : Dwc2DataPlan). ahead (data-hcchar .result) (size-of .result) p
     (c .before .before .before .split-dma-lengths .result .count) (r .len) (r .base) 0)
     (c .blank-plan .ensures)
     ∙ ap
-    (λ (s : DmaSplit). ahead (c .before .before .data-hcchar .result) (c .before .before .before .before .size-of .result) (blankPlan Planned (r .toggle)) (s .count) (r .len) (r .base) 0)
+    (λ (s : DmaSplit). ahead (data-hcchar .result) (size-of .result) (blankPlan Planned (r .toggle)) (s .count) (r .len) (r .base) 0)
     (split-is (c .before .before .before))
     ∙ ap₂ (λ (h m : ℕ). ahead h m (blankPlan Planned (r .toggle)) (splitOf (r .len) (sizeOf r) .count) (r .len) (r .base) 0)
-    (c .before .before .data-hcchar .ensures) (c .before .before .before .before .size-of .ensures)
+    (data-hcchar .ensures) (size-of .ensures)
 
 loop-holds : tie.Need-loop-holds Inv-loop μ-loop
 loop-holds c =
-    let r = c .before .before .before .before .before .before .before .before .before .args .request in
+    let blank-plan = c .before .before .before .blank-plan in
+    let size-of = c .before .before .before .before .before .before .before .size-of in
+    let start = c .before .before .before .before .before .before .before .before .before in
+    let r = start .args .request in
     let chunk = ap (λ (s : DmaSplit). s .count) (c .before .before .before .before .before .before .split-dma-lengths .ensures) in
-    let none : c .before .before .before .blank-plan .result .count ≡ 0 = ap (λ (p : Dwc2DataPlan). p .count) (c .before .before .before .blank-plan .ensures) in (
+    let none : blank-plan .result .count ≡ 0 = ap (λ (p : Dwc2DataPlan). p .count) (blank-plan .ensures) in (
       refl,
       refl,
       refl,
-      subst⁻¹ (λ (n : ℕ). 0 < n) chunk (packets-some (r .len) (chunkOf (c .before .before .before .before .before .before .before .size-of .result))),
+      subst⁻¹ (λ (n : ℕ). 0 < n) chunk (packets-some (r .len) (chunkOf (size-of .result))),
       omega arith,
       omega (arith, few (c .before .before .before .before .before .before)),
-      subst⁻¹ (λ (n : ℕ). (n - 1) * chunkOf (c .before .before .before .before .before .before .before .size-of .result) ≤ r .len) chunk
-          (parts-within (r .len) (chunkOf (c .before .before .before .before .before .before .before .size-of .result))),
-      near (c .before .before .before .before .before .before .before .before .before),
+      subst⁻¹ (λ (n : ℕ). (n - 1) * chunkOf (size-of .result) ≤ r .len) chunk
+          (parts-within (r .len) (chunkOf (size-of .result))),
+      near start,
     )
 
 -- in the loop: the array is as long as it came, the plan has room for a stage, a full stage is so many bytes, and the size is the channel's
@@ -126,7 +132,8 @@ most-is c = omega (arith, chunk-is (c .before .before .before .before .before .b
 
 size-is :
     (c : tie.At-loop Inv-loop μ-loop)
-    → get packetSize (c .before .before .before .before .before .before .data-hcchar .result) ≡ c .before .before .before .before .before .before .before .before .size-of .result
+    → get packetSize (c .before .before .before .before .before .before .data-hcchar .result)
+    ≡ c .before .before .before .before .before .before .before .before .size-of .result
 size-is c =
     ap (get packetSize) (c .before .before .before .before .before .before .data-hcchar .ensures)
     ∙ hcchar-size (c .before .before .before .before .before .before .before .before .before .before .args .request)
@@ -185,28 +192,32 @@ loop-less c = omega (arith, c .before .before .before .before .before .before .l
 
 loop-again : tie.Need-loop-again Inv-loop μ-loop
 loop-again c =
+    let build-stage-descs = c .before .before .before .build-stage-descs in
+    let data-stage = c .before .before .before .before .before .data-stage in
+    let there = c .before .before .before .before .before .before in
+    let size-of = c .before .before .before .before .before .before .before .before .before .before .before .before .before .before .before .size-of in
     let l = c .before .before .before .before .before .before .before .loop in
     let step =
     turn (c .before .before .before .before .before .before .before .before .before .before .before .before .before .data-hcchar .result)
-    (c .before .before .before .before .before .before .before .before .before .before .before .before .before .before .before .size-of .result)
+    (size-of .result)
     (c .before .before .before .before .before .before .before .before .before .before .before .before .before .before .split-dma-lengths .result .chunk * 256)
-    (l .left) (l .len) (l .addr) (l .base) (l .plan) (c .add-stage .result) (c .before .before .before .before .before .data-stage .result) (l .array)
-    (c .before .before .before .build-stage-descs .last .1 .0)
-    (room (c .before .before .before .before .before .before .before)) (c .before .before .before .before .before .before .loop-test .taken)
-    (most-is (c .before .before .before .before .before .before .before)) (c .before .before .before .before .before .data-stage .ensures)
-    (c .before .before .before .build-stage-descs .ensures) (c .add-stage .ensures) in
+    (l .left) (l .len) (l .addr) (l .base) (l .plan) (c .add-stage .result) (data-stage .result) (l .array)
+    (build-stage-descs .last .1 .0)
+    (room (c .before .before .before .before .before .before .before)) (there .loop-test .taken)
+    (most-is (c .before .before .before .before .before .before .before)) (data-stage .ensures)
+    (build-stage-descs .ensures) (c .add-stage .ensures) in
     let more : c .add-stage .result .count ≡ l .plan .count + 1 = ap (λ (p : Dwc2DataPlan). p .count) (c .add-stage .ensures) in (
-      c .before .before .before .build-stage-descs .kept .1 .0 ∙ l .inv .0,
+      build-stage-descs .kept .1 .0 ∙ l .inv .0,
       step .0 ∙ l .inv .1,
       step .1 ∙ l .inv .2,
-      omega (arith, c .before .before .before .before .before .before .loop-test .taken),
+      omega (arith, there .loop-test .taken),
       omega (arith, more, l .inv .4),
-      omega (arith, l .inv .5, c .before .before .before .before .before .before .loop-test .taken),
+      omega (arith, l .inv .5, there .loop-test .taken),
       subst⁻¹
           (λ (k : ℕ). (l .left - 256 - 1) * chunkOf
-          (c .before .before .before .before .before .before .before .before .before .before .before .before .before .before .before .size-of .result) ≤ l .len - k)
-          (most-is (c .before .before .before .before .before .before .before)) (full (c .before .before .before .before .before .before) .1),
-      omega (arith, most-is (c .before .before .before .before .before .before .before), full (c .before .before .before .before .before .before) .0, l .inv .7),
+          (size-of .result) ≤ l .len - k)
+          (most-is (c .before .before .before .before .before .before .before)) (full there .1),
+      omega (arith, most-is (c .before .before .before .before .before .before .before), full there .0, l .inv .7),
     )
 
 data-stage-requires-2 : tie.Need-data-stage-requires-2 Inv-loop μ-loop
@@ -233,31 +244,37 @@ same-length c = c .before .before .before .build-stage-descs2 .kept .1 .0 ∙ c 
 
 returns : tie.Need-returns Inv-loop μ-loop
 returns c =
+    let build-stage-descs2 = c .before .before .before .build-stage-descs2 in
+    let data-stage2 = c .before .before .before .before .before .data-stage2 in
+    let there = c .before .before .before .before .before .before .before .before .before .before .before in
+    let size-of = c .before .before .before .before .before .before .before .before .before .before .before .before .before .before .before .size-of in
+    let a = c .before .before .before .before .before .before .before .before .before .before .before .before .before .before .before .before .before .args in
     let l = c .before .before .before .before .before .before .before .loop in
-    let r = c .before .before .before .before .before .before .before .before .before .before .before .before .before .before .before .before .before .args .request in
+    let r = a .request in
     let step =
     last-turn (c .before .before .before .before .before .before .before .before .before .before .before .before .before .data-hcchar .result)
-    (c .before .before .before .before .before .before .before .before .before .before .before .before .before .before .before .size-of .result)
-    (l .left) (l .len) (l .addr) (l .base) (l .plan) (c .add-stage2 .result) (c .before .before .before .before .before .data-stage2 .result)
-    (l .array) (c .before .before .before .build-stage-descs2 .last .1 .0)
+    (size-of .result)
+    (l .left) (l .len) (l .addr) (l .base) (l .plan) (c .add-stage2 .result) (data-stage2 .result)
+    (l .array) (build-stage-descs2 .last .1 .0)
     (room (c .before .before .before .before .before .before .before)) (c .before .before .before .before .before .before .loop-test .left)
-    (c .before .before .before .before .before .data-stage2 .ensures) (c .before .before .before .build-stage-descs2 .ensures)
+    (data-stage2 .ensures) (build-stage-descs2 .ensures)
     (c .add-stage2 .ensures) in (
       step .1 ∙ l .inv .2
           ∙ ap
           (withStages
-          (c .before .before .before .before .before .before .before .before .before .before .before .before .before .before .before .size-of .result)
-          (c .before .before .before .before .before .before .before .before .before .before .before .blank-plan .result))
-          (start-is (c .before .before .before .before .before .before .before .before .before .before .before))
+          (size-of .result)
+          (there .blank-plan .result))
+          (start-is there)
           ∙ ap₂ (λ (m : ℕ) (p : Dwc2DataPlan). withStages m p (dataStages r))
-          (c .before .before .before .before .before .before .before .before .before .before .before .before .before .before .before .size-of .ensures)
-          (c .before .before .before .before .before .before .before .before .before .before .before .blank-plan .ensures)
-          ∙ planned-is (sizeOf r) Planned (r .toggle) (dataStages r) (stages-few (dataHcchar r) (sizeOf r) 4 (splitOf (r .len) (sizeOf r) .count) (r .len) (r .base) 0 (r .toggle .0)),
+          (size-of .ensures)
+          (there .blank-plan .ensures)
+          ∙ planned-is (sizeOf r) Planned (r .toggle) (dataStages r)
+          (stages-few (dataHcchar r) (sizeOf r) 4 (splitOf (r .len) (sizeOf r) .count) (r .len) (r .base) 0 (r .toggle .0)),
       step .0 ∙ l .inv .1
           ∙ ap
           (λ (ss : List Dwc2TransferStage). laidOut ss
-          (c .before .before .before .before .before .before .before .before .before .before .before .before .before .before .before .before .before .args .array .now))
-          (start-is (c .before .before .before .before .before .before .before .before .before .before .before)),
+          (a .array .now))
+          (start-is there),
     )
 
 pub plan-data-spec : {M : Type 1} → statement M

@@ -39,8 +39,9 @@ sub-left c = omega arith
 
 -- where more than the last is left, a whole chunk is
 whole :
-    (c : tie.In-loop Inv-loop μ-loop) → (c .before .before .chunk-of .result ≤ c .before .loop .rest)
-    × ((c .before .loop .left - 1 - 1) * chunkOf (c .before .before .before .before .args .mps) ≤ c .before .loop .rest - chunkOf (c .before .before .before .before .args .mps))
+    (c : tie.In-loop Inv-loop μ-loop) → let a = c .before .before .before .before .args in
+    (c .before .before .chunk-of .result ≤ c .before .loop .rest)
+    × ((c .before .loop .left - 1 - 1) * chunkOf (a .mps) ≤ c .before .loop .rest - chunkOf (a .mps))
 whole c =
     let a = c .before .before .before .before .args in
     let now = c .before .loop in

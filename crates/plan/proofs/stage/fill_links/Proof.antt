@@ -17,7 +17,9 @@ same-length : tie.Need-same-length
 same-length c = search needs
 
 returns : tie.Need-returns
-returns c = c .before .before .fill-chain .ensures ∙ rw (c .before .before .before .before .before .mps-of .ensures .0, c .before .before .before .before .is-in-of .ensures)
+returns c =
+    c .before .before .fill-chain .ensures
+    ∙ rw (c .before .before .before .before .before .mps-of .ensures .0, c .before .before .before .before .is-in-of .ensures)
 
 pub fill-links-spec : {M : Type 1} → statement M
 fill-links-spec =

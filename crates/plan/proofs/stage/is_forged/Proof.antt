@@ -32,7 +32,12 @@ grouped false true r t = refl
 grouped false false r t = refl
 
 returns : tie.Need-returns
-returns c = rw (grouped, c .before .before .before .before .before .split-dma-lengths .ensures, c .before .before .before .before .before .before .before .mps-of .ensures .0)
+returns c =
+    rw (
+      grouped,
+      c .before .before .before .before .before .split-dma-lengths .ensures,
+      c .before .before .before .before .before .before .before .mps-of .ensures .0,
+    )
 
 pub is-forged-spec : {M : Type 1} → statement M
 is-forged-spec =

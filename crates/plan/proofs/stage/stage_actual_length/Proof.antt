@@ -46,14 +46,16 @@ returns-2 c =
 -- a stage that is not refused
 passed : (c : tie.Else2) → stageAnswer (c .before .before .before .before .args .stage) (length (c .before .before .before .before .args .array .now)) ≡ Planned
 passed c =
-    planned (c .before .before .before .before .args .stage) (c .before .before .before .before .args .array .now) (c .before .before .if1 .left) (sym (c .before .is-forged .ensures) ∙ c .if2 .left)
+    let a = c .before .before .before .before .args in
+    planned (a .stage) (a .array .now) (c .before .before .if1 .left) (sym (c .before .is-forged .ensures) ∙ c .if2 .left)
 
 stage-moved-requires : tie.Need-stage-moved-requires
 stage-moved-requires c κs = passed c
 
 returns-3 : tie.Need-returns-3
 returns-3 c =
-    ap Moved (c .stage-moved .ensures) ∙ answered (c .before .before .before .before .before .args .stage) (c .before .before .before .before .before .args .array .now) Planned (passed (c .before))
+    let a = c .before .before .before .before .before .args in
+    ap Moved (c .stage-moved .ensures) ∙ answered (a .stage) (a .array .now) Planned (passed (c .before))
 
 pub stage-actual-length-spec : {M : Type 1} → statement M
 stage-actual-length-spec =

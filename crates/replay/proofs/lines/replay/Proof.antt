@@ -8,7 +8,8 @@ use Rattle.replay.proofs.lines.replay.Statement.{statement}
 use Rattle.replay.proofs.lines.replay.Tie as tie
 
 abbrev Inv-loop : tie.InvT-loop
-Inv-loop text counts₀ listed₀ session₀ words₀ found₀ at₀ counts listed session words found at = (length counts ≡ length counts₀) × (length listed ≡ 512) × (length session ≡ 8488) × (length words ≡ 2048)
+Inv-loop text counts₀ listed₀ session₀ words₀ found₀ at₀ counts listed session words found at =
+    (length counts ≡ length counts₀) × (length listed ≡ 512) × (length session ≡ 8488) × (length words ≡ 2048)
 
 abbrev μ-loop : tie.MeasureT-loop
 μ-loop text counts₀ listed₀ session₀ words₀ found₀ at₀ counts listed session words found at = length text - at
@@ -50,7 +51,11 @@ noted-requires : tie.Need-noted-requires Inv-loop μ-loop
 noted-requires c κs = search needs
 
 loop-less : tie.Need-loop-less Inv-loop μ-loop
-loop-less c = omega (arith, c .before .before .before .before .before .before .before .before .before .before .before .before .before .before .read-line .ensures (omega arith))
+loop-less c =
+    omega (
+      arith,
+      c .before .before .before .before .before .before .before .before .before .before .before .before .before .before .read-line .ensures (omega arith),
+    )
 
 loop-again : tie.Need-loop-again Inv-loop μ-loop
 loop-again c = search needs

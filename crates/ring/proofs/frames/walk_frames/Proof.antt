@@ -43,7 +43,8 @@ module _ (first step : ℕ) (below : first < 64) where
   -- the next is the first just where all are written
   not-last : (count : ℕ) → count < turns step → (slotAt 64 first step (count + 1) ≡ first → ⊥) → count + 1 < turns step
   not-last count h other =
-      ⊎-elim (λ (e : suc count ≡ turns step). absurd (other (ap (slotAt 64 first step) (add-one count ∙ e) ∙ steps-round 64 step (omega arith) first ∙ mod-eq-of-lt below)))
+      ⊎-elim (λ (e : suc count ≡ turns step).
+      absurd (other (ap (slotAt 64 first step) (add-one count ∙ e) ∙ steps-round 64 step (omega arith) first ∙ mod-eq-of-lt below)))
       (λ (l : suc count < turns step). rw add-one l)
       (eq-or-lt-of-le h)
 
@@ -105,11 +106,16 @@ add-frame : tie.Need-add-frame Inv-loop μ-loop
 add-frame c = omega (arith, entry-below c)
 
 -- the next frame is the next entry, and the table has the present one
-next-frame : (c : tie.At-loop Inv-loop μ-loop) → (c .loop .frame + c .before .args .step) % 64 ≡ slotAt 64 (c .before .args .first) (c .before .args .step) (c .loop .count + 1)
+next-frame :
+    (c : tie.At-loop Inv-loop μ-loop)
+    → (c .loop .frame + c .before .args .step) % 64 ≡ slotAt 64 (c .before .args .first) (c .before .args .step) (c .loop .count + 1)
 next-frame c =
-    ap (λ (x : ℕ). (x + c .before .args .step) % 64) (c .loop .inv .1) ∙ goes-on (c .before .args .first) (c .before .args .step) (c .before .pre .0) (c .loop .count)
+    ap (λ (x : ℕ). (x + c .before .args .step) % 64) (c .loop .inv .1)
+    ∙ goes-on (c .before .args .first) (c .before .args .step) (c .before .pre .0) (c .loop .count)
 
-next-table : (c : tie.At-loop Inv-loop μ-loop) → set (c .loop .frames) (c .loop .count) (c .loop .frame) ≡ written (c .before .args .first) (c .before .args .step) (c .loop .count + 1)
+next-table :
+    (c : tie.At-loop Inv-loop μ-loop)
+    → set (c .loop .frames) (c .loop .count) (c .loop .frame) ≡ written (c .before .args .first) (c .before .args .step) (c .loop .count + 1)
 next-table c =
     ap₂ (λ (l : List ℕ) (x : ℕ). set l (c .loop .count) x) (c .loop .inv .2) (c .loop .inv .1)
     ∙ stores (c .before .args .first) (c .before .args .step) (c .before .pre .0) (c .loop .count) (c .loop .inv .0)
@@ -120,7 +126,8 @@ loop-less c = omega arith
 loop-again : tie.Need-loop-again Inv-loop μ-loop
 loop-again c =
     let a = c .before .before .args in (
-      not-last (a .first) (a .step) (c .before .before .pre .0) (c .before .loop .count) (c .before .loop .inv .0) (λ same. c .loop-test .left (next-frame (c .before) ∙ same)),
+      not-last (a .first) (a .step) (c .before .before .pre .0) (c .before .loop .count) (c .before .loop .inv .0)
+          (λ same. c .loop-test .left (next-frame (c .before) ∙ same)),
       next-frame (c .before),
       next-table (c .before),
     )
@@ -129,7 +136,8 @@ returns : tie.Need-returns Inv-loop μ-loop
 returns c =
     let a = c .before .before .args in
     let all : c .before .loop .count + 1 ≡ turns (a .step) =
-    last (a .first) (a .step) (c .before .before .pre .0) (c .before .loop .count) (c .before .loop .inv .0) (sym (next-frame (c .before)) ∙ c .loop-test .taken) in
+    last (a .first) (a .step) (c .before .before .pre .0) (c .before .loop .count) (c .before .loop .inv .0)
+    (sym (next-frame (c .before)) ∙ c .loop-test .taken) in
     ap (tabled (c .before .loop .count + 1)) (next-table (c .before)) ∙ table (a .first) (a .step) (c .before .before .pre .0) (c .before .loop .count + 1) all
 
 pub walk-frames-spec : {M : Type 1} → statement M

@@ -19,7 +19,8 @@ div-result c = search needs
 
 -- the quotient is that of the definitions
 quotient : (c : tie.After-grid-step) →
-    c .before .iso-ring-size .result / c .grid-step .result ≡ ringSize (c .before .before .args .speed) / gridStep (c .before .before .args .interval) (ringSize (c .before .before .args .speed))
+    c .before .iso-ring-size .result / c .grid-step .result
+    ≡ ringSize (c .before .before .args .speed) / gridStep (c .before .before .args .interval) (ringSize (c .before .before .args .speed))
 quotient c =
     ap (λ (g : ℕ). c .before .iso-ring-size .result / g) (c .grid-step .ensures .0)
     ∙ ap (λ (R : ℕ). R / gridStep (c .before .before .args .interval) R) (c .before .iso-ring-size .ensures)

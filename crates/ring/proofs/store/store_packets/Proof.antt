@@ -124,7 +124,8 @@ loop-less c = omega arith
 
 loop-again : tie.Need-loop-again Inv-loop μ-loop
 loop-again c =
-    let a = c .before .before .before .before .before .before .before .before .before .before .before .before .before .before .before .before .before .before .before .before .args in
+    let a = c .before .before .before .before .before .before .before .before .before .before .before .before .before .before .before .before
+    .before .before .before .before .args in
     let now = c .before .before .before .before .before .before .before .before .before .before .before .before .before .before .before .before .loop in
     let one = c .before .before .before .before .before .before .before .before .before .before .put-word in
     let two = c .before .before .before .before .before .put-word2 in

@@ -36,10 +36,11 @@ element-copy-out-number c = omega arith
 
 returns : tie.Need-returns Inv-loop μ-loop
 returns c =
-    let a = c .before .before .before .args in
+    let start = c .before .before .before in
+    let a = start .args in
     let now = c .before .before .loop in
     let number = getD (a .t1) (now .i) blankRequest .id in
-    omega (arith, now .inv .1, place-here (a .id) (now .i) (a .count) (a .t1) (omega arith) (omega (arith, long (c .before .before .before))) (eq-eqb number (a .id) (c .if1 .taken)))
+    omega (arith, now .inv .1, place-here (a .id) (now .i) (a .count) (a .t1) (omega arith) (omega (arith, long start)) (eq-eqb number (a .id) (c .if1 .taken)))
 
 add-i : tie.Need-add-i Inv-loop μ-loop
 add-i c = omega arith
@@ -49,10 +50,17 @@ loop-less c = omega arith
 
 loop-again : tie.Need-loop-again Inv-loop μ-loop
 loop-again c =
-    let a = c .before .before .before .args in
+    let start = c .before .before .before in
+    let a = start .args in
     let now = c .before .before .loop in
-    let number = getD (a .t1) (now .i) blankRequest .id in
-    (omega arith, omega (arith, now .inv .1, place-next (a .id) (now .i) (a .count) (a .t1) (omega arith) (omega (arith, long (c .before .before .before))) (ne-eqb number (a .id) (c .if1 .left))))
+    let number = getD (a .t1) (now .i) blankRequest .id in (
+      omega arith,
+      omega (
+        arith,
+        now .inv .1,
+        place-next (a .id) (now .i) (a .count) (a .t1) (omega arith) (omega (arith, long start)) (ne-eqb number (a .id) (c .if1 .left)),
+      ),
+    )
 
 returns-2 : tie.Need-returns-2 Inv-loop μ-loop
 returns-2 c =

@@ -31,13 +31,20 @@ loop-less : tie.Need-loop-less Inv-loop μ-loop
 loop-less c = omega arith
 
 loop-again : tie.Need-loop-again Inv-loop μ-loop
-loop-again c = (omega arith, ap (λ (l : List ℕ). set l (c .before .loop .i) 0) (c .before .loop .inv .1) ∙ fill-more (c .before .loop .i) 0 (c .before .before .args .ring .now) (omega arith), simp length-set (c .before .loop .inv .2))
+loop-again c = (
+  omega arith,
+  ap (λ (l : List ℕ). set l (c .before .loop .i) 0) (c .before .loop .inv .1)
+      ∙ fill-more (c .before .loop .i) 0 (c .before .before .args .ring .now) (omega arith),
+  simp length-set (c .before .loop .inv .2),
+)
 
 same-length : tie.Need-same-length Inv-loop μ-loop
 same-length c = c .before .loop .inv .2
 
 returns : tie.Need-returns Inv-loop μ-loop
-returns c = let done : c .before .loop .i ≡ c .before .before .args .words = omega arith in c .before .loop .inv .1 ∙ ap (λ (n : ℕ). cleared n (c .before .before .args .ring .now)) done
+returns c =
+    let a = c .before .before .args in
+    let done : c .before .loop .i ≡ a .words = omega arith in c .before .loop .inv .1 ∙ ap (λ (n : ℕ). cleared n (a .ring .now)) done
 
 pub clear-ring-spec : {M : Type 1} → statement M
 clear-ring-spec =

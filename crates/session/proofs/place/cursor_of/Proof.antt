@@ -18,7 +18,10 @@ frame-to-desc-idx-requires c κs = search needs
 
 returns-2 : tie.Need-returns-2
 returns-2 c =
-    c .frame-to-desc-idx .ensures ∙ ap (frameSlot (c .before .before .before .args .cfg .speed)) (c .before .start-of .ensures) ∙ sym (ap (λ (b : Bool). cond b (c .before .before .before .args .head .«td_last») (frameSlot (c .before .before .before .args .cfg .speed) (startAt (c .before .before .before .args .cfg) (c .before .before .before .args .head) (c .before .before .before .args .transfer)))) (c .before .before .if1 .left))
+    let a = c .before .before .before .args in
+    c .frame-to-desc-idx .ensures
+    ∙ ap (frameSlot (a .cfg .speed)) (c .before .start-of .ensures)
+    ∙ sym (ap (λ (b : Bool). cond b (a .head .«td_last») (frameSlot (a .cfg .speed) (startAt (a .cfg) (a .head) (a .transfer)))) (c .before .before .if1 .left))
 
 pub cursor-of-spec : {M : Type 1} → statement M
 cursor-of-spec =

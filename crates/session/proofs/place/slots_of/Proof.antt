@@ -11,8 +11,11 @@ iso-ring-size-requires : tie.Need-iso-ring-size-requires
 iso-ring-size-requires c κs = search needs
 
 returns : tie.Need-returns
-returns c =
-    (c .iso-ring-size .ensures, subst⁻¹ (λ (n : ℕ). 0 < n) (c .iso-ring-size .ensures) (ring-size-pos (c .before .args .cfg .speed)), subst⁻¹ (λ (n : ℕ). n ≤ 256) (c .iso-ring-size .ensures) (ring-few (c .before .args .cfg .speed)))
+returns c = (
+  c .iso-ring-size .ensures,
+  subst⁻¹ (λ (n : ℕ). 0 < n) (c .iso-ring-size .ensures) (ring-size-pos (c .before .args .cfg .speed)),
+  subst⁻¹ (λ (n : ℕ). n ≤ 256) (c .iso-ring-size .ensures) (ring-few (c .before .args .cfg .speed)),
+)
 
 pub slots-of-spec : {M : Type 1} → statement M
 slots-of-spec = tie.close (tie.spec iso-ring-size-requires returns)

@@ -17,13 +17,21 @@ enum-known-fault : tie.Need-enum-known-fault
 enum-known-fault c = search needs
 
 returns : tie.Need-returns
-returns c = fault-ends (c .before .before .fault .given .0 .0) (c .before .before .before .before .before .args .fatal) (c .before .before .before .before .before .args .hcint) (c .before .before .fault .given .1) (c .before .before .before .before .hcint-chhltd .ensures) (c .if1 .taken)
+returns c =
+    let fault = c .before .before .fault in
+    let a = c .before .before .before .before .before .args in
+    fault-ends (fault .given .0 .0) (a .fatal) (a .hcint) (fault .given .1) (c .before .before .before .before .hcint-chhltd .ensures) (c .if1 .taken)
 
 returns-2 : tie.Need-returns-2
-returns-2 c = no-fault (c .before .before .before .before .args .fatal) (c .before .before .before .before .args .hcint) (c .before .enum-told .given .1) (c .way-by-reason .ensures)
+returns-2 c =
+    let a = c .before .before .before .before .args in
+    no-fault (a .fatal) (a .hcint) (c .before .enum-told .given .1) (c .way-by-reason .ensures)
 
 returns-3 : tie.Need-returns-3
-returns-3 c = fault-halts (c .before .before .fault .given .0 .0) (c .before .before .before .before .before .args .fatal) (c .before .before .before .before .before .args .hcint) (c .before .before .fault .given .1) (c .before .before .before .before .hcint-chhltd .ensures) (c .if1 .left)
+returns-3 c =
+    let fault = c .before .before .fault in
+    let a = c .before .before .before .before .before .args in
+    fault-halts (fault .given .0 .0) (a .fatal) (a .hcint) (fault .given .1) (c .before .before .before .before .hcint-chhltd .ensures) (c .if1 .left)
 
 pub way-by-fault-spec : {M : Type 1} → statement M
 way-by-fault-spec =

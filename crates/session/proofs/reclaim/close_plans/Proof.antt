@@ -1,23 +1,20 @@
--- The invariant: what is still to move down in the table as it is now gives the goal. The measure is how many entries are left.
-use mathlib.Core.Path.{_≡_, refl, sym, _∙_}
-use Prim.Native.Nat.{_-_, _≤_}
+-- The walk that moves entries down in the table. The measure is how many are left.
+use mathlib.Core.Path.{refl}
+use Prim.Native.Nat.{_-_}
 use native.Mathlib.Omega.{arith}
-use lib.ListN.{length, getD, length-set}
-use lib.Seq.{slice, sets}
 use Rattle.session.specs.Session.{blankPlan}
-use Rattle.session.proofs.Laws.Lists.{close-next, close-past}
+use Rattle.session.proofs.Laws.Lists.{Walk, walk-on, walked}
 use Rattle.session.proofs.reclaim.close_plans.Statement.{statement}
 use Rattle.session.proofs.reclaim.close_plans.Tie as tie
 
 abbrev Inv-loop : tie.InvT-loop
-Inv-loop at from to table₀ into₀ i₀ end table into i =
-    (end ≡ to) × (i ≤ to) × (into ≤ i) × (length table ≡ 1024) × (sets table into (slice i to table) ≡ sets table₀ at (slice from to table₀))
+Inv-loop at from to table₀ into₀ i₀ end table into i = Walk (λ entries. entries) 1024 at from to table₀ end table into i
 
 abbrev μ-loop : tie.MeasureT-loop
 μ-loop at from to table₀ into₀ i₀ end table into i = to - i
 
 loop-holds : tie.Need-loop-holds Inv-loop μ-loop
-loop-holds c = (refl, omega arith, omega arith, c .good .0 .1 .0 .1, refl)
+loop-holds c = record { ends = refl; within = omega arith; behind = omega arith; long = c .good .0 .1 .0 .1; goal = refl }
 
 mul-entry : tie.Need-mul-entry Inv-loop μ-loop
 mul-entry c = omega arith
@@ -41,17 +38,10 @@ loop-less : tie.Need-loop-less Inv-loop μ-loop
 loop-less c = omega arith
 
 loop-again : tie.Need-loop-again Inv-loop μ-loop
-loop-again c =
-    let now = c .before .before .loop in (
-      refl,
-      omega arith,
-      omega arith,
-      length-set (now .table) (now .into) (getD (now .table) (now .i) blankPlan) ∙ now .inv .3,
-      close-next (now .into) (now .i) (c .before .before .before .args .to) (now .table) blankPlan (omega arith) (omega arith) (omega arith) ∙ now .inv .4,
-    )
+loop-again c = walk-on blankPlan _ (c .before .before .loop .inv) (omega arith) (omega arith) (λ rest. refl)
 
 returns : tie.Need-returns Inv-loop μ-loop
-returns c = sym (close-past (c .before .loop .into) (c .before .loop .i) (c .before .before .args .to) (c .before .loop .table) (omega arith)) ∙ c .before .loop .inv .4
+returns c = walked (c .before .loop .inv) refl (omega arith)
 
 pub close-plans-spec : {M : Type 1} → statement M
 close-plans-spec =

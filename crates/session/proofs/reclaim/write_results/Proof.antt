@@ -1,7 +1,7 @@
 -- The invariant: the results still to write, written into the lent ones as they are now, give the goal. The measure is how many plans are left.
-use mathlib.Core.Path.{_≡_, refl, sym, _∙_}
-use mathlib.Core.List.{map}
-use Prim.Native.Nat.{_+_, _-_, _≤_}
+use mathlib.Core.Path.{_≡_, refl, sym, ap, _∙_}
+use mathlib.Core.List.{_∷_, map}
+use Prim.Native.Nat.{ℕ, _+_, _-_, _≤_}
 use native.Mathlib.Omega.{arith}
 use lib.ListN.{length, length-set}
 use lib.Seq.{slice, sets}
@@ -59,7 +59,10 @@ loop-again c =
       omega arith,
       omega arith,
       length-set (now .results) (now .at) (c .result-word .result) ∙ now .inv .3,
-      write-next resultWord (now .at) (now .i) (a .to) (a .t1) blankPlan (now .results) (c .result-word .result) (omega arith) (omega (arith, long (c .before .before .before .before .before))) (c .result-word .ensures) ∙ now .inv .4,
+      write-next (map resultWord) (now .at) (now .i) (a .to) (a .t1) blankPlan (now .results) (c .result-word .result) (omega arith)
+          (omega (arith, long (c .before .before .before .before .before)))
+          (λ rest. ap (λ (w : ℕ). w ∷ map resultWord rest) (sym (c .result-word .ensures)))
+          ∙ now .inv .4,
     )
 
 same-length : tie.Need-same-length Inv-loop μ-loop
@@ -69,7 +72,7 @@ returns : tie.Need-returns Inv-loop μ-loop
 returns c =
     let a = c .before .before .before .args in
     let now = c .before .loop in
-    sym (write-past resultWord (now .at) (now .i) (a .to) (a .t1) (now .results) (omega arith)) ∙ now .inv .4
+    sym (write-past (map resultWord) (now .at) (now .i) (a .to) (a .t1) (now .results) refl (omega arith)) ∙ now .inv .4
 
 pub write-results-spec : {M : Type 1} → statement M
 write-results-spec =

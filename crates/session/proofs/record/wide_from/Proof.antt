@@ -9,14 +9,17 @@ use Rattle.session.proofs.record.wide_from.Statement.{statement}
 use Rattle.session.proofs.record.wide_from.Tie as tie
 
 returns : tie.Need-returns
-returns c = let e : ltb (c .before .args .at) (c .before .args .done) ≡ true = lt-ltb (c .before .args .at) (c .before .args .done) (c .if1 .taken) in (rw e, omega arith)
+returns c =
+    let e : ltb (c .before .args .at) (c .before .args .done) ≡ true = lt-ltb (c .before .args .at) (c .before .args .done) (c .if1 .taken) in
+    (rw e, omega arith)
 
 wide-requires : tie.Need-wide-requires
 wide-requires c κs = search needs
 
 returns-2 : tie.Need-returns-2
 returns-2 c =
-    let e : ltb (c .before .before .args .at) (c .before .before .args .done) ≡ false = le-ltb (c .before .before .args .at) (c .before .before .args .done) (c .before .if1 .left) in
+    let a = c .before .before .args in
+    let e : ltb (a .at) (a .done) ≡ false = le-ltb (a .at) (a .done) (c .before .if1 .left) in
     (rw e (c .wide .ensures .0), omega (arith, c .wide .ensures .0))
 
 pub wide-from-spec : {M : Type 1} → statement M

@@ -41,19 +41,23 @@ loop-less c = omega arith
 
 loop-again : tie.Need-loop-again Inv-loop μ-loop
 loop-again c =
-    let a = c .before .before .before .before .before .before .before .args in
+    let clear-slot = c .before .before .clear-slot in
+    let start = c .before .before .before .before .before .before .before in
+    let a = start .args in
     let now = c .before .before .before .before .before .loop in (
       refl,
       omega arith,
-      c .before .before .clear-slot .kept .0 ∙ now .inv .2,
-      cleared-next (now .i) (a .to) (a .t1) (now .ring) (c .before .before .clear-slot .last .0) (omega arith) (omega (arith, long (c .before .before .before .before .before .before .before))) (c .before .before .clear-slot .ensures) ∙ now .inv .3,
+      clear-slot .kept .0 ∙ now .inv .2,
+      cleared-next (now .i) (a .to) (a .t1) (now .ring) (clear-slot .last .0) (omega arith) (omega (arith, long start)) (clear-slot .ensures) ∙ now .inv .3,
     )
 
 same-length : tie.Need-same-length Inv-loop μ-loop
 same-length c = c .before .loop .inv .2
 
 returns : tie.Need-returns Inv-loop μ-loop
-returns c = cleared-past (c .before .loop .i) (c .before .before .before .args .to) (c .before .before .before .args .t1) (c .before .loop .ring) (omega arith) ∙ c .before .loop .inv .3
+returns c =
+    let a = c .before .before .before .args in
+    cleared-past (c .before .loop .i) (a .to) (a .t1) (c .before .loop .ring) (omega arith) ∙ c .before .loop .inv .3
 
 pub clear-slots-spec : {M : Type 1} → statement M
 clear-slots-spec =

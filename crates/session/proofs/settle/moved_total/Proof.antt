@@ -1,14 +1,15 @@
 -- The invariant: what has been counted, with what is still to count, gives the goal; what has been counted is at most 65,535 for each plan passed,
 -- so that no sum wraps. The measure is how many plans are left.
-use mathlib.Core.Path.{_≡_, refl}
+use mathlib.Core.Path.{_≡_, refl, ap}
 use Prim.Native.Nat.{_+_, _-_, _*_, _≤_}
 use native.Mathlib.Nat.{zero-add}
 use native.Mathlib.Omega.{arith}
 use lib.ListN.{length}
 use lib.Seq.{slice}
 use borrow.Author.Needs.{needs}
+use Rattle.session.specs.Session.{blankPlan}
 use Rattle.session.specs.Settle.{movedTotal}
-use Rattle.session.proofs.Laws.Settled.{moved-next, moved-past}
+use Rattle.session.proofs.Laws.Lists.{slice-next, slice-past}
 use Rattle.session.proofs.settle.moved_total.Statement.{statement}
 use Rattle.session.proofs.settle.moved_total.Tie as tie
 
@@ -48,11 +49,11 @@ loop-again : tie.Need-loop-again Inv-loop μ-loop
 loop-again c =
     let a = c .before .before .before .args in
     let now = c .before .before .loop in
-    let next = moved-next (now .i) (a .to) (a .t1) (omega arith) (omega (arith, long (c .before .before .before))) in
+    let next = ap movedTotal (slice-next (now .i) (a .to) (a .t1) blankPlan (omega arith) (omega (arith, long (c .before .before .before)))) in
     (refl, omega arith, omega arith, omega (arith, next, c .wide .ensures))
 
 returns : tie.Need-returns Inv-loop μ-loop
-returns c = omega (arith, moved-past (c .before .loop .i) (c .before .before .args .to) (c .before .before .args .t1) (omega arith))
+returns c = omega (arith, ap movedTotal (slice-past (c .before .loop .i) (c .before .before .args .to) (c .before .before .args .t1) (omega arith)))
 
 pub moved-total-spec : {M : Type 1} → statement M
 moved-total-spec =

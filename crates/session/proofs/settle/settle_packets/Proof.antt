@@ -171,11 +171,16 @@ module _ {M : Type 1} (𝓤 : URA M) (H : Heap 𝓤) (A : Atoms 𝓤) (W : Given
             assigns ! (of-opd ! (load ! (from ! (hop ! (look ! 7 refl) (stop !))) (look-raw ! 0 refl))) (from ! (stop !))
             (init ! 8 refl (plan-typed 𝓤 H A W p _ is)) $
             move ! (15 ∷ []) $ use1 W (‵ Ring ⊛ ‵ Ring) (shr-slice-copy 𝓤 H A W (named 1) κ′ u32 .twice ring (sr ∷ [])) $ split ! $
-            move ! (17 ∷ 3 ∷ 0 ∷ []) $ use3 W (raw (Settled 𝓤 H A at-mem run .pre (to-settled 𝓤 H A W at-mem run κ′ q′ dir ring p))) (goes 𝓤 H A W at-mem run κ′ q′ dir ring is-dir p) $
-            calls-at ! fm (Settled 𝓤 H A at-mem run) known (to-settled 𝓤 H A W at-mem run κ′ q′ dir ring p) (and-then ! (load ! (from ! (stop !)) (look ! 13 refl))
+            move ! (17 ∷ 3 ∷ 0 ∷ []) $ use3 W (raw (Settled 𝓤 H A at-mem run .pre (to-settled 𝓤 H A W at-mem run κ′ q′ dir ring p)))
+            (goes 𝓤 H A W at-mem run κ′ q′ dir ring is-dir p) $
+            calls-at ! fm (Settled 𝓤 H A at-mem run) known (to-settled 𝓤 H A W at-mem run κ′ q′ dir ring p)
+            (and-then ! (load ! (from ! (stop !)) (look ! 13 refl))
             (and-then ! (load ! (from ! (stop !)) (look ! 9 refl)) (and-then ! (load ! (from ! (stop !)) (look ! 14 refl)) (no-more !)))) (λ w.
-            use1 W (later (some (λ (r : IsoPacketPlan). ((‵ (flft κ′ q′) ⊛ ‵ ftrue) ⊛ ‵ (PlanT .own r (w ∷ []))) ⊛ raw (Ensured 𝓤 H A W at-mem run κ′ q′ dir ring p r)))) (id⊢ 𝓤 _) $
-            await ! tt $ pick ! (λ r. split ! $ move ! (1 ∷ []) $ use1 W (raw (fact 𝓤 (r ≡ settledPlan dir (ring .now) p))) (got 𝓤 H A W at-mem run κ′ q′ dir ring p r) $
+            use1 W (later
+            (some (λ (r : IsoPacketPlan). ((‵ (flft κ′ q′) ⊛ ‵ ftrue) ⊛ ‵ (PlanT .own r (w ∷ []))) ⊛ raw (Ensured 𝓤 H A W at-mem run κ′ q′ dir ring p r))))
+            (id⊢ 𝓤 _) $
+            await ! tt $ pick !
+            (λ r. split ! $ move ! (1 ∷ []) $ use1 W (raw (fact 𝓤 (r ≡ settledPlan dir (ring .now) p))) (got 𝓤 H A W at-mem run κ′ q′ dir ring p r) $
             heard ! (r ≡ settledPlan dir (ring .now) p) (λ new. split ! $ move ! (1 ∷ []) $ peeks ! PlanT (Is PlanT) (shows 𝓤 H A PlanT) r (w ∷ []) (λ is′.
             -- [what the new plan owns; the token; the ring; the plan's cell; the others; _4; _5; _6; room for _7; _8; _9; room for _10 and _11; _1; …]
             land ! (from ! (stop !)) (init ! 8 refl (plan-typed 𝓤 H A W r _ is′)) $

@@ -31,25 +31,30 @@ rem-slot c = search needs
 
 loop-holds : tie.Need-loop-holds Inv-loop μ-loop
 loop-holds c =
-    let a = c .args in
-    (omega arith, sym (first-slot (a .slots) (a .insert) (a .step)), λ ps h. ap (λ (m : ℕ). anyHeld ps (slotsFrom (a .slots) (a .insert) (a .step) 0 m)) (sub-zero (a .n)))
+    let a = c .args in (
+      omega arith,
+      sym (first-slot (a .slots) (a .insert) (a .step)),
+      λ ps h. ap (λ (m : ℕ). anyHeld ps (slotsFrom (a .slots) (a .insert) (a .step) 0 m)) (sub-zero (a .n)),
+    )
 
 -- a slot is below the number of slots
 slot-below : (c : tie.At-loop Inv-loop μ-loop) → c .loop .slot < c .before .args .slots
 slot-below c = subst⁻¹ (λ (x : ℕ). x < c .before .args .slots) (c .loop .inv .1) (mod-lt _ (omega arith))
 
 cast-if1 : tie.Need-cast-if1 Inv-loop μ-loop
-cast-if1 c = omega (arith, slot-below ((c .before)))
+cast-if1 c = omega (arith, slot-below (c .before))
 
 array-read-if1 : tie.Need-array-read-if1 Inv-loop μ-loop
-array-read-if1 c = omega (arith, slot-below ((c .before)))
+array-read-if1 c = omega (arith, slot-below (c .before))
 
 returns : tie.Need-returns Inv-loop μ-loop
 returns c =
     let a = c .before .before .before .args in
     let now = c .before .before .loop in
-    let below : now .slot < 256 = omega (arith, slot-below ((c .before .before))) in
-    λ ps h. held-here (a .slots) (a .insert) (a .step) (now .i) (a .n) ps (now .slot) (getD (a .t1) (now .slot) false) (omega arith) (now .inv .1) (h (now .slot) below) (c .if1 .taken)
+    let below : now .slot < 256 = omega (arith, slot-below (c .before .before)) in
+    λ ps h.
+    held-here (a .slots) (a .insert) (a .step) (now .i) (a .n) ps (now .slot) (getD (a .t1) (now .slot) false) (omega arith) (now .inv .1) (h (now .slot) below)
+    (c .if1 .taken)
     ∙ now .inv .2 ps h
 
 next-slot-requires : tie.Need-next-slot-requires Inv-loop μ-loop
@@ -65,10 +70,13 @@ loop-again : tie.Need-loop-again Inv-loop μ-loop
 loop-again c =
     let a = c .before .before .before .before .args in
     let now = c .before .before .before .loop in
-    let below : now .slot < 256 = omega (arith, slot-below ((c .before .before .before))) in (
+    let below : now .slot < 256 = omega (arith, slot-below (c .before .before .before)) in (
       omega arith,
-      slot-more (a .slots) (a .insert) (a .step) (now .i) (now .slot) (c .next-slot .result) (now .inv .1) (c .next-slot .ensures ∙ ap (λ (R : ℕ). (now .slot + a .step) % R) (some-slots (a .slots) (omega arith))),
-      λ ps h. held-later (a .slots) (a .insert) (a .step) (now .i) (a .n) ps (now .slot) (getD (a .t1) (now .slot) false) (omega arith) (now .inv .1) (h (now .slot) below) (c .before .if1 .left)
+      slot-more (a .slots) (a .insert) (a .step) (now .i) (now .slot) (c .next-slot .result) (now .inv .1)
+          (c .next-slot .ensures ∙ ap (λ (R : ℕ). (now .slot + a .step) % R) (some-slots (a .slots) (omega arith))),
+      λ ps h.
+          held-later (a .slots) (a .insert) (a .step) (now .i) (a .n) ps (now .slot) (getD (a .t1) (now .slot) false) (omega arith) (now .inv .1)
+          (h (now .slot) below) (c .before .if1 .left)
           ∙ now .inv .2 ps h,
     )
 

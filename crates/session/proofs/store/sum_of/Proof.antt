@@ -1,11 +1,11 @@
 -- The invariant: the sum so far, with the sum of what is left, is the sum of all. The measure is what is left of the length.
-use mathlib.Core.Path.{_≡_}
+use mathlib.Core.Path.{_≡_, ap}
 use Prim.Native.Nat.{_+_, _-_, _*_, _≤_}
 use native.Mathlib.Omega.{arith}
-use lib.ListN.{length, drop}
+use lib.ListN.{length, drop, drop-of-length-le}
 use borrow.Author.Needs.{needs}
 use Rattle.session.specs.Way.{sum}
-use Rattle.session.proofs.Laws.Stores.{sum-more, sum-end}
+use Rattle.ring.proofs.Stores.{drop-more}
 use Rattle.session.proofs.store.sum_of.Statement.{statement}
 use Rattle.session.proofs.store.sum_of.Tie as tie
 
@@ -37,10 +37,15 @@ loop-less : tie.Need-loop-less Inv-loop μ-loop
 loop-less c = omega arith
 
 loop-again : tie.Need-loop-again Inv-loop μ-loop
-loop-again c = (omega arith, omega arith, omega (arith, sum-more (c .before .before .before .before .before .args .lengths .now) (c .before .before .before .loop .i) (omega arith)))
+loop-again c =
+    let lengths = c .before .before .before .before .before .args .lengths .now in
+    let next = ap sum (drop-more lengths (c .before .before .before .loop .i) (omega arith)) in
+    (omega arith, omega arith, omega arith)
 
 returns : tie.Need-returns Inv-loop μ-loop
-returns c = omega (arith, sum-end (c .before .before .before .args .lengths .now) (c .before .loop .i) (omega arith))
+returns c =
+    let past : length (c .before .before .before .args .lengths .now) ≤ c .before .loop .i = omega arith in
+    omega (arith, ap sum (drop-of-length-le (c .before .before .before .args .lengths .now) past))
 
 pub sum-of-spec : {M : Type 1} → statement M
 sum-of-spec =

@@ -29,13 +29,19 @@ enum-told-4 : tie.Need-enum-told-4
 enum-told-4 c = search needs
 
 returns : tie.Need-returns
-returns c = sym (ap (λ (w : SubmitWay). answerOf w (only (c .before .before .before .args .cfg) (c .before .before .before .args .head))) (c .before .way .given .1))
+returns c =
+    let a = c .before .before .before .args in
+    sym (ap (λ (w : SubmitWay). answerOf w (only (a .cfg) (a .head))) (c .before .way .given .1))
 
 returns-2 : tie.Need-returns-2
-returns-2 c = sym (ap (λ (w : SubmitWay). answerOf w (only (c .before .before .before .args .cfg) (c .before .before .before .args .head))) (c .before .way2 .given .1))
+returns-2 c =
+    let a = c .before .before .before .args in
+    sym (ap (λ (w : SubmitWay). answerOf w (only (a .cfg) (a .head))) (c .before .way2 .given .1))
 
 returns-3 : tie.Need-returns-3
-returns-3 c = sym (ap (λ (w : SubmitWay). answerOf w (only (c .before .before .before .args .cfg) (c .before .before .before .args .head))) (c .before .way3 .given .1))
+returns-3 c =
+    let a = c .before .before .before .args in
+    sym (ap (λ (w : SubmitWay). answerOf w (only (a .cfg) (a .head))) (c .before .way3 .given .1))
 
 returns-4 : tie.Need-returns-4
 returns-4 c = search needs

@@ -35,7 +35,17 @@ iso-service-frames-requires c κs = search needs
 
 returns : tie.Need-returns
 returns c =
-    rw (c .before .before .before .before .hcchar .ensures, c .before .before .hctsiz-ddma .ensures, c .before .iso-hcintmsk .ensures, c .iso-service-frames .ensures, c .before .before .before .before .before .before .before .before .packet-size .ensures, c .before .before .before .before .before .before .iso-pid .ensures, c .before .before .before .before .before .iso-schinfo .ensures, c .before .before .before .slots-of .ensures .0, c .before .before .before .before .before .before .before .start-of .ensures)
+    rw (
+      c .before .before .before .before .hcchar .ensures,
+      c .before .before .hctsiz-ddma .ensures,
+      c .before .iso-hcintmsk .ensures,
+      c .iso-service-frames .ensures,
+      c .before .before .before .before .before .before .before .before .packet-size .ensures,
+      c .before .before .before .before .before .before .iso-pid .ensures,
+      c .before .before .before .before .before .iso-schinfo .ensures,
+      c .before .before .before .slots-of .ensures .0,
+      c .before .before .before .before .before .before .before .start-of .ensures,
+    )
 
 pub start-words-spec : {M : Type 1} → statement M
 start-words-spec =

@@ -39,7 +39,8 @@ returns c =
     ∙ ap (λ (R : ℕ). left (map asWord (words (max 1 R) (step .result)))) (slots-are .ensures .0)
     ∙ ap (λ (R : ℕ). left (map asWord (words R (step .result)))) (some-slots (slots (a .cfg)) (ring-size-pos (a .cfg .speed)))
     ∙ ap (λ (k : ℕ). left (map asWord (words (slots (a .cfg)) k))) (step .ensures)
-    ∙ ap left (none-wraps (slots (a .cfg)) (a .insert) (stepOf (a .cfg)) 0 (a .transfer .base) (a .lengths .now) (c .before .before .before .before .before .before .before .before .before .pre))
+    ∙ ap left (none-wraps (slots (a .cfg)) (a .insert) (stepOf (a .cfg)) 0 (a .transfer .base) (a .lengths .now)
+    (c .before .before .before .before .before .before .before .before .before .pre))
 
 pub store-spec : {M : Type 1} → statement M
 store-spec =

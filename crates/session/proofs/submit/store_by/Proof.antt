@@ -33,13 +33,15 @@ ring-words-requires : tie.Need-ring-words-requires
 ring-words-requires c κs = search needs
 
 clear-ring-requires : tie.Need-clear-ring-requires
-clear-ring-requires c κs = subst⁻¹ (λ (n : ℕ). n ≤ length (c .before .before .before .before .before .before .args .ring .now)) (c .ring-words .ensures .0) (fits ((c .before .before .before .before .before .before)) _ (c .before .before .enum-told4 .given .1) tt .0)
+clear-ring-requires c κs =
+    let start = c .before .before .before .before .before .before in
+    subst⁻¹ (λ (n : ℕ). n ≤ length (start .args .ring .now)) (c .ring-words .ensures .0) (fits start _ (c .before .before .enum-told4 .given .1) tt .0)
 
 enum-told-5 : tie.Need-enum-told-5
 enum-told-5 c = search needs
 
 store-requires : tie.Need-store-requires
-store-requires c κs = fits ((c .before .before .before .before .before)) _ (c .before .enum-told5 .given .1) tt .1
+store-requires c κs = fits (c .before .before .before .before .before) _ (c .before .enum-told5 .given .1) tt .1
 
 enum-told-6 : tie.Need-enum-told-6
 enum-told-6 c = search needs
@@ -48,46 +50,72 @@ ring-words-requires-2 : tie.Need-ring-words-requires-2
 ring-words-requires-2 c κs = search needs
 
 clear-ring-requires-2 : tie.Need-clear-ring-requires-2
-clear-ring-requires-2 c κs = subst⁻¹ (λ (n : ℕ). n ≤ length (c .before .before .before .before .before .before .args .ring .now)) (c .ring-words2 .ensures .0) (fits ((c .before .before .before .before .before .before)) _ (c .before .before .enum-told6 .given .1) tt .0)
+clear-ring-requires-2 c κs =
+    let start = c .before .before .before .before .before .before in
+    subst⁻¹ (λ (n : ℕ). n ≤ length (start .args .ring .now)) (c .ring-words2 .ensures .0) (fits start _ (c .before .before .enum-told6 .given .1) tt .0)
 
 enum-told-7 : tie.Need-enum-told-7
 enum-told-7 c = search needs
 
 store-requires-2 : tie.Need-store-requires-2
-store-requires-2 c κs = fits ((c .before .before .before .before .before)) _ (c .before .enum-told7 .given .1) tt .1
+store-requires-2 c κs = fits (c .before .before .before .before .before) _ (c .before .enum-told7 .given .1) tt .1
 
 returns : tie.Need-returns
-returns c = sym (ap (λ (w : SubmitWay). ringBy w (c .before .before .before .before .args .cfg) (c .before .before .before .before .args .transfer) (c .before .before .before .before .args .insert) (c .before .before .before .before .args .lengths .now) (c .before .before .before .before .args .ring .now)) (c .enum-told .given .1))
+returns c =
+    let a = c .before .before .before .before .args in
+    sym (ap (λ (w : SubmitWay). ringBy w (a .cfg) (a .transfer) (a .insert) (a .lengths .now) (a .ring .now)) (c .enum-told .given .1))
 
 returns-2 : tie.Need-returns-2
-returns-2 c = sym (ap (λ (w : SubmitWay). ringBy w (c .before .before .before .before .args .cfg) (c .before .before .before .before .args .transfer) (c .before .before .before .before .args .insert) (c .before .before .before .before .args .lengths .now) (c .before .before .before .before .args .ring .now)) (c .enum-told2 .given .1))
+returns-2 c =
+    let a = c .before .before .before .before .args in
+    sym (ap (λ (w : SubmitWay). ringBy w (a .cfg) (a .transfer) (a .insert) (a .lengths .now) (a .ring .now)) (c .enum-told2 .given .1))
 
 returns-3 : tie.Need-returns-3
-returns-3 c = sym (ap (λ (w : SubmitWay). ringBy w (c .before .before .before .before .args .cfg) (c .before .before .before .before .args .transfer) (c .before .before .before .before .args .insert) (c .before .before .before .before .args .lengths .now) (c .before .before .before .before .args .ring .now)) (c .enum-told3 .given .1))
+returns-3 c =
+    let a = c .before .before .before .before .args in
+    sym (ap (λ (w : SubmitWay). ringBy w (a .cfg) (a .transfer) (a .insert) (a .lengths .now) (a .ring .now)) (c .enum-told3 .given .1))
 
 same-length : tie.Need-same-length
 same-length c = search needs
 
 returns-4 : tie.Need-returns-4
-returns-4 c = c .before .before .clear-ring .ensures ∙ ap (λ (n : ℕ). cleared n (c .before .before .before .before .before .before .before .before .before .args .ring .now)) (c .before .before .before .ring-words .ensures .0) ∙ sym (ap (λ (w : SubmitWay). ringBy w (c .before .before .before .before .before .before .before .before .before .args .cfg) (c .before .before .before .before .before .before .before .before .before .args .transfer) (c .before .before .before .before .before .before .before .before .before .args .insert) (c .before .before .before .before .before .before .before .before .before .args .lengths .now) (c .before .before .before .before .before .before .before .before .before .args .ring .now)) (c .before .before .before .before .before .enum-told4 .given .1))
+returns-4 c =
+    let a = c .before .before .before .before .before .before .before .before .before .args in
+    c .before .before .clear-ring .ensures
+    ∙ ap (λ (n : ℕ). cleared n (a .ring .now)) (c .before .before .before .ring-words .ensures .0)
+    ∙ sym (ap (λ (w : SubmitWay). ringBy w (a .cfg) (a .transfer) (a .insert) (a .lengths .now) (a .ring .now))
+    (c .before .before .before .before .before .enum-told4 .given .1))
 
 same-length-2 : tie.Need-same-length-2
 same-length-2 c = search needs
 
 returns-5 : tie.Need-returns-5
-returns-5 c = c .before .before .store .ensures ∙ sym (ap (λ (w : SubmitWay). ringBy w (c .before .before .before .before .before .before .before .before .args .cfg) (c .before .before .before .before .before .before .before .before .args .transfer) (c .before .before .before .before .before .before .before .before .args .insert) (c .before .before .before .before .before .before .before .before .args .lengths .now) (c .before .before .before .before .before .before .before .before .args .ring .now)) (c .before .before .before .before .enum-told5 .given .1))
+returns-5 c =
+    let a = c .before .before .before .before .before .before .before .before .args in
+    c .before .before .store .ensures
+    ∙ sym (ap (λ (w : SubmitWay). ringBy w (a .cfg) (a .transfer) (a .insert) (a .lengths .now) (a .ring .now))
+    (c .before .before .before .before .enum-told5 .given .1))
 
 same-length-3 : tie.Need-same-length-3
 same-length-3 c = search needs
 
 returns-6 : tie.Need-returns-6
-returns-6 c = c .before .before .clear-ring2 .ensures ∙ ap (λ (n : ℕ). cleared n (c .before .before .before .before .before .before .before .before .before .args .ring .now)) (c .before .before .before .ring-words2 .ensures .0) ∙ sym (ap (λ (w : SubmitWay). ringBy w (c .before .before .before .before .before .before .before .before .before .args .cfg) (c .before .before .before .before .before .before .before .before .before .args .transfer) (c .before .before .before .before .before .before .before .before .before .args .insert) (c .before .before .before .before .before .before .before .before .before .args .lengths .now) (c .before .before .before .before .before .before .before .before .before .args .ring .now)) (c .before .before .before .before .before .enum-told6 .given .1))
+returns-6 c =
+    let a = c .before .before .before .before .before .before .before .before .before .args in
+    c .before .before .clear-ring2 .ensures
+    ∙ ap (λ (n : ℕ). cleared n (a .ring .now)) (c .before .before .before .ring-words2 .ensures .0)
+    ∙ sym (ap (λ (w : SubmitWay). ringBy w (a .cfg) (a .transfer) (a .insert) (a .lengths .now) (a .ring .now))
+    (c .before .before .before .before .before .enum-told6 .given .1))
 
 same-length-4 : tie.Need-same-length-4
 same-length-4 c = search needs
 
 returns-7 : tie.Need-returns-7
-returns-7 c = c .before .before .store2 .ensures ∙ sym (ap (λ (w : SubmitWay). ringBy w (c .before .before .before .before .before .before .before .before .args .cfg) (c .before .before .before .before .before .before .before .before .args .transfer) (c .before .before .before .before .before .before .before .before .args .insert) (c .before .before .before .before .before .before .before .before .args .lengths .now) (c .before .before .before .before .before .before .before .before .args .ring .now)) (c .before .before .before .before .enum-told7 .given .1))
+returns-7 c =
+    let a = c .before .before .before .before .before .before .before .before .args in
+    c .before .before .store2 .ensures
+    ∙ sym (ap (λ (w : SubmitWay). ringBy w (a .cfg) (a .transfer) (a .insert) (a .lengths .now) (a .ring .now))
+    (c .before .before .before .before .enum-told7 .given .1))
 
 pub store-by-spec : {M : Type 1} → statement M
 store-by-spec =

@@ -32,7 +32,8 @@ any-held-requires c κs = search needs
 returns-2 : tie.Need-returns-2
 returns-2 c =
     let a = c .before .before .before .before .before .args in
-    let e : isGuarded (a .cfg .mode) ≡ true = sym (c .before .before .before .before .is-guarded .ensures) ∙ not-false _ (c .before .before .before .if1 .left) in
+    let e : isGuarded (a .cfg .mode) ≡ true =
+    sym (c .before .before .before .before .is-guarded .ensures) ∙ not-false _ (c .before .before .before .if1 .left) in
     λ ps h. c .any-held .ensures ps h
     ∙ ap₂ (λ (R k : ℕ). anyHeld ps (slotsFrom R (a .insert) k 0 (a .n))) (c .before .before .slots-of .ensures .0) (c .before .step-of .ensures)
     ∙ sym (ap (λ (b : Bool). b && anyHeld ps (slotsFrom (slots (a .cfg)) (a .insert) (stepOf (a .cfg)) 0 (a .n))) e)

@@ -20,22 +20,25 @@ mul-if2 c = search needs
 
 returns-2 : tie.Need-returns-2
 returns-2 c =
-    let e1 : (not (c .before .before .before .before .args .live) && not (c .before .before .before .before .args .transfer .«gate_program»)) ≡ false = c .before .before .if1 .left in
-    let e2 : ltb (c .before .before .before .before .args .transfer .words) (2 * c .before .before .before .before .args .n) ≡ true = lt-ltb _ _ (c .if2 .taken) in
+    let a = c .before .before .before .before .args in
+    let e1 : (not (a .live) && not (a .transfer .«gate_program»)) ≡ false = c .before .before .if1 .left in
+    let e2 : ltb (a .transfer .words) (2 * a .n) ≡ true = lt-ltb _ _ (c .if2 .taken) in
     simp (e1, e2)
 
 returns-3 : tie.Need-returns-3
 returns-3 c =
-    let e1 : (not (c .before .before .before .before .before .before .args .live) && not (c .before .before .before .before .before .before .args .transfer .«gate_program»)) ≡ false = c .before .before .before .before .if1 .left in
-    let e2 : ltb (c .before .before .before .before .before .before .args .transfer .words) (2 * c .before .before .before .before .before .before .args .n) ≡ false = le-ltb _ _ (c .before .before .if2 .left) in
-    let e3 : (not (c .before .before .before .before .before .before .args .live) && not (c .before .before .before .before .before .before .args .transfer .«gate_enable»)) ≡ true = c .if3 .taken in
+    let a = c .before .before .before .before .before .before .args in
+    let e1 : (not (a .live) && not (a .transfer .«gate_program»)) ≡ false = c .before .before .before .before .if1 .left in
+    let e2 : ltb (a .transfer .words) (2 * a .n) ≡ false = le-ltb _ _ (c .before .before .if2 .left) in
+    let e3 : (not (a .live) && not (a .transfer .«gate_enable»)) ≡ true = c .if3 .taken in
     simp (e1, e2, e3)
 
 returns-4 : tie.Need-returns-4
 returns-4 c =
-    let e1 : (not (c .before .before .before .before .before .before .args .live) && not (c .before .before .before .before .before .before .args .transfer .«gate_program»)) ≡ false = c .before .before .before .before .if1 .left in
-    let e2 : ltb (c .before .before .before .before .before .before .args .transfer .words) (2 * c .before .before .before .before .before .before .args .n) ≡ false = le-ltb _ _ (c .before .before .if2 .left) in
-    let e3 : (not (c .before .before .before .before .before .before .args .live) && not (c .before .before .before .before .before .before .args .transfer .«gate_enable»)) ≡ false = c .if3 .left in
+    let a = c .before .before .before .before .before .before .args in
+    let e1 : (not (a .live) && not (a .transfer .«gate_program»)) ≡ false = c .before .before .before .before .if1 .left in
+    let e2 : ltb (a .transfer .words) (2 * a .n) ≡ false = le-ltb _ _ (c .before .before .if2 .left) in
+    let e3 : (not (a .live) && not (a .transfer .«gate_enable»)) ≡ false = c .if3 .left in
     simp (e1, e2, e3)
 
 pub gate-way-spec : {M : Type 1} → statement M

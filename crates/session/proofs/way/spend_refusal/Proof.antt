@@ -35,15 +35,18 @@ spend-number-requires c κs = search needs
 
 returns : tie.Need-returns
 returns c = λ requests plans w.
+    let sum-of = c .before .before .before .before .before .before .before .before .sum-of in
     let a = c .before .before .before .before .before .before .before .before .before .before .before .args in
     let s = whole (a .cfg) (a .head) (a .fatal) requests plans in
     let n = length (a .lengths .now) in
     c .spend-number .ensures
     ∙ spend-equal (not (a .head .live) && not (a .transfer .«channel_free»))
-    (ap (λ (x : ℕ). not (eqb x (a .transfer .«buffer_len»))) (c .before .before .before .before .before .before .before .before .sum-of .ensures))
-    (c .before .is-beyond .ensures ∙ ap (isBeyond (a .transfer .base)) (c .before .before .before .before .before .before .before .before .sum-of .ensures))
+    (ap (λ (x : ℕ). not (eqb x (a .transfer .«buffer_len»))) (sum-of .ensures))
+    (c .before .is-beyond .ensures ∙ ap (isBeyond (a .transfer .base)) (sum-of .ensures))
     (c .before .before .before .clash .ensures (pendingPlans s) (w .held)
-    ∙ ap (λ (i : ℕ). isGuarded (a .cfg .mode) && anyHeld (pendingPlans s) (slotsFrom (slots (a .cfg)) i (stepOf (a .cfg)) 0 n)) (c .before .before .before .before .before .insert-of .ensures ∙ ap (λ (tail : ℕ). insertAt (a .cfg) (a .head) (a .transfer) tail (a .ring .now)) (w .tail)))
+    ∙ ap (λ (i : ℕ). isGuarded (a .cfg .mode) && anyHeld (pendingPlans s) (slotsFrom (slots (a .cfg)) i (stepOf (a .cfg)) 0 n))
+    (c .before .before .before .before .before .insert-of .ensures
+    ∙ ap (λ (tail : ℕ). insertAt (a .cfg) (a .head) (a .transfer) tail (a .ring .now)) (w .tail)))
 
 pub spend-refusal-spec : {M : Type 1} → statement M
 spend-refusal-spec =

@@ -23,7 +23,10 @@ same-length : tie.Need-same-length
 same-length c = search needs
 
 returns : tie.Need-returns
-returns c = c .before .before .put-word2 .ensures ∙ ap (λ (l : List ℕ). set l (2 * c .before .before .before .before .before .before .before .before .before .args .slot + 1) 0) (c .before .before .before .before .before .before .put-word .ensures)
+returns c =
+    c .before .before .put-word2 .ensures
+    ∙ ap (λ (l : List ℕ). set l (2 * c .before .before .before .before .before .before .before .before .before .args .slot + 1) 0)
+    (c .before .before .before .before .before .before .put-word .ensures)
 
 pub clear-slot-spec : {M : Type 1} → statement M
 clear-slot-spec =

@@ -19,8 +19,12 @@ same-length c = search needs
 
 returns : tie.Need-returns
 returns c =
-    let ring = c .before .before .before .before .before .before .before .args .ring .now in
-    (answer-by (c .before .before .before .before .before .before .before .args .session) (192 ∷ 192 ∷ []) ring (c .before .before .before .before .before .transfer .ensures) (c .before .before .submit .ensures .0), ring-by (c .before .before .before .before .before .before .before .args .session) (192 ∷ 192 ∷ []) ring (c .before .before .before .before .before .transfer .ensures) (c .before .before .submit .ensures .1))
+    let submit = c .before .before .submit in
+    let a = c .before .before .before .before .before .before .before .args in
+    let ring = a .ring .now in (
+      answer-by (a .session) (192 ∷ 192 ∷ []) ring (c .before .before .before .before .before .transfer .ensures) (submit .ensures .0),
+      ring-by (a .session) (192 ∷ 192 ∷ []) ring (c .before .before .before .before .before .transfer .ensures) (submit .ensures .1),
+    )
 
 pub again-spec : {M : Type 1} → statement M
 again-spec =

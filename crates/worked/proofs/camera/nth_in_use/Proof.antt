@@ -36,8 +36,9 @@ mark-requires c κs = search needs
 
 returns : tie.Need-returns Inv-loop μ-loop
 returns c =
+    let now = c .before .before .before .before .loop in
     let ring = c .before .before .before .before .before .before .args .ring .now in
-    sym (slot-here ring (c .before .before .before .before .loop .slot) (c .before .before .before .before .loop .left) (length ring / 2) (omega arith) (omega (arith, c .before .mark .ensures))) ∙ c .before .before .before .before .loop .inv .2
+    sym (slot-here ring (now .slot) (now .left) (length ring / 2) (omega arith) (omega (arith, c .before .mark .ensures))) ∙ now .inv .2
 
 add-slot : tie.Need-add-slot Inv-loop μ-loop
 add-slot c = omega arith
@@ -47,12 +48,14 @@ loop-less c = omega arith
 
 loop-again : tie.Need-loop-again Inv-loop μ-loop
 loop-again c =
+    let now = c .before .before .before .before .loop in
     let ring = c .before .before .before .before .before .before .args .ring .now in
-    let next : getD (slotsInUse (c .before .before .before .before .loop .slot + 1) (drop ((c .before .before .before .before .loop .slot + 1) * 2) ring)) (c .before .before .before .before .loop .left - c .before .mark .result) (length ring / 2) ≡ getD (slotsInUse (c .before .before .before .before .loop .slot) (drop (c .before .before .before .before .loop .slot * 2) ring)) (c .before .before .before .before .loop .left) (length ring / 2) =
-    ap (λ (m : ℕ). getD (slotsInUse (c .before .before .before .before .loop .slot + 1) (drop ((c .before .before .before .before .loop .slot + 1) * 2) ring)) (c .before .before .before .before .loop .left - m) (length ring / 2)) (c .before .mark .ensures)
-    ∙ sym (slot-later ring (c .before .before .before .before .loop .slot) (c .before .before .before .before .loop .left) (length ring / 2) (omega arith) (omega (arith, c .before .mark .ensures)))
+    let next : getD (slotsInUse (now .slot + 1) (drop ((now .slot + 1) * 2) ring)) (now .left - c .before .mark .result) (length ring / 2)
+    ≡ getD (slotsInUse (now .slot) (drop (now .slot * 2) ring)) (now .left) (length ring / 2) =
+    ap (λ (m : ℕ). getD (slotsInUse (now .slot + 1) (drop ((now .slot + 1) * 2) ring)) (now .left - m) (length ring / 2)) (c .before .mark .ensures)
+    ∙ sym (slot-later ring (now .slot) (now .left) (length ring / 2) (omega arith) (omega (arith, c .before .mark .ensures)))
     in
-    (refl, omega arith, next ∙ c .before .before .before .before .loop .inv .2)
+    (refl, omega arith, next ∙ now .inv .2)
 
 returns-2 : tie.Need-returns-2 Inv-loop μ-loop
 returns-2 c =

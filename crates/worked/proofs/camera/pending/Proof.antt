@@ -26,9 +26,15 @@ same-length c = search needs
 
 returns : tie.Need-returns
 returns c =
-    let first = opened-as (length (c .before .before .before .before .before .before .before .before .before .before .before .before .before .args .ring .now)) (c .before .before .before .before .before .before .before .before .before .before .before .config .ensures) (c .before .before .before .before .before .before .before .before .before .«open» .ensures .0) in
-    let zero = ring-as (c .before .before .before .before .before .before .before .before .before .before .before .before .before .args .ring .now) (c .before .before .before .before .before .before .before .before .before .before .before .config .ensures) (c .before .before .before .before .before .before .before .before .before .«open» .ensures .1) in
-    (session-by (192 ∷ 192 ∷ []) first zero (c .before .before .before .before .before .before .transfer .ensures) (c .before .before .before .submit .ensures .0), first-ring-by (192 ∷ 192 ∷ []) first zero (c .before .before .before .before .before .before .transfer .ensures) (c .before .before .before .submit .ensures .1))
+    let submit = c .before .before .before .submit in
+    let there = c .before .before .before .before .before .before .before .before .before in
+    let config = c .before .before .before .before .before .before .before .before .before .before .before .config in
+    let a = c .before .before .before .before .before .before .before .before .before .before .before .before .before .args in
+    let first = opened-as (length (a .ring .now)) (config .ensures) (there .«open» .ensures .0) in
+    let zero = ring-as (a .ring .now) (config .ensures) (there .«open» .ensures .1) in (
+      session-by (192 ∷ 192 ∷ []) first zero (c .before .before .before .before .before .before .transfer .ensures) (submit .ensures .0),
+      first-ring-by (192 ∷ 192 ∷ []) first zero (c .before .before .before .before .before .before .transfer .ensures) (submit .ensures .1),
+    )
 
 pub pending-spec : {M : Type 1} → statement M
 pending-spec =

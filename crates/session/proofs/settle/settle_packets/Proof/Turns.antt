@@ -1,6 +1,6 @@
 -- The turns of the walk of `settle_packets`: where a turn begins, that each leaves fewer plans to settle, and what its call of `settled_plan` is
 -- given and gives. The invariant: the plans still to settle, settled in the row as it is, give the goal.
-use mathlib.Core.Path.{_≡_, refl, sym, _∙_}
+use mathlib.Core.Path.{_≡_, refl, sym, ap, _∙_}
 use mathlib.Core.Bool.{false}
 use mathlib.Core.List.{List, [], _∷_, map}
 use mathlib.Core.WellFounded.{WellFounded, InvImage·wf}
@@ -34,7 +34,7 @@ use Rattle.words.specs.declared.types.Direction.{Direction}
 use Rattle.session.specs.declared.types.IsoPacketPlan.{IsoPacketPlan}
 use Rattle.session.specs.Session.{blankPlan}
 use Rattle.session.specs.Settle.{settledPlan}
-use Rattle.session.proofs.Laws.Lists.{amend-by, amend-past, amend-all}
+use Rattle.session.proofs.Laws.Lists.{write-past, amend-next, amend-all}
 use Rattle.session.proofs.Laws.Lent.{PlanT, WayT, plan-vals, way-val, way-makes}
 use Rattle.session.proofs.settle.settled_plan as callee
 
@@ -75,11 +75,13 @@ module _ (dir : Direction) (words : List ℕ) (xs : List IsoPacketPlan) where
     set (t .1) (t .0) r,
     omega arith,
     length-set (t .1) (t .0) r ∙ t .3,
-    amend-by g (t .0) (length xs) (t .1) blankPlan r small (omega (arith, t .3)) new ∙ t .4,
+    amend-next (map g) (t .0) (t .0) (length xs) (t .1) blankPlan r (omega arith) small (omega (arith, t .3))
+        (λ rest. ap (λ (p : IsoPacketPlan). p ∷ map g rest) (sym new))
+        ∙ t .4,
   )
 
   pub all-settled : (t : State) → ltb (t .0) (length xs) ≡ false → t .1 ≡ map g xs
-  all-settled t e = sym (amend-past g (t .0) (length xs) (t .1) (ltb-false (t .0) (length xs) e)) ∙ t .4
+  all-settled t e = sym (write-past (map g) (t .0) (t .0) (length xs) (t .1) (t .1) refl (ltb-false (t .0) (length xs) e)) ∙ t .4
 
 -- the contract that the proof cites
 abbrev pub Settled : {M : Type 1} (𝓤 : URA M) (H : Heap 𝓤) (A : Atoms 𝓤) (mem : Memory → SProp 𝓤) (run : Routine → Fun 𝓤) → Contract 𝓤
@@ -102,7 +104,8 @@ module _ {M : Type 1} (𝓤 : URA M) (H : Heap 𝓤) (A : Atoms 𝓤) (W : Given
       → ent 𝓤 (sep 𝓤 (A .lft κ′ q′) (sep 𝓤 (sem 𝓤 H A (PlanT .own p (plan-vals p))) (sem 𝓤 H A (Lent κ′ ring))))
       (Settled 𝓤 H A at-mem run .pre (to-settled p))
   goes is-dir p =
-      qed W (‵ (flft κ′ q′) ∷ ‵ (PlanT .own p (plan-vals p)) ∷ ‵ (Lent κ′ ring) ∷ []) ∵ nothing ! $ move ! (3 ∷ 0 ∷ []) $ fjoin ! $ move ! (2 ∷ 0 ∷ []) $ fjoin ! $
+      qed W (‵ (flft κ′ q′) ∷ ‵ (PlanT .own p (plan-vals p)) ∷ ‵ (Lent κ′ ring) ∷ []) ∵ nothing ! $ move ! (3 ∷ 0 ∷ []) $ fjoin ! $ move ! (2 ∷ 0 ∷ []) $ fjoin
+      ! $
       owned ! WayT (Is WayT) (way-makes 𝓤 H A W) dir _ is-dir $ fjoin ! $ nothing ! $ move ! (2 ∷ 0 ∷ []) $ join ! $ join ! $ frame ! $ done !
 
   abbrev pub Ensured : IsoPacketPlan → IsoPacketPlan → SProp 𝓤

@@ -1,16 +1,16 @@
 -- `cancel` looks the number up and acts by where it stands: each return is the definition at the tests that led there.
-use mathlib.Core.Path.{_≡_, sym, _∙_, ap, subst}
+use mathlib.Core.Path.{_≡_, sym, _∙_, ap}
 use mathlib.Core.Bool.{true, false}
-use Prim.Native.Nat.{ℕ, _≤_, _<_}
+use Prim.Native.Nat.{ℕ}
 use native.Mathlib.Omega.{arith}
 use lib.Dec.{ltb}
 use lib.ListN.{length-map}
-use borrow.Author.Tests.{lt-ltb, le-ltb}
 use Rattle.session.specs.declared.reply.IsoAnswer.the-variants as answer
 use Rattle.session.specs.Record.{isBadRecord}
 use Rattle.session.specs.Poll.{reply}
 use Rattle.session.specs.Cancel.{requestAt, withCancelled}
 use Rattle.session.proofs.Laws.Record.{Sound, sound}
+use Rattle.session.proofs.Laws.Tests.{below, not-below}
 use Rattle.session.proofs.Laws.Replies.{cancel-bad, cancel-completed, cancel-unknown, cancel-again, cancel-halt}
 use borrow.Author.Needs.{needs}
 use Rattle.session.proofs.types.IsoChannelState.cancel.Statement.{statement}
@@ -29,35 +29,52 @@ refused-requires : tie.Need-refused-requires
 refused-requires c κs = search needs
 
 returns : tie.Need-returns
-returns c = c .refused .ensures ∙ sym (cancel-bad (c .before .before .before .args .self) (c .before .before .before .args .id) (sym (c .before .before .is-bad-record .ensures) ∙ c .before .if1 .taken))
+returns c =
+    let a = c .before .before .before .args in
+    c .refused .ensures ∙ sym (cancel-bad (a .self) (a .id) (sym (c .before .before .is-bad-record .ensures) ∙ c .before .if1 .taken))
 
 place-of-requires : tie.Need-place-of-requires
-place-of-requires c κs = good (c .before .before .before .before) (sym (c .before .before .before .is-bad-record .ensures) ∙ c .before .before .if1 .left) .count-in
+place-of-requires c κs =
+    good (c .before .before .before .before) (sym (c .before .before .before .is-bad-record .ensures) ∙ c .before .before .if1 .left) .count-in
 
 amend-requires : tie.Need-amend-requires
-amend-requires c κs = let g = good (c .before .before .before .before .before .before .before) (sym (c .before .before .before .before .before .before .is-bad-record .ensures) ∙ c .before .before .before .before .before .if1 .left) in omega (arith, g .done-in, g .count-in, c .if2 .taken)
+amend-requires c κs =
+    let g =
+    good (c .before .before .before .before .before .before .before)
+    (sym (c .before .before .before .before .before .before .is-bad-record .ensures) ∙ c .before .before .before .before .before .if1 .left) in
+    omega (arith, g .done-in, g .count-in, c .if2 .taken)
 
 done-requires : tie.Need-done-requires
 done-requires c κs = search needs
 
 returns-2 : tie.Need-returns-2
 returns-2 c =
-    let s = c .before .before .before .before .before .before .before .before .before .args .self in
-    let id = c .before .before .before .before .before .before .before .before .before .args .id in
-    let fine : isBadRecord s ≡ false = sym (c .before .before .before .before .before .before .before .before .is-bad-record .ensures) ∙ c .before .before .before .before .before .before .before .if1 .left in
-    let is-done : ltb (requestAt id s) (s .head .done) ≡ true = lt-ltb (requestAt id s) (s .head .done) (subst (λ (n : ℕ). n < s .head .done) (c .before .before .before .before .place-of .ensures) (c .before .before .if2 .taken)) in
-    c .done .ensures ∙ ap (reply answer.Done false false) (c .before .amend .ensures ∙ ap (λ (n : ℕ). withCancelled n s) (c .before .before .before .before .place-of .ensures)) ∙ sym (cancel-completed s id fine is-done)
+    let place-of = c .before .before .before .before .place-of in
+    let a = c .before .before .before .before .before .before .before .before .before .args in
+    let s = a .self in
+    let id = a .id in
+    let fine : isBadRecord s ≡ false =
+    sym (c .before .before .before .before .before .before .before .before .is-bad-record .ensures)
+    ∙ c .before .before .before .before .before .before .before .if1 .left in
+    let is-done : ltb (requestAt id s) (s .head .done) ≡ true = below (s .head .done) (place-of .ensures) (c .before .before .if2 .taken) in
+    c .done .ensures
+    ∙ ap (reply answer.Done false false) (c .before .amend .ensures ∙ ap (λ (n : ℕ). withCancelled n s) (place-of .ensures))
+    ∙ sym (cancel-completed s id fine is-done)
 
 refused-requires-2 : tie.Need-refused-requires-2
 refused-requires-2 c κs = search needs
 
 returns-3 : tie.Need-returns-3
 returns-3 c =
-    let s = c .before .before .before .before .before .before .before .before .before .before .args .self in
-    let id = c .before .before .before .before .before .before .before .before .before .before .args .id in
-    let fine : isBadRecord s ≡ false = sym (c .before .before .before .before .before .before .before .before .before .is-bad-record .ensures) ∙ c .before .before .before .before .before .before .before .before .if1 .left in
-    let not-done : ltb (requestAt id s) (s .head .done) ≡ false = le-ltb (requestAt id s) (s .head .done) (subst (λ (n : ℕ). s .head .done ≤ n) (c .before .before .before .before .before .place-of .ensures) (c .before .before .before .if2 .left)) in
-    let unknown : ltb (requestAt id s) (s .head .count) ≡ false = le-ltb (requestAt id s) (s .head .count) (subst (λ (n : ℕ). s .head .count ≤ n) (c .before .before .before .before .before .place-of .ensures) (c .before .if3 .taken)) in
+    let place-of = c .before .before .before .before .before .place-of in
+    let a = c .before .before .before .before .before .before .before .before .before .before .args in
+    let s = a .self in
+    let id = a .id in
+    let fine : isBadRecord s ≡ false =
+    sym (c .before .before .before .before .before .before .before .before .before .is-bad-record .ensures)
+    ∙ c .before .before .before .before .before .before .before .before .if1 .left in
+    let not-done : ltb (requestAt id s) (s .head .done) ≡ false = not-below (s .head .done) (place-of .ensures) (c .before .before .before .if2 .left) in
+    let unknown : ltb (requestAt id s) (s .head .count) ≡ false = not-below (s .head .count) (place-of .ensures) (c .before .if3 .taken) in
     c .refused2 .ensures ∙ sym (cancel-unknown s id fine not-done unknown)
 
 has-reason-requires : tie.Need-has-reason-requires
@@ -68,11 +85,16 @@ done-requires-2 c κs = search needs
 
 returns-4 : tie.Need-returns-4
 returns-4 c =
-    let s = c .before .before .before .before .before .before .before .before .before .before .before .before .args .self in
-    let id = c .before .before .before .before .before .before .before .before .before .before .before .before .args .id in
-    let fine : isBadRecord s ≡ false = sym (c .before .before .before .before .before .before .before .before .before .before .before .is-bad-record .ensures) ∙ c .before .before .before .before .before .before .before .before .before .before .if1 .left in
-    let not-done : ltb (requestAt id s) (s .head .done) ≡ false = le-ltb (requestAt id s) (s .head .done) (subst (λ (n : ℕ). s .head .done ≤ n) (c .before .before .before .before .before .before .before .place-of .ensures) (c .before .before .before .before .before .if2 .left)) in
-    let within : ltb (requestAt id s) (s .head .count) ≡ true = lt-ltb (requestAt id s) (s .head .count) (subst (λ (n : ℕ). n < s .head .count) (c .before .before .before .before .before .before .before .place-of .ensures) (c .before .before .before .if3 .left)) in
+    let place-of = c .before .before .before .before .before .before .before .place-of in
+    let a = c .before .before .before .before .before .before .before .before .before .before .before .before .args in
+    let s = a .self in
+    let id = a .id in
+    let fine : isBadRecord s ≡ false =
+    sym (c .before .before .before .before .before .before .before .before .before .before .before .is-bad-record .ensures)
+    ∙ c .before .before .before .before .before .before .before .before .before .before .if1 .left in
+    let not-done : ltb (requestAt id s) (s .head .done) ≡ false =
+    not-below (s .head .done) (place-of .ensures) (c .before .before .before .before .before .if2 .left) in
+    let within : ltb (requestAt id s) (s .head .count) ≡ true = below (s .head .count) (place-of .ensures) (c .before .before .before .if3 .left) in
     c .done2 .ensures ∙ sym (cancel-again s id fine not-done within (sym (c .before .before .has-reason .ensures) ∙ c .before .if4 .taken))
 
 with-reason-requires : tie.Need-with-reason-requires
@@ -83,12 +105,19 @@ done-requires-3 c κs = search needs
 
 returns-5 : tie.Need-returns-5
 returns-5 c =
-    let s = c .before .before .before .before .before .before .before .before .before .before .before .before .before .args .self in
-    let id = c .before .before .before .before .before .before .before .before .before .before .before .before .before .args .id in
-    let fine : isBadRecord s ≡ false = sym (c .before .before .before .before .before .before .before .before .before .before .before .before .is-bad-record .ensures) ∙ c .before .before .before .before .before .before .before .before .before .before .before .if1 .left in
-    let not-done : ltb (requestAt id s) (s .head .done) ≡ false = le-ltb (requestAt id s) (s .head .done) (subst (λ (n : ℕ). s .head .done ≤ n) (c .before .before .before .before .before .before .before .before .place-of .ensures) (c .before .before .before .before .before .before .if2 .left)) in
-    let within : ltb (requestAt id s) (s .head .count) ≡ true = lt-ltb (requestAt id s) (s .head .count) (subst (λ (n : ℕ). n < s .head .count) (c .before .before .before .before .before .before .before .before .place-of .ensures) (c .before .before .before .before .if3 .left)) in
-    c .done3 .ensures ∙ ap (reply answer.Done false true) (c .before .with-reason .ensures) ∙ sym (cancel-halt s id fine not-done within (sym (c .before .before .before .has-reason .ensures) ∙ c .before .before .if4 .left))
+    let place-of = c .before .before .before .before .before .before .before .before .place-of in
+    let a = c .before .before .before .before .before .before .before .before .before .before .before .before .before .args in
+    let s = a .self in
+    let id = a .id in
+    let fine : isBadRecord s ≡ false =
+    sym (c .before .before .before .before .before .before .before .before .before .before .before .before .is-bad-record .ensures)
+    ∙ c .before .before .before .before .before .before .before .before .before .before .before .if1 .left in
+    let not-done : ltb (requestAt id s) (s .head .done) ≡ false =
+    not-below (s .head .done) (place-of .ensures) (c .before .before .before .before .before .before .if2 .left) in
+    let within : ltb (requestAt id s) (s .head .count) ≡ true = below (s .head .count) (place-of .ensures) (c .before .before .before .before .if3 .left) in
+    c .done3 .ensures
+    ∙ ap (reply answer.Done false true) (c .before .with-reason .ensures)
+    ∙ sym (cancel-halt s id fine not-done within (sym (c .before .before .before .has-reason .ensures) ∙ c .before .before .if4 .left))
 
 pub cancel-spec : {M : Type 1} → statement M
 cancel-spec =

@@ -38,25 +38,31 @@ same-length c = c .before .before .before .before .before .loop .inv .1
 returns : tie.Need-returns Inv-loop μ-loop
 returns c =
     let now = c .before .before .before .before .before .loop in
-    let stop : (now .at-once || isServed (now .self) (now .ring)) ≡ false = ap (λ (b : Bool). now .at-once || b) (sym (c .before .is-served .ensures)) ∙ not-true _ (c .if2 .taken) in
+    let stop : (now .at-once || isServed (now .self) (now .ring)) ≡ false =
+    ap (λ (b : Bool). now .at-once || b) (sym (c .before .is-served .ensures)) ∙ not-true _ (c .if2 .taken) in
     let e = sym (drained-stop (now .at-once) (now .self) (now .ring) (omega arith) stop) ∙ now .inv .2 in
     (ap (λ (d : Drained). d .session) e, ap (λ (d : Drained). d .ring) e)
 
 settle-request-requires : tie.Need-settle-request-requires Inv-loop μ-loop
-settle-request-requires c κs = (not-bad (c .before .before .before .before .before .before .loop .self) (c .before .before .before .before .before .before .loop .inv .0), omega arith)
+settle-request-requires c κs =
+    let now = c .before .before .before .before .before .before .loop in
+    (not-bad (now .self) (now .inv .0), omega arith)
 
 loop-less : tie.Need-loop-less Inv-loop μ-loop
 loop-less c =
+    let settle-request = c .before .before .settle-request in
     let now = c .before .before .before .before .before .before .before .before .before .loop in
-    let count : c .before .before .settle-request .result .head .count ≡ now .self .head .count = ap (λ (s : IsoChannelState). s .head .count) (c .before .before .settle-request .ensures .0) in
-    let done : c .before .before .settle-request .result .head .done ≡ now .self .head .done + 1 = ap (λ (s : IsoChannelState). s .head .done) (c .before .before .settle-request .ensures .0) in
+    let count : settle-request .result .head .count ≡ now .self .head .count = ap (λ (s : IsoChannelState). s .head .count) (settle-request .ensures .0) in
+    let done : settle-request .result .head .done ≡ now .self .head .done + 1 = ap (λ (s : IsoChannelState). s .head .done) (settle-request .ensures .0) in
     omega (arith, count, done)
 
 loop-again : tie.Need-loop-again Inv-loop μ-loop
 loop-again c =
     let now = c .before .before .before .before .before .before .before .before .before .loop in
     let after = c .before .before .settle-request in
-    let go : (now .at-once || isServed (now .self) (now .ring)) ≡ true = ap (λ (b : Bool). now .at-once || b) (sym (c .before .before .before .before .before .is-served .ensures)) ∙ not-false _ (c .before .before .before .before .if2 .left) in (
+    let go : (now .at-once || isServed (now .self) (now .ring)) ≡ true =
+    ap (λ (b : Bool). now .at-once || b) (sym (c .before .before .before .before .before .is-served .ensures))
+    ∙ not-false _ (c .before .before .before .before .if2 .left) in (
       subst⁻¹ Sound (after .ensures .0) (settled-sound (now .self) (now .ring) (now .inv .0) (omega arith)),
       after .kept .1 .0 ∙ now .inv .1,
       ap (λ (s : IsoChannelState). drained false s (after .last .1 .0)) (after .ensures .0)

@@ -20,16 +20,25 @@ ring-words-requires : tie.Need-ring-words-requires
 ring-words-requires c κs = search needs
 
 clear-ring-requires : tie.Need-clear-ring-requires
-clear-ring-requires c κs = subst⁻¹ (λ (n : ℕ). n ≤ length (c .before .before .before .before .before .before .before .args .ring .now)) (c .ring-words .ensures .0) (c .before .before .before .before .before .before .before .pre .1)
+clear-ring-requires c κs =
+    subst⁻¹ (λ (n : ℕ). n ≤ length (c .before .before .before .before .before .before .before .args .ring .now)) (c .ring-words .ensures .0)
+    (c .before .before .before .before .before .before .before .pre .1)
 
 fail-requests-requires : tie.Need-fail-requests-requires
-fail-requests-requires c κs = let s = good (c .before .before .before .before .before .before .before .before .before .before) (c .before .before .before .before .before .before .before .before .before .before .pre .0) in (s .done-in, s .count-in)
+fail-requests-requires c κs =
+    let start = c .before .before .before .before .before .before .before .before .before .before in
+    let s = good start (start .pre .0) in (s .done-in, s .count-in)
 
 same-length : tie.Need-same-length
 same-length c = search needs
 
 returns : tie.Need-returns
-returns c = (rw (c .fail-requests .ensures), c .before .before .before .clear-ring .ensures ∙ ap (λ (n : ℕ). cleared n (c .before .before .before .before .before .before .before .before .before .before .before .args .ring .now)) (c .before .before .before .before .ring-words .ensures .0))
+returns c = (
+  rw (c .fail-requests .ensures),
+  c .before .before .before .clear-ring .ensures
+      ∙ ap (λ (n : ℕ). cleared n (c .before .before .before .before .before .before .before .before .before .before .before .args .ring .now))
+      (c .before .before .before .before .ring-words .ensures .0),
+)
 
 pub end-spec : {M : Type 1} → statement M
 end-spec =

@@ -28,10 +28,14 @@ is-done-requires : tie.Need-is-done-requires
 is-done-requires c κs = search needs
 
 plans-begin-requires : tie.Need-plans-begin-requires
-plans-begin-requires c κs = (c .before .before .before .before .before .before .pre .0, omega (arith, good (c .before .before .before .before .before .before) (c .before .before .before .before .before .before .pre .0) .done-in, c .before .before .before .before .before .before .pre .1))
+plans-begin-requires c κs =
+    let start = c .before .before .before .before .before .before in
+    (start .pre .0, omega (arith, good start (start .pre .0) .done-in, start .pre .1))
 
 plans-end-requires : tie.Need-plans-end-requires
-plans-end-requires c κs = (c .before .before .before .before .before .before .before .pre .0, omega (arith, good (c .before .before .before .before .before .before .before) (c .before .before .before .before .before .before .before .pre .0) .done-in, c .before .before .before .before .before .before .before .pre .1))
+plans-end-requires c κs =
+    let start = c .before .before .before .before .before .before .before in
+    (start .pre .0, omega (arith, good start (start .pre .0) .done-in, start .pre .1))
 
 write-results-requires : tie.Need-write-results-requires
 write-results-requires c κs = search needs
@@ -41,12 +45,19 @@ same-length c = search needs
 
 returns : tie.Need-returns
 returns c =
+    let write-results = c .before .before .write-results in
+    let plans-end = c .before .before .before .before .plans-end in
+    let plans-begin = c .before .before .before .before .before .plans-begin in
     let a = c .before .before .before .before .before .before .before .before .before .before .before .before .args in
-    handed-by (a .at) (a .self) (c .before .before .before .before .before .plans-begin .result) (c .before .before .before .before .plans-end .result) (c .before .before .before .before .before .plans-begin .ensures) (c .before .before .before .before .plans-end .ensures .0) (a .results .now) (c .before .before .write-results .last .1 .1 .1 .0)
-    (sym (c .before .before .before .before .before .before .before .before .is-done .ensures) ∙ c .before .before .before .before .before .before .before .if1 .taken) (c .before .before .write-results .ensures)
+    handed-by (a .at) (a .self) (plans-begin .result) (plans-end .result) (plans-begin .ensures) (plans-end .ensures .0) (a .results .now)
+    (write-results .last .1 .1 .1 .0)
+    (sym (c .before .before .before .before .before .before .before .before .is-done .ensures)
+    ∙ c .before .before .before .before .before .before .before .if1 .taken) (write-results .ensures)
 
 returns-2 : tie.Need-returns-2
-returns-2 c = none-handed (c .before .before .before .before .before .args .at) (c .before .before .before .before .before .args .self) (c .before .before .before .before .before .args .results .now) (sym (c .before .is-done .ensures) ∙ c .if1 .left)
+returns-2 c =
+    let a = c .before .before .before .before .before .args in
+    none-handed (a .at) (a .self) (a .results .now) (sym (c .before .is-done .ensures) ∙ c .if1 .left)
 
 pub hand-results-spec : {M : Type 1} → statement M
 hand-results-spec =

@@ -30,7 +30,9 @@ is-active-at-requires c κs = search needs
 returns : tie.Need-returns
 returns c =
     let a = c .before .before .before .before .args in
-    ap not (c .is-active-at .ensures ∙ ap (λ (n : ℕ). isSet active (getD (a .ring .now) (2 * getD (a .self .plans) (n - 1) blankPlan .«desc_index») 0)) (c .before .before .oldest-to .ensures .0))
+    ap not (c .is-active-at .ensures
+    ∙ ap (λ (n : ℕ). isSet active (getD (a .ring .now) (2 * getD (a .self .plans) (n - 1) blankPlan .«desc_index») 0))
+    (c .before .before .oldest-to .ensures .0))
 
 pub is-served-spec : {M : Type 1} → statement M
 is-served-spec =

@@ -35,9 +35,11 @@ same-length c = search needs
 
 returns-2 : tie.Need-returns-2
 returns-2 c =
+    let poll-by = c .before .before .poll-by in
     let a = c .before .before .before .before .before .before .before .before .before .before .before .args in
-    looked-polled (a .id) (a .self) (c .before .before .before .before .before .before .before .place-of .ensures) (a .event) (a .ring .now) (c .before .before .before .before .before .if1 .left) (c .before .before .before .before .poll-way .ensures) (c .before .before .poll-by .ensures .0)
-    (c .before .before .poll-by .ensures .1)
+    looked-polled (a .id) (a .self) (c .before .before .before .before .before .before .before .place-of .ensures) (a .event) (a .ring .now)
+    (c .before .before .before .before .before .if1 .left) (c .before .before .before .before .poll-way .ensures) (poll-by .ensures .0)
+    (poll-by .ensures .1)
 
 pub look-spec : {M : Type 1} → statement M
 look-spec =

@@ -35,14 +35,17 @@ wide-requires c κs = search needs
 
 add-result : tie.Need-add-result
 add-result c =
-    let s = good (c .before .before .before .before) (c .before .before .before .before .pre .0) in
-    omega (arith, c .before .oldest-from .ensures, s .all-few, oldest-in (c .before .before .before .before .args .self) s (c .before .before .before .before .pre .1))
+    let start = c .before .before .before .before in
+    let s = good start (start .pre .0) in
+    omega (arith, c .before .oldest-from .ensures, s .all-few, oldest-in (start .args .self) s (start .pre .1))
 
 returns : tie.Need-returns
 returns c =
-    let s = good (c .before .before .before .before) (c .before .before .before .before .pre .0) in
-    let to : c .before .oldest-from .result + c .wide .result ≡ oldestTo (c .before .before .before .before .args .self) = omega (arith, c .before .oldest-from .ensures, c .wide .ensures .0) in
-    (to, omega (arith, to, oldest-some (c .before .before .before .before .args .self) s (c .before .before .before .before .pre .1)), omega (arith, to, s .all-few, oldest-in (c .before .before .before .before .args .self) s (c .before .before .before .before .pre .1)))
+    let start = c .before .before .before .before in
+    let a = start .args in
+    let s = good start (start .pre .0) in
+    let to : c .before .oldest-from .result + c .wide .result ≡ oldestTo (a .self) = omega (arith, c .before .oldest-from .ensures, c .wide .ensures .0) in
+    (to, omega (arith, to, oldest-some (a .self) s (start .pre .1)), omega (arith, to, s .all-few, oldest-in (a .self) s (start .pre .1)))
 
 pub oldest-to-spec : {M : Type 1} → statement M
 oldest-to-spec =

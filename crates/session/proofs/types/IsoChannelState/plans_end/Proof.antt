@@ -38,10 +38,16 @@ add-result c =
 
 returns : tie.Need-returns
 returns c =
-    let a = c .before .before .before .args in
-    let s = good (c .before .before .before) (c .before .before .before .pre .0) in
-    let to : c .before .plans-begin .result + c .wide .result ≡ plansEnd (a .at) (a .self) = omega (arith, c .before .plans-begin .ensures, c .wide .ensures .0) in
-    (to, omega (arith, to), omega (arith, to, s .request (a .at) (c .before .before .before .pre .1) .few), omega (arith, to, s .all-few, plans-in (a .self) s (a .at) (c .before .before .before .pre .1)))
+    let start = c .before .before .before in
+    let a = start .args in
+    let s = good start (start .pre .0) in
+    let to : c .before .plans-begin .result + c .wide .result ≡ plansEnd (a .at) (a .self) =
+    omega (arith, c .before .plans-begin .ensures, c .wide .ensures .0) in (
+      to,
+      omega (arith, to),
+      omega (arith, to, s .request (a .at) (start .pre .1) .few),
+      omega (arith, to, s .all-few, plans-in (a .self) s (a .at) (start .pre .1)),
+    )
 
 pub plans-end-spec : {M : Type 1} → statement M
 plans-end-spec =

@@ -49,29 +49,49 @@ done-requires-5 c κs = search needs
 
 returns : tie.Need-returns
 returns c =
-    (polled-by (c .before .before .before .before .args .self) (c .before .before .before .before .args .ring .now) (c .before .enum-told .given .1) (c .done .ensures), polled-ring-by (c .before .before .before .before .args .self) (c .before .before .before .before .args .ring .now) (c .before .enum-told .given .1) (refl))
+    let a = c .before .before .before .before .args in (
+      polled-by (a .self) (a .ring .now) (c .before .enum-told .given .1) (c .done .ensures),
+      polled-ring-by (a .self) (a .ring .now) (c .before .enum-told .given .1) (refl),
+    )
 
 same-length : tie.Need-same-length
 same-length c = search needs
 
 returns-2 : tie.Need-returns-2
 returns-2 c =
-    (polled-by (c .before .before .before .before .before .before .before .before .before .args .self) (c .before .before .before .before .before .before .before .before .before .args .ring .now) (c .before .before .before .before .before .before .way .given .1) (c .done2 .ensures ∙ ap (reply answer.Done true false) (c .before .before .before .end .ensures .0)), polled-ring-by (c .before .before .before .before .before .before .before .before .before .args .self) (c .before .before .before .before .before .before .before .before .before .args .ring .now) (c .before .before .before .before .before .before .way .given .1) (c .before .before .before .end .ensures .1))
+    let end = c .before .before .before .end in
+    let a = c .before .before .before .before .before .before .before .before .before .args in (
+      polled-by (a .self) (a .ring .now) (c .before .before .before .before .before .before .way .given .1)
+          (c .done2 .ensures ∙ ap (reply answer.Done true false) (end .ensures .0)),
+      polled-ring-by (a .self) (a .ring .now) (c .before .before .before .before .before .before .way .given .1) (end .ensures .1),
+    )
 
 returns-3 : tie.Need-returns-3
 returns-3 c =
-    (polled-by (c .before .before .before .before .before .before .args .self) (c .before .before .before .before .before .before .args .ring .now) (c .before .before .before .way2 .given .1) (c .done3 .ensures ∙ ap (reply answer.Done true true) (c .before .with-reason .ensures)), polled-ring-by (c .before .before .before .before .before .before .args .self) (c .before .before .before .before .before .before .args .ring .now) (c .before .before .before .way2 .given .1) (refl))
+    let way2 = c .before .before .before .way2 in
+    let a = c .before .before .before .before .before .before .args in (
+      polled-by (a .self) (a .ring .now) (way2 .given .1) (c .done3 .ensures ∙ ap (reply answer.Done true true) (c .before .with-reason .ensures)),
+      polled-ring-by (a .self) (a .ring .now) (way2 .given .1) (refl),
+    )
 
 returns-4 : tie.Need-returns-4
 returns-4 c =
-    (polled-by (c .before .before .before .before .args .self) (c .before .before .before .before .args .ring .now) (c .before .enum-told2 .given .1) (c .done4 .ensures), polled-ring-by (c .before .before .before .before .args .self) (c .before .before .before .before .args .ring .now) (c .before .enum-told2 .given .1) (refl))
+    let a = c .before .before .before .before .args in (
+      polled-by (a .self) (a .ring .now) (c .before .enum-told2 .given .1) (c .done4 .ensures),
+      polled-ring-by (a .self) (a .ring .now) (c .before .enum-told2 .given .1) (refl),
+    )
 
 same-length-2 : tie.Need-same-length-2
 same-length-2 c = search needs
 
 returns-5 : tie.Need-returns-5
 returns-5 c =
-    (polled-by (c .before .before .before .before .before .before .before .before .before .args .self) (c .before .before .before .before .before .before .before .before .before .args .ring .now) (c .before .before .before .before .before .before .way3 .given .1) (c .done5 .ensures ∙ ap (reply answer.Done true false) (c .before .before .before .drain-serviced .ensures .0)), polled-ring-by (c .before .before .before .before .before .before .before .before .before .args .self) (c .before .before .before .before .before .before .before .before .before .args .ring .now) (c .before .before .before .before .before .before .way3 .given .1) (c .before .before .before .drain-serviced .ensures .1))
+    let drain-serviced = c .before .before .before .drain-serviced in
+    let way3 = c .before .before .before .before .before .before .way3 in
+    let a = c .before .before .before .before .before .before .before .before .before .args in (
+      polled-by (a .self) (a .ring .now) (way3 .given .1) (c .done5 .ensures ∙ ap (reply answer.Done true false) (drain-serviced .ensures .0)),
+      polled-ring-by (a .self) (a .ring .now) (way3 .given .1) (drain-serviced .ensures .1),
+    )
 
 pub poll-by-spec : {M : Type 1} → statement M
 poll-by-spec =

@@ -35,10 +35,12 @@ close-requests-requires c κs =
 
 close-plans-requires : tie.Need-close-plans-requires
 close-plans-requires c κs =
-    let a = c .before .before .before .before .before .before .before .args in
-    let s = good (c .before .before .before .before .before .before .before) (c .before .before .before .before .before .before .before .pre .0) in (
-      omega (arith, c .before .before .before .before .before .plans-begin .ensures, c .before .before .before .before .plans-end .ensures .1),
-      omega (arith, c .before .before .before .before .plans-end .ensures .0, c .before .packets-of .ensures, plans-in (a .self) s (a .at) (omega (arith, s .done-in, c .before .before .before .before .before .before .before .pre .1))),
+    let plans-end = c .before .before .before .before .plans-end in
+    let start = c .before .before .before .before .before .before .before in
+    let a = start .args in
+    let s = good start (start .pre .0) in (
+      omega (arith, c .before .before .before .before .before .plans-begin .ensures, plans-end .ensures .1),
+      omega (arith, plans-end .ensures .0, c .before .packets-of .ensures, plans-in (a .self) s (a .at) (omega (arith, s .done-in, start .pre .1))),
       omega (arith, c .before .packets-of .ensures, s .all-few),
     )
 
@@ -46,13 +48,21 @@ sub-done : tie.Need-sub-done
 sub-done c = search needs
 
 sub-count : tie.Need-sub-count
-sub-count c = omega (arith, good (c .before .before .before .before .before .before .before .before .before .before) (c .before .before .before .before .before .before .before .before .before .before .pre .0) .done-in, c .before .before .before .before .before .before .before .before .before .before .pre .1)
+sub-count c =
+    let start = c .before .before .before .before .before .before .before .before .before .before in
+    omega (arith, good start (start .pre .0) .done-in, start .pre .1)
 
 returns : tie.Need-returns
 returns c =
+    let close-plans = c .before .before .before .before .close-plans in
+    let close-requests = c .before .before .before .before .before .close-requests in
+    let packets-of = c .before .before .before .before .before .before .packets-of in
+    let plans-end = c .before .before .before .before .before .before .before .before .before .plans-end in
+    let plans-begin = c .before .before .before .before .before .before .before .before .before .before .plans-begin in
     let a = c .before .before .before .before .before .before .before .before .before .before .before .before .args in
-    removed-by (a .at) (a .self) (c .before .before .before .before .before .before .before .before .before .before .plans-begin .result) (c .before .before .before .before .before .before .before .before .before .plans-end .result) (c .before .before .before .before .before .before .before .before .before .before .plans-begin .ensures) (c .before .before .before .before .before .before .before .before .before .plans-end .ensures .0) (c .before .before .before .before .before .before .packets-of .result) (c .before .before .before .before .before .close-requests .result) (c .before .before .before .before .close-plans .result)
-    (c .before .before .before .before .before .before .packets-of .ensures) (c .before .before .before .before .before .close-requests .ensures) (c .before .before .before .before .close-plans .ensures)
+    removed-by (a .at) (a .self) (plans-begin .result) (plans-end .result) (plans-begin .ensures) (plans-end .ensures .0) (packets-of .result)
+    (close-requests .result) (close-plans .result)
+    (packets-of .ensures) (close-requests .ensures) (close-plans .ensures)
 
 pub remove-spec : {M : Type 1} → statement M
 remove-spec =

@@ -32,24 +32,32 @@ bad-scan-requires c κs = search needs
 returns : tie.Need-returns Inv-loop μ-loop Inv-loop2 μ-loop2
 returns c =
     let s = c .before .before .before .before .before .before .before .args .t1 in
-    let e1 : (isBadConfig (s .cfg) || isBadCounts s) ≡ true = ap (λ (b : Bool). b || isBadCounts s) (sym (c .before .before .before .before .is-bad-config .ensures)) ∙ c .before .if1 .taken in
+    let e1 : (isBadConfig (s .cfg) || isBadCounts s) ≡ true =
+    ap (λ (b : Bool). b || isBadCounts s) (sym (c .before .before .before .before .is-bad-config .ensures)) ∙ c .before .if1 .taken in
     let bad : isBadRecord s ≡ true = simp e1 in
     bad-found s (c .bad-scan .result) (c .bad-scan .ensures) bad
 
 loop-holds : tie.Need-loop-holds Inv-loop μ-loop Inv-loop2 μ-loop2
 loop-holds c =
     let s = c .before .before .before .before .before .before .args .t1 in
-    let first : s .head .done + (0 - s .head .done) ≡ s .head .done = omega arith in
-    (omega arith, omega arith, omega arith, refl, zero-add (allPackets s), zero-add (packetsOf (slice (s .head .done + (0 - s .head .done)) (s .head .count) (s .requests))) ∙ ap (λ (f : ℕ). packetsOf (slice f (s .head .count) (s .requests))) first)
+    let first : s .head .done + (0 - s .head .done) ≡ s .head .done = omega arith in (
+      omega arith,
+      omega arith,
+      omega arith,
+      refl,
+      zero-add (allPackets s),
+      zero-add (packetsOf (slice (s .head .done + (0 - s .head .done)) (s .head .count) (s .requests)))
+          ∙ ap (λ (f : ℕ). packetsOf (slice f (s .head .count) (s .requests))) first,
+    )
 
 cast-request : tie.Need-cast-request Inv-loop μ-loop Inv-loop2 μ-loop2
 cast-request c = search needs
 
 mul-request : tie.Need-mul-request Inv-loop μ-loop Inv-loop2 μ-loop2
-mul-request c = omega (arith, counts ((c .before .before .before)) .1, c .if2 .taken)
+mul-request c = omega (arith, counts (c .before .before .before) .1, c .if2 .taken)
 
 element-copy-out-request : tie.Need-element-copy-out-request Inv-loop μ-loop Inv-loop2 μ-loop2
-element-copy-out-request c = omega (arith, counts ((c .before .before .before)) .1, c .if2 .taken)
+element-copy-out-request c = omega (arith, counts (c .before .before .before) .1, c .if2 .taken)
 
 is-bad-request-requires : tie.Need-is-bad-request-requires Inv-loop μ-loop Inv-loop2 μ-loop2
 is-bad-request-requires c κs = search needs
@@ -61,10 +69,12 @@ returns-2 : tie.Need-returns-2 Inv-loop μ-loop Inv-loop2 μ-loop2
 returns-2 c =
     let s = c .before .before .before .before .before .before .before .before .before .before .before .before .before .args .t1 in
     let now = c .before .before .before .before .before .before .loop in
-    let e1 : (isBadConfig (s .cfg) || isBadCounts s) ≡ false = past1 ((c .before .before .before .before .before .before .before)) in
+    let e1 : (isBadConfig (s .cfg) || isBadCounts s) ≡ false = past1 (c .before .before .before .before .before .before .before) in
     let here = sym (c .before .before .is-bad-request .ensures) ∙ c .before .if3 .taken in
     let e2 : anyBadRequest (slice 0 (s .head .count) (s .requests)) ≡ true =
-    now .inv .3 ∙ request-here (now .i) (s .head .count) (s .requests) (c .before .before .before .before .if2 .taken) (within ((c .before .before .before .before .before .before .before))) here in
+    now .inv .3
+    ∙ request-here (now .i) (s .head .count) (s .requests) (c .before .before .before .before .if2 .taken)
+    (within (c .before .before .before .before .before .before .before)) here in
     let bad : isBadRecord s ≡ true = simp (e1, e2) in
     bad-found s (c .bad-scan2 .result) (c .bad-scan2 .ensures) bad
 
@@ -72,16 +82,32 @@ wide-requires : tie.Need-wide-requires Inv-loop μ-loop Inv-loop2 μ-loop2
 wide-requires c κs = search needs
 
 add-all : tie.Need-add-all Inv-loop μ-loop Inv-loop2 μ-loop2
-add-all c = omega (arith, counts ((c .before .before .before .before .before .before .before)) .1, c .before .before .before .before .if2 .taken, c .before .before .before .before .before .before .loop .inv .1, c .wide .ensures .1)
+add-all c =
+    omega (
+      arith,
+      counts (c .before .before .before .before .before .before .before) .1,
+      c .before .before .before .before .if2 .taken,
+      c .before .before .before .before .before .before .loop .inv .1,
+      c .wide .ensures .1,
+    )
 
 wide-from-requires : tie.Need-wide-from-requires Inv-loop μ-loop Inv-loop2 μ-loop2
 wide-from-requires c κs = search needs
 
 add-pending : tie.Need-add-pending Inv-loop μ-loop Inv-loop2 μ-loop2
-add-pending c = omega (arith, counts ((c .before .before .before .before .before .before .before .before)) .1, c .before .before .before .before .before .if2 .taken, c .before .before .before .before .before .before .before .loop .inv .2, c .wide-from .ensures .1, c .before .wide .ensures .0, c .before .wide .ensures .1)
+add-pending c =
+    omega (
+      arith,
+      counts (c .before .before .before .before .before .before .before .before) .1,
+      c .before .before .before .before .before .if2 .taken,
+      c .before .before .before .before .before .before .before .loop .inv .2,
+      c .wide-from .ensures .1,
+      c .before .wide .ensures .0,
+      c .before .wide .ensures .1,
+    )
 
 add-i : tie.Need-add-i Inv-loop μ-loop Inv-loop2 μ-loop2
-add-i c = omega (arith, counts ((c .before .before .before .before .before .before .before .before)) .1, c .before .before .before .before .before .if2 .taken)
+add-i c = omega (arith, counts (c .before .before .before .before .before .before .before .before) .1, c .before .before .before .before .before .if2 .taken)
 
 loop-less : tie.Need-loop-less Inv-loop μ-loop Inv-loop2 μ-loop2
 loop-less c = omega (arith, c .before .before .before .before .before .if2 .taken)
@@ -93,8 +119,14 @@ loop-again c =
     let good = sym (c .before .before .before .is-bad-request .ensures) ∙ c .before .before .if3 .left in
     let few = good-request (getD (s .requests) (now .i) blankRequest) good .few in
     let less : now .i < s .head .count = c .before .before .before .before .before .if2 .taken in
-    let long = within ((c .before .before .before .before .before .before .before .before)) in
-    (omega (arith, less), omega (arith, now .inv .1, few, c .before .wide .ensures .0), omega (arith, now .inv .2, few, c .wide-from .ensures .1), now .inv .3 ∙ request-next (now .i) (s .head .count) (s .requests) less long good, omega (arith, now .inv .4, packets-next (now .i) (s .head .count) (s .requests) less long, c .before .wide .ensures .0), omega (arith, now .inv .5, pending-next (s .head .done) (now .i) (s .head .count) (s .requests) less long, c .wide-from .ensures .0))
+    let long = within (c .before .before .before .before .before .before .before .before) in (
+      omega (arith, less),
+      omega (arith, now .inv .1, few, c .before .wide .ensures .0),
+      omega (arith, now .inv .2, few, c .wide-from .ensures .1),
+      now .inv .3 ∙ request-next (now .i) (s .head .count) (s .requests) less long good,
+      omega (arith, now .inv .4, packets-next (now .i) (s .head .count) (s .requests) less long, c .before .wide .ensures .0),
+      omega (arith, now .inv .5, pending-next (s .head .done) (now .i) (s .head .count) (s .requests) less long, c .wide-from .ensures .0),
+    )
 
 room-requires : tie.Need-room-requires Inv-loop μ-loop Inv-loop2 μ-loop2
 room-requires c κs = search needs
@@ -108,9 +140,9 @@ bad-scan-requires-3 c κs = search needs
 returns-3 : tie.Need-returns-3 Inv-loop μ-loop Inv-loop2 μ-loop2
 returns-3 c =
     let s = c .before .before .before .before .before .before .before .before .before .before .before .before .before .args .t1 in
-    let e1 : (isBadConfig (s .cfg) || isBadCounts s) ≡ false = past1 ((c .before .before .before .before .before .before .before)) in
-    let e2 : anyBadRequest (slice 0 (s .head .count) (s .requests)) ≡ false = past2 ((c .before .before .before .before)) in
-    let e3 : isBadSums s ≡ true = sym (sums-are ((c .before .before))) ∙ c .before .if4 .taken in
+    let e1 : (isBadConfig (s .cfg) || isBadCounts s) ≡ false = past1 (c .before .before .before .before .before .before .before) in
+    let e2 : anyBadRequest (slice 0 (s .head .count) (s .requests)) ≡ false = past2 (c .before .before .before .before) in
+    let e3 : isBadSums s ≡ true = sym (sums-are (c .before .before)) ∙ c .before .if4 .taken in
     let bad : isBadRecord s ≡ true = simp (e1, e2, e3) in
     bad-found s (c .bad-scan3 .result) (c .bad-scan3 .ensures) bad
 
@@ -122,16 +154,22 @@ iso-max-xfer-size-requires c κs = search needs
 
 loop2-holds : tie.Need-loop2-holds Inv-loop μ-loop Inv-loop2 μ-loop2
 loop2-holds c =
-    (omega arith, refl, refl, marks-first (c .before .before .before .before .before .before .before .loop .all - c .before .before .before .before .before .before .before .loop .pending) (c .before .before .before .before .before .before .before .loop .all) (c .before .before .before .before .before .before .before .before .before .before .before .before .before .before .args .t1 .plans))
+    let now = c .before .before .before .before .before .before .before .loop in (
+      omega arith,
+      refl,
+      refl,
+      marks-first (now .all - now .pending) (now .all)
+          (c .before .before .before .before .before .before .before .before .before .before .before .before .before .before .args .t1 .plans),
+    )
 
 cast-plan : tie.Need-cast-plan Inv-loop μ-loop Inv-loop2 μ-loop2
 cast-plan c = search needs
 
 mul-plan : tie.Need-mul-plan Inv-loop μ-loop Inv-loop2 μ-loop2
-mul-plan c = omega (arith, few-plans ((c .before .before .before .before)))
+mul-plan c = omega (arith, few-plans (c .before .before .before .before))
 
 element-copy-out-plan : tie.Need-element-copy-out-plan Inv-loop μ-loop Inv-loop2 μ-loop2
-element-copy-out-plan c = omega (arith, few-plans ((c .before .before .before .before)))
+element-copy-out-plan c = omega (arith, few-plans (c .before .before .before .before))
 
 is-bad-plan-requires : tie.Need-is-bad-plan-requires Inv-loop μ-loop Inv-loop2 μ-loop2
 is-bad-plan-requires c κs = search needs
@@ -141,49 +179,66 @@ bad-scan-requires-4 c κs = search needs
 
 returns-4 : tie.Need-returns-4 Inv-loop μ-loop Inv-loop2 μ-loop2
 returns-4 c =
-    let s = c .before .before .before .before .before .before .before .before .before .before .before .before .before .before .before .before .before .before .before .before .args .t1 in
+    let iso-max-xfer-size = c .before .before .before .before .before .before .iso-max-xfer-size in
+    let iso-ring-size = c .before .before .before .before .before .before .before .iso-ring-size in
+    let checked = c .before .before .before .before .before .before .before .before .before .before .before .before .before .before in
+    let start = checked .before .before .before .before .before .before in
+    let s = start .args .t1 in
     let now = c .before .before .before .before .before .loop2 in
-    let limit = c .before .before .before .before .before .before .iso-max-xfer-size .result in
-    let size = c .before .before .before .before .before .before .before .iso-ring-size .result in
+    let limit = iso-max-xfer-size .result in
+    let size = iso-ring-size .result in
     let all = c .before .before .before .before .before .before .before .before .before .before .before .before .before .loop .all in
-    let e1 : (isBadConfig (s .cfg) || isBadCounts s) ≡ false = past1 ((c .before .before .before .before .before .before .before .before .before .before .before .before .before .before)) in
-    let e2 : anyBadRequest (slice 0 (s .head .count) (s .requests)) ≡ false = past2 ((c .before .before .before .before .before .before .before .before .before .before .before)) in
-    let e3 : isBadSums s ≡ false = past3 ((c .before .before .before .before .before .before .before .before)) in
+    let e1 : (isBadConfig (s .cfg) || isBadCounts s) ≡ false =
+    past1 checked in
+    let e2 : anyBadRequest (slice 0 (s .head .count) (s .requests)) ≡ false =
+    past2 (c .before .before .before .before .before .before .before .before .before .before .before) in
+    let e3 : isBadSums s ≡ false = past3 (c .before .before .before .before .before .before .before .before) in
     let here = sym (c .before .before .is-bad-plan .ensures) ∙ c .before .if5 .taken in
-    let one = now .inv .1 ∙ plan-here limit size (now .j) all (s .plans) (omega arith) (omega (arith, few-plans ((c .before .before .before .before .before .before .before .before)), long-plans ((c .before .before .before .before .before .before .before .before .before .before .before .before .before .before .before .before .before .before .before .before)))) here in
-    let e4 : isBadPlans s ≡ true = sym (plans-equal (s .plans) (sym one) (c .before .before .before .before .before .before .iso-max-xfer-size .ensures) (c .before .before .before .before .before .before .before .iso-ring-size .ensures) (all-is ((c .before .before .before .before .before .before .before .before .before .before .before)))) in
+    let one =
+    now .inv .1
+    ∙ plan-here limit size (now .j) all (s .plans) (omega arith)
+    (omega (arith, few-plans (c .before .before .before .before .before .before .before .before), long-plans start)) here in
+    let e4 : isBadPlans s ≡ true =
+    sym (plans-equal (s .plans) (sym one) (iso-max-xfer-size .ensures) (iso-ring-size .ensures)
+    (all-is (c .before .before .before .before .before .before .before .before .before .before .before))) in
     let bad : isBadRecord s ≡ true = simp (e1, e2, e3, e4) in
     bad-found s (c .bad-scan4 .result) (c .bad-scan4 .ensures) bad
 
 sub-if6 : tie.Need-sub-if6 Inv-loop μ-loop Inv-loop2 μ-loop2
-sub-if6 c = omega (arith, pending-in ((c .before .before .before .before .before .before .before .before .before .before)))
+sub-if6 c = omega (arith, pending-in (c .before .before .before .before .before .before .before .before .before .before))
 
 cast-held : tie.Need-cast-held Inv-loop μ-loop Inv-loop2 μ-loop2
-cast-held c = omega (arith, slot-below ((c .before .before)))
+cast-held c = omega (arith, slot-below (c .before .before))
 
 array-write-held : tie.Need-array-write-held Inv-loop μ-loop Inv-loop2 μ-loop2
-array-write-held c = omega (arith, slot-below ((c .before .before)))
+array-write-held c = omega (arith, slot-below (c .before .before))
 
 add-j : tie.Need-add-j Inv-loop μ-loop Inv-loop2 μ-loop2
-add-j c = omega (arith, few-plans ((c .before .before .before .before .before .before .before .before)))
+add-j c = omega (arith, few-plans (c .before .before .before .before .before .before .before .before))
 
 loop2-less : tie.Need-loop2-less Inv-loop μ-loop Inv-loop2 μ-loop2
 loop2-less c = omega arith
 
 loop2-again : tie.Need-loop2-again Inv-loop μ-loop Inv-loop2 μ-loop2
 loop2-again c =
-    let s = c .before .before .before .before .before .before .before .before .before .before .before .before .before .before .before .before .before .before .before .before .args .t1 in
+    let walked = c .before .before .before .before .before .before .before .before .before .before .before .before .before in
+    let start = walked .before .before .before .before .before .before .before in
+    let s = start .args .t1 in
     let now = c .before .before .before .before .before .loop2 in
-    let all = c .before .before .before .before .before .before .before .before .before .before .before .before .before .loop .all in
-    let from = all - c .before .before .before .before .before .before .before .before .before .before .before .before .before .loop .pending in
+    let all = walked .loop .all in
+    let from = all - walked .loop .pending in
     let slot = getD (s .plans) (now .j) blankPlan .«desc_index» in
     let good = sym (c .before .before .is-bad-plan .ensures) ∙ c .before .if5 .left in
-    let fits : all ≤ length (s .plans) = omega (arith, few-plans ((c .before .before .before .before .before .before .before .before)), long-plans ((c .before .before .before .before .before .before .before .before .before .before .before .before .before .before .before .before .before .before .before .before))) in (
+    let fits : all ≤ length (s .plans) = omega (arith, few-plans (c .before .before .before .before .before .before .before .before), long-plans start) in (
       omega arith,
-      now .inv .1 ∙ plan-next (c .before .before .before .before .before .before .iso-max-xfer-size .result) (c .before .before .before .before .before .before .before .iso-ring-size .result) (now .j) all (s .plans) (omega arith) fits good,
+      now .inv .1
+          ∙ plan-next (c .before .before .before .before .before .before .iso-max-xfer-size .result)
+          (c .before .before .before .before .before .before .before .iso-ring-size .result) (now .j) all (s .plans) (omega arith) fits good,
       ⊎-elim (λ w. ap length (w .2) ∙ simp length-set (now .inv .2)) (λ w. ap length (w .1) ∙ now .inv .2) (c .if6 .came),
       λ k h. ⊎-elim
-          (λ w. mark-pending (now .held) (c .if6 .held) (s .plans) from (now .j) all slot k (w .0 .taken) (omega arith) fits refl (mark-set (now .held) (c .if6 .held) slot k h (now .inv .2) (w .2)))
+          (λ w.
+          mark-pending (now .held) (c .if6 .held) (s .plans) from (now .j) all slot k (w .0 .taken) (omega arith) fits refl
+          (mark-set (now .held) (c .if6 .held) slot k h (now .inv .2) (w .2)))
           (λ w. mark-done (now .held) (c .if6 .held) (s .plans) from (now .j) all k (w .0 .left) (w .1))
           (c .if6 .came)
           ∙ now .inv .3 k h,
@@ -193,10 +248,10 @@ rest-requires : tie.Need-rest-requires Inv-loop μ-loop Inv-loop2 μ-loop2
 rest-requires c κs = search needs
 
 mul-tail : tie.Need-mul-tail Inv-loop μ-loop Inv-loop2 μ-loop2
-mul-tail c = omega (arith, few-plans ((c .before .before .before .before .before)), c .rest .ensures)
+mul-tail c = omega (arith, few-plans (c .before .before .before .before .before), c .rest .ensures)
 
 element-copy-out-tail : tie.Need-element-copy-out-tail Inv-loop μ-loop Inv-loop2 μ-loop2
-element-copy-out-tail c = omega (arith, few-plans ((c .before .before .before .before .before)), c .rest .ensures)
+element-copy-out-tail c = omega (arith, few-plans (c .before .before .before .before .before), c .rest .ensures)
 
 is-bad-state-requires : tie.Need-is-bad-state-requires Inv-loop μ-loop Inv-loop2 μ-loop2
 is-bad-state-requires c κs = search needs
@@ -206,31 +261,46 @@ found-requires c κs = search needs
 
 returns-5 : tie.Need-returns-5 Inv-loop μ-loop Inv-loop2 μ-loop2
 returns-5 c =
-    let s = c .before .before .before .before .before .before .before .before .before .before .before .before .before .before .before .before .before .before .before .args .t1 in
+    let rest = c .before .before .rest in
+    let iso-max-xfer-size = c .before .before .before .before .before .iso-max-xfer-size in
+    let iso-ring-size = c .before .before .before .before .before .before .iso-ring-size in
+    let checked = c .before .before .before .before .before .before .before .before .before .before .before .before .before in
+    let s = checked .before .before .before .before .before .before .args .t1 in
     let now = c .before .before .before .before .loop2 in
-    let limit = c .before .before .before .before .before .iso-max-xfer-size .result in
-    let size = c .before .before .before .before .before .before .iso-ring-size .result in
+    let limit = iso-max-xfer-size .result in
+    let size = iso-ring-size .result in
     let all = c .before .before .before .before .before .before .before .before .before .before .before .before .loop .all in
     let from = all - c .before .before .before .before .before .before .before .before .before .before .before .before .loop .pending in
-    let e1 : (isBadConfig (s .cfg) || isBadCounts s) ≡ false = past1 ((c .before .before .before .before .before .before .before .before .before .before .before .before .before)) in
-    let e2 : anyBadRequest (slice 0 (s .head .count) (s .requests)) ≡ false = past2 ((c .before .before .before .before .before .before .before .before .before .before)) in
-    let e3 : isBadSums s ≡ false = past3 ((c .before .before .before .before .before .before .before)) in
+    let e1 : (isBadConfig (s .cfg) || isBadCounts s) ≡ false =
+    past1 checked in
+    let e2 : anyBadRequest (slice 0 (s .head .count) (s .requests)) ≡ false =
+    past2 (c .before .before .before .before .before .before .before .before .before .before) in
+    let e3 : isBadSums s ≡ false = past3 (c .before .before .before .before .before .before .before) in
     let none = now .inv .1 ∙ plan-past limit size (now .j) all (s .plans) (omega arith) in
-    let e4 : isBadPlans s ≡ false = sym (plans-equal (s .plans) (sym none) (c .before .before .before .before .before .iso-max-xfer-size .ensures) (c .before .before .before .before .before .before .iso-ring-size .ensures) (all-is ((c .before .before .before .before .before .before .before .before .before .before)))) in
-    let bad : c .before .is-bad-state .result ≡ isBadRecord s = simp (e1, e2, e3, e4) (c .before .is-bad-state .ensures ∙ ap (λ (n : ℕ). leb n (s .head .«td_last») || not (s .head .live) && (ltb (s .head .done) (s .head .count) || hasReason (s .fatal))) (c .before .before .before .before .before .before .iso-ring-size .ensures)) in
-    let at : c .before .before .rest .result ≡ allPackets s - 1 = c .before .before .rest .ensures ∙ ap (λ (a : ℕ). a - 1) (all-is ((c .before .before .before .before .before .before .before .before .before .before))) in
+    let e4 : isBadPlans s ≡ false =
+    sym (plans-equal (s .plans) (sym none) (iso-max-xfer-size .ensures) (iso-ring-size .ensures)
+    (all-is (c .before .before .before .before .before .before .before .before .before .before))) in
+    let bad : c .before .is-bad-state .result ≡ isBadRecord s =
+    simp (e1, e2, e3, e4)
+    (c .before .is-bad-state .ensures
+    ∙ ap (λ (n : ℕ). leb n (s .head .«td_last») || not (s .head .live) && (ltb (s .head .done) (s .head .count) || hasReason (s .fatal)))
+    (iso-ring-size .ensures)) in
+    let at : rest .result ≡ allPackets s - 1 =
+    rest .ensures ∙ ap (λ (a : ℕ). a - 1) (all-is (c .before .before .before .before .before .before .before .before .before .before)) in
     record {
       bad = c .found .ensures .0 ∙ bad;
       found = λ e.
           record {
-            all = c .found .ensures .1 ∙ all-is ((c .before .before .before .before .before .before .before .before .before .before));
-            pending = c .found .ensures .2 ∙ pending-is ((c .before .before .before .before .before .before .before .before .before .before));
+            all = c .found .ensures .1 ∙ all-is (c .before .before .before .before .before .before .before .before .before .before);
+            pending = c .found .ensures .2 ∙ pending-is (c .before .before .before .before .before .before .before .before .before .before);
             tail = c .found .ensures .3 ∙ ap (λ (k : ℕ). getD (s .plans) k blankPlan .«desc_index») at;
             held = λ k h.
                 ap (λ (x : List Bool). getD x k false) (c .found .ensures .4)
                 ∙ marks-all (now .held) (s .plans) (from + (now .j - from)) all k (omega arith)
                 ∙ now .inv .3 k h
-                ∙ ap₂ (λ (a p : ℕ). isHeld (slice (a - p) a (s .plans)) k) (all-is ((c .before .before .before .before .before .before .before .before .before .before))) (pending-is ((c .before .before .before .before .before .before .before .before .before .before)));
+                ∙ ap₂ (λ (a p : ℕ). isHeld (slice (a - p) a (s .plans)) k)
+                (all-is (c .before .before .before .before .before .before .before .before .before .before))
+                (pending-is (c .before .before .before .before .before .before .before .before .before .before));
           };
     }
 

@@ -35,32 +35,46 @@ clear-slots-requires : tie.Need-clear-slots-requires
 clear-slots-requires c κs = search needs
 
 mul-request : tie.Need-mul-request
-mul-request c = let s = good (c .before .before .before .before .before .before .before .before .before .before .before .before .before) (c .before .before .before .before .before .before .before .before .before .before .before .before .before .pre .0) in omega (arith, s .count-in, c .before .before .before .before .before .before .before .before .before .before .before .before .before .pre .1)
+mul-request c =
+    let start = c .before .before .before .before .before .before .before .before .before .before .before .before .before in
+    let s = good start (start .pre .0) in omega (arith, s .count-in, start .pre .1)
 
 array-copy-out-request : tie.Need-array-copy-out-request
-array-copy-out-request c = let s = good (c .before .before .before .before .before .before .before .before .before .before .before .before .before) (c .before .before .before .before .before .before .before .before .before .before .before .before .before .pre .0) in omega (arith, s .count-in, c .before .before .before .before .before .before .before .before .before .before .before .before .before .pre .1)
+array-copy-out-request c =
+    let start = c .before .before .before .before .before .before .before .before .before .before .before .before .before in
+    let s = good start (start .pre .0) in omega (arith, s .count-in, start .pre .1)
 
 add-done : tie.Need-add-done
-add-done c = let s = good (c .before .before .before .before .before .before .before .before .before .before .before .before .before .before) (c .before .before .before .before .before .before .before .before .before .before .before .before .before .before .pre .0) in omega (arith, s .count-in, c .before .before .before .before .before .before .before .before .before .before .before .before .before .before .pre .1)
+add-done c =
+    let start = c .before .before .before .before .before .before .before .before .before .before .before .before .before .before in
+    let s = good start (start .pre .0) in omega (arith, s .count-in, start .pre .1)
 
 mul-settled : tie.Need-mul-settled
-mul-settled c = let s = good (c .before .before .before .before .before .before .before .before .before .before .before .before .before .before) (c .before .before .before .before .before .before .before .before .before .before .before .before .before .before .pre .0) in omega (arith, s .count-in, c .before .before .before .before .before .before .before .before .before .before .before .before .before .before .pre .1)
+mul-settled c =
+    let start = c .before .before .before .before .before .before .before .before .before .before .before .before .before .before in
+    let s = good start (start .pre .0) in omega (arith, s .count-in, start .pre .1)
 
 element-set-from-settled : tie.Need-element-set-from-settled
-element-set-from-settled c = let s = good (c .before .before .before .before .before .before .before .before .before .before .before .before .before .before) (c .before .before .before .before .before .before .before .before .before .before .before .before .before .before .pre .0) in omega (arith, s .count-in, c .before .before .before .before .before .before .before .before .before .before .before .before .before .before .pre .1)
+element-set-from-settled c =
+    let start = c .before .before .before .before .before .before .before .before .before .before .before .before .before .before in
+    let s = good start (start .pre .0) in omega (arith, s .count-in, start .pre .1)
 
 same-length : tie.Need-same-length
 same-length c = search needs
 
 returns : tie.Need-returns
 returns c =
-    let a = c .before .before .before .before .before .before .before .before .before .before .before .before .before .before .before .args in
-    let s = good (c .before .before .before .before .before .before .before .before .before .before .before .before .before .before .before) (c .before .before .before .before .before .before .before .before .before .before .before .before .before .before .before .pre .0) in
+    let clear-slots = c .before .before .before .before .clear-slots in
+    let moved-total = c .before .before .before .before .before .before .moved-total in
+    let settle-plans = c .before .before .before .before .before .before .before .settle-plans in
+    let start = c .before .before .before .before .before .before .before .before .before .before .before .before .before .before .before in
+    let a = start .args in
+    let s = good start (start .pre .0) in
     let from = c .before .before .before .before .before .before .before .before .before .before .before .before .before .oldest-from in
     let to = c .before .before .before .before .before .before .before .before .before .before .before .before .oldest-to in (
-      settled-by (a .t1) (a .ring .now) (from .result) (to .result) (from .ensures) (to .ensures .0) (c .before .before .before .before .before .before .moved-total .result) (c .before .before .before .before .before .before .before .settle-plans .result)
-          (omega (arith, s .plans-long, s .all-few, oldest-in (a .t1) s (c .before .before .before .before .before .before .before .before .before .before .before .before .before .before .before .pre .1))) (c .before .before .before .before .before .before .before .settle-plans .ensures) (c .before .before .before .before .before .before .moved-total .ensures),
-      ring-by (a .t1) (a .ring .now) (from .result) (to .result) (from .ensures) (to .ensures .0) (c .before .before .before .before .clear-slots .last .1 .1 .1 .0) (c .before .before .before .before .clear-slots .ensures),
+      settled-by (a .t1) (a .ring .now) (from .result) (to .result) (from .ensures) (to .ensures .0) (moved-total .result) (settle-plans .result)
+          (omega (arith, s .plans-long, s .all-few, oldest-in (a .t1) s (start .pre .1))) (settle-plans .ensures) (moved-total .ensures),
+      ring-by (a .t1) (a .ring .now) (from .result) (to .result) (from .ensures) (to .ensures .0) (clear-slots .last .1 .1 .1 .0) (clear-slots .ensures),
     )
 
 pub settle-request-spec : {M : Type 1} → statement M

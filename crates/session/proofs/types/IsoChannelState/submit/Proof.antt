@@ -31,7 +31,8 @@ abbrev Inv-loop : tie.InvT-loop
 Inv-loop transfer lengths ring self₀ cfg head way insert n slots step slot₀ to₀ i₀ self slot to i =
     (i ≤ n) × (slot ≡ slotAt slots insert step i) × (to ≡ to₀ + i) × (length (self .plans) ≡ 1024)
     × (self ≡ whole (self₀ .cfg) (self₀ .head) (self₀ .fatal) (self₀ .requests) (self .plans))
-    × (sets (self .plans) to (plansFrom slots insert step i (drop i (take n lengths))) ≡ sets (self₀ .plans) to₀ (plansFrom slots insert step 0 (take n lengths)))
+    × (sets (self .plans) to (plansFrom slots insert step i (drop i (take n lengths)))
+    ≡ sets (self₀ .plans) to₀ (plansFrom slots insert step 0 (take n lengths)))
 
 abbrev μ-loop : tie.MeasureT-loop
 μ-loop transfer lengths ring self₀ cfg head way insert n slots step slot₀ to₀ i₀ self slot to i = n - i
@@ -41,30 +42,62 @@ long-plans : (c : tie.Start Inv-loop μ-loop) → length (c .args .t1 .plans) �
 long-plans c = sym (length-map (c .args .t1 .plans) _) ∙ c .good .0 .1 .1 .1 .1 .1 .1 .0 .1 .0 .1
 
 -- the way, and what a submission says that passed every refusal
-way-is : (c : tie.After-submit-way Inv-loop μ-loop) → c .submit-way .result ≡ submitWay (c .before .before .before .before .before .before .before .args .t1) (c .before .before .before .before .before .before .before .args .transfer) (c .before .before .before .before .before .before .before .args .lengths .now) (c .before .before .before .before .before .before .before .args .ring .now)
-way-is c = c .submit-way .ensures (c .before .before .before .before .before .before .before .args .t1 .requests) (c .before .before .before .before .before .before .before .args .t1 .plans) (c .before .before .scan .ensures)
+way-is : (c : tie.After-submit-way Inv-loop μ-loop) → let a = c .before .before .before .before .before .before .before .args in
+    c .submit-way .result ≡ submitWay (a .t1) (a .transfer) (a .lengths .now) (a .ring .now)
+way-is c =
+    let a = c .before .before .before .before .before .before .before .args in
+    c .submit-way .ensures (a .t1 .requests) (a .t1 .plans) (c .before .before .scan .ensures)
 
-admitted : (c : tie.After-submit-way Inv-loop μ-loop) → T (isGate (c .submit-way .result)) → Admitted (c .before .before .before .before .before .before .before .args .t1) (c .before .before .before .before .before .before .before .args .transfer) (c .before .before .before .before .before .before .before .args .lengths .now) (c .before .before .before .before .before .before .before .args .ring .now)
-admitted c g = gate-admitted (c .before .before .before .before .before .before .before .args .t1) (c .before .before .before .before .before .before .before .args .transfer) (c .before .before .before .before .before .before .before .args .lengths .now) (c .before .before .before .before .before .before .before .args .ring .now) (c .submit-way .result) (way-is c) g
+admitted : (c : tie.After-submit-way Inv-loop μ-loop) → let a = c .before .before .before .before .before .before .before .args in
+    T (isGate (c .submit-way .result)) → Admitted (a .t1) (a .transfer) (a .lengths .now) (a .ring .now)
+admitted c g =
+    let a = c .before .before .before .before .before .before .before .args in
+    gate-admitted (a .t1) (a .transfer) (a .lengths .now) (a .ring .now) (c .submit-way .result) (way-is c) g
 
-walked : (c : tie.After-submit-way Inv-loop μ-loop) → T (isGate (c .submit-way .result)) → Walked (c .before .before .before .before .before .before .before .args .t1) (c .before .before .scan .result)
+walked :
+    (c : tie.After-submit-way Inv-loop μ-loop) → T (isGate (c .submit-way .result))
+    → Walked (c .before .before .before .before .before .before .before .args .t1) (c .before .before .scan .result)
 walked c g = c .before .before .scan .ensures .found (admitted c g .entry .record-good)
 
-insert-is : (c : tie.After-insert-of Inv-loop μ-loop) → T (isGate (c .before .before .submit-way .result)) → c .insert-of .result ≡ insertOf (c .before .before .before .before .before .before .before .before .before .args .t1) (c .before .before .before .before .before .before .before .before .before .args .transfer) (c .before .before .before .before .before .before .before .before .before .args .ring .now)
-insert-is c g = c .insert-of .ensures ∙ ap (λ (tail : ℕ). insertAt (c .before .before .before .before .before .before .before .before .before .args .t1 .cfg) (c .before .before .before .before .before .before .before .before .before .args .t1 .head) (c .before .before .before .before .before .before .before .before .before .args .transfer) tail (c .before .before .before .before .before .before .before .before .before .args .ring .now)) (walked ((c .before .before)) g .tail)
+insert-is : (c : tie.After-insert-of Inv-loop μ-loop) → let a = c .before .before .before .before .before .before .before .before .before .args in
+    T (isGate (c .before .before .submit-way .result)) → c .insert-of .result ≡ insertOf (a .t1) (a .transfer) (a .ring .now)
+insert-is c g =
+    let a = c .before .before .before .before .before .before .before .before .before .args in
+    c .insert-of .ensures ∙ ap (λ (tail : ℕ). insertAt (a .t1 .cfg) (a .t1 .head) (a .transfer) tail (a .ring .now)) (walked (c .before .before) g .tail)
 
 gate : (way : SubmitWay) → way ≡ Accept → T (isGate way)
 gate way e = subst⁻¹ (λ (w : SubmitWay). T (isGate w)) e tt
 
 -- where packets are added the submission is accepted, and the tables have room
-all-added : (c : tie.After-added-packets Inv-loop μ-loop) → 0 < c .added-packets .result → (c .before .before .before .before .before .before .before .submit-way .result ≡ Accept) × (c .added-packets .result ≡ length (c .before .before .before .before .before .before .before .before .before .before .before .before .before .before .args .lengths .now))
-all-added c h = some-added (c .before .before .before .before .before .before .before .submit-way .result) (length (c .before .before .before .before .before .before .before .before .before .before .before .before .before .before .args .lengths .now)) (c .added-packets .result) (c .added-packets .ensures) h
+all-added :
+    (c : tie.After-added-packets Inv-loop μ-loop) → 0 < c .added-packets .result
+    → (c .before .before .before .before .before .before .before .submit-way .result ≡ Accept)
+    × (c .added-packets .result
+    ≡ length (c .before .before .before .before .before .before .before .before .before .before .before .before .before .before .args .lengths .now))
+all-added c h =
+    some-added (c .before .before .before .before .before .before .before .submit-way .result)
+    (length (c .before .before .before .before .before .before .before .before .before .before .before .before .before .before .args .lengths .now))
+    (c .added-packets .result) (c .added-packets .ensures) h
 
-sure : (c : tie.After-added-packets Inv-loop μ-loop) → 0 < c .added-packets .result → Acceptable (c .before .before .before .before .before .before .before .before .before .before .before .before .before .before .args .t1) (c .before .before .before .before .before .before .before .before .before .before .before .before .before .before .args .lengths .now)
-sure c h = acceptable (c .before .before .before .before .before .before .before .before .before .before .before .before .before .before .args .t1) (c .before .before .before .before .before .before .before .before .before .before .before .before .before .before .args .transfer) (c .before .before .before .before .before .before .before .before .before .before .before .before .before .before .args .lengths .now) (c .before .before .before .before .before .before .before .before .before .before .before .before .before .before .args .ring .now) (admitted ((c .before .before .before .before .before .before .before)) (gate (c .before .before .before .before .before .before .before .submit-way .result) (all-added c h .0)))
+sure : (c : tie.After-added-packets Inv-loop μ-loop) → let a =
+    c .before .before .before .before .before .before .before .before .before .before .before .before .before .before .args in
+    0 < c .added-packets .result → Acceptable (a .t1) (a .lengths .now)
+sure c h =
+    let a = c .before .before .before .before .before .before .before .before .before .before .before .before .before .before .args in
+    acceptable (a .t1) (a .transfer) (a .lengths .now) (a .ring .now) (admitted (c .before .before .before .before .before .before .before)
+    (gate (c .before .before .before .before .before .before .before .submit-way .result) (all-added c h .0)))
 
-fits : (c : tie.After-added-packets Inv-loop μ-loop) → 0 < c .added-packets .result → c .before .before .before .before .before .before .before .before .before .scan .result .all + c .added-packets .result ≤ 1024
-fits c h = omega (arith, sure c h .packets, all-added c h .1, walked ((c .before .before .before .before .before .before .before)) (gate (c .before .before .before .before .before .before .before .submit-way .result) (all-added c h .0)) .all)
+fits :
+    (c : tie.After-added-packets Inv-loop μ-loop) → 0 < c .added-packets .result
+    → c .before .before .before .before .before .before .before .before .before .scan .result .all + c .added-packets .result ≤ 1024
+fits c h =
+    omega (
+      arith,
+      sure c h .packets,
+      all-added c h .1,
+      walked (c .before .before .before .before .before .before .before)
+          (gate (c .before .before .before .before .before .before .before .submit-way .result) (all-added c h .0)) .all,
+    )
 
 scan-requires : tie.Need-scan-requires Inv-loop μ-loop
 scan-requires c κs = search needs
@@ -76,7 +109,7 @@ insert-of-requires : tie.Need-insert-of-requires Inv-loop μ-loop
 insert-of-requires c κs = search needs
 
 store-by-requires : tie.Need-store-by-requires Inv-loop μ-loop
-store-by-requires c κs = λ g. (admitted ((c .before .before .before)) g .entry .ring-long, admitted ((c .before .before .before)) g .address)
+store-by-requires c κs = λ g. (admitted (c .before .before .before) g .entry .ring-long, admitted (c .before .before .before) g .address)
 
 added-packets-requires : tie.Need-added-packets-requires Inv-loop μ-loop
 added-packets-requires c κs = search needs
@@ -94,67 +127,96 @@ cast-to : tie.Need-cast-to Inv-loop μ-loop
 cast-to c = search needs
 
 loop-holds : tie.Need-loop-holds Inv-loop μ-loop
-loop-holds c =
-    (omega arith, sym (first-slot (c .before .before .slots-of .result) (c .before .before .before .before .before .before .before .before .insert-of .result) (c .before .step-of .result)), omega arith, long-plans ((c .before .before .before .before .before .before .before .before .before .before .before .before .before .before .before .before .before)), refl, refl)
+loop-holds c = (
+  omega arith,
+  sym (first-slot (c .before .before .slots-of .result) (c .before .before .before .before .before .before .before .before .insert-of .result)
+      (c .before .step-of .result)),
+  omega arith,
+  long-plans
+      (c .before .before .before .before .before .before .before .before .before .before .before .before .before .before .before .before .before),
+  refl,
+  refl,
+)
 
 mul-t29 : tie.Need-mul-t29 Inv-loop μ-loop
-mul-t29 c = omega (arith, fits ((c .before .before .before .before .before)) (omega arith))
+mul-t29 c = omega (arith, fits (c .before .before .before .before .before) (omega arith))
 
 shared-slice-read-t31 : tie.Need-shared-slice-read-t31 Inv-loop μ-loop
-shared-slice-read-t31 c = omega (arith, all-added ((c .before .before .before .before .before .before)) (omega arith) .1)
+shared-slice-read-t31 c = omega (arith, all-added (c .before .before .before .before .before .before) (omega arith) .1)
 
 cast-t32 : tie.Need-cast-t32 Inv-loop μ-loop
-cast-t32 c = omega (arith, sure ((c .before .before .before .before .before .before)) (omega arith) .short (c .before .before .loop .i) (omega (arith, all-added ((c .before .before .before .before .before .before)) (omega arith) .1)))
+cast-t32 c =
+    omega (
+      arith,
+      sure (c .before .before .before .before .before .before) (omega arith) .short (c .before .before .loop .i)
+          (omega (arith, all-added (c .before .before .before .before .before .before) (omega arith) .1)),
+    )
 
 mul-t35 : tie.Need-mul-t35 Inv-loop μ-loop
-mul-t35 c = omega (arith, fits ((c .before .before .before .before .before .before)) (omega arith), c .before .before .loop .inv .2)
+mul-t35 c = omega (arith, fits (c .before .before .before .before .before .before) (omega arith), c .before .before .loop .inv .2)
 
 element-set-from-self : tie.Need-element-set-from-self Inv-loop μ-loop
-element-set-from-self c = omega (arith, fits ((c .before .before .before .before .before .before)) (omega arith), c .before .before .loop .inv .2, c .before .before .loop .inv .3)
+element-set-from-self c =
+    let now = c .before .before .loop in
+    omega (arith, fits (c .before .before .before .before .before .before) (omega arith), now .inv .2, now .inv .3)
 
 next-slot-requires : tie.Need-next-slot-requires Inv-loop μ-loop
 next-slot-requires c κs = search needs
 
 add-to : tie.Need-add-to Inv-loop μ-loop
-add-to c = omega (arith, fits ((c .before .before .before .before .before .before .before)) (omega arith), c .before .before .before .loop .inv .2)
+add-to c = omega (arith, fits (c .before .before .before .before .before .before .before) (omega arith), c .before .before .before .loop .inv .2)
 
 add-i : tie.Need-add-i Inv-loop μ-loop
-add-i c = omega (arith, fits ((c .before .before .before .before .before .before .before)) (omega arith))
+add-i c = omega (arith, fits (c .before .before .before .before .before .before .before) (omega arith))
 
 loop-less : tie.Need-loop-less Inv-loop μ-loop
 loop-less c = omega arith
 
 loop-again : tie.Need-loop-again Inv-loop μ-loop
 loop-again c =
-    let a = c .before .before .before .before .before .before .before .before .before .before .before .before .before .before .before .before .before .before .before .before .before .args in
+    let counted = c .before .before .before .before .before .before .before in
+    let a = counted .before .before .before .before .before .before .before .before .before .before .before .before .before .before .args in
     let now = c .before .before .before .loop in
-    let n = c .before .before .before .before .before .before .before .added-packets .result in
+    let n = counted .added-packets .result in
     let R = c .before .before .before .before .before .before .slots-of .result in
-    let insert = c .before .before .before .before .before .before .before .before .before .before .before .before .insert-of .result in
+    let insert = counted .before .before .before .before .before .insert-of .result in
     let step = c .before .before .before .before .before .step-of .result in
-    let many : n ≤ length (a .lengths .now) = omega (arith, all-added ((c .before .before .before .before .before .before .before)) (omega arith) .1) in (
+    let many : n ≤ length (a .lengths .now) = omega (arith, all-added counted (omega arith) .1) in (
       omega arith,
-      slot-more R insert step (now .i) (now .slot) (c .next-slot .result) (now .inv .1) (c .next-slot .ensures ∙ ap (λ (k : ℕ). (now .slot + step) % k) (some-slots R (omega arith))),
+      slot-more R insert step (now .i) (now .slot) (c .next-slot .result) (now .inv .1)
+          (c .next-slot .ensures ∙ ap (λ (k : ℕ). (now .slot + step) % k) (some-slots R (omega arith))),
       omega arith,
       length-set (now .self .plans) _ _ ∙ now .inv .3,
-      ap (λ (s : IsoChannelState). whole (s .cfg) (s .head) (s .fatal) (s .requests) (set (now .self .plans) (now .to) (newPlan (getD (a .lengths .now) (now .i) 0) (now .slot)))) (now .inv .4),
+      ap (λ (s : IsoChannelState).
+          whole (s .cfg) (s .head) (s .fatal) (s .requests) (set (now .self .plans) (now .to) (newPlan (getD (a .lengths .now) (now .i) 0) (now .slot))))
+          (now .inv .4),
       plans-next R insert step (now .i) n (a .lengths .now) (now .self .plans) (now .to) (now .slot) (omega arith) many (now .inv .1) ∙ now .inv .5,
     )
 
 new-request-requires : tie.Need-new-request-requires Inv-loop μ-loop
-new-request-requires c κs = omega (arith, sure ((c .before .before .before .before .before .before)) (omega arith) .few, all-added ((c .before .before .before .before .before .before)) (omega arith) .1)
+new-request-requires c κs =
+    omega (
+      arith,
+      sure (c .before .before .before .before .before .before) (omega arith) .few,
+      all-added (c .before .before .before .before .before .before) (omega arith) .1,
+    )
 
 cast-t40 : tie.Need-cast-t40 Inv-loop μ-loop
 cast-t40 c = search needs
 
 mul-t41 : tie.Need-mul-t41 Inv-loop μ-loop
-mul-t41 c = omega (arith, sure ((c .before .before .before .before .before .before .before .before)) (omega arith) .requests)
+mul-t41 c = omega (arith, sure (c .before .before .before .before .before .before .before .before) (omega arith) .requests)
 
 element-set-from-self-2 : tie.Need-element-set-from-self-2 Inv-loop μ-loop
-element-set-from-self-2 c = omega (arith, sure ((c .before .before .before .before .before .before .before .before)) (omega arith) .requests)
+element-set-from-self-2 c = omega (arith, sure (c .before .before .before .before .before .before .before .before) (omega arith) .requests)
 
 head-after-requires : tie.Need-head-after-requires Inv-loop μ-loop
-head-after-requires c κs = λ e. omega (arith, admitted ((c .before .before .before .before .before .before .before .before .before .before .before .before .before)) (gate (c .before .before .before .before .before .before .before .before .before .before .before .before .before .submit-way .result) e) .entry .requests)
+head-after-requires c κs = λ e.
+    omega (
+      arith,
+      admitted (c .before .before .before .before .before .before .before .before .before .before .before .before .before) (gate
+          (c .before .before .before .before .before .before .before .before .before .before .before .before .before .submit-way .result) e) .entry .requests,
+    )
 
 answer-of-requires : tie.Need-answer-of-requires Inv-loop μ-loop
 answer-of-requires c κs = search needs
@@ -167,33 +229,52 @@ same-length c = search needs
 
 returns : tie.Need-returns Inv-loop μ-loop
 returns c =
-    let a = c .before .before .before .before .before .before .before .before .before .before .before .before .before .before .before .before .before .before .before .before .before .before .before .before .args in
-    let s = a .t1 in
-    let L = a .lengths .now in
     let now = c .before .before .before .before .before .before .loop in
     let n = c .before .before .before .before .before .before .before .before .before .before .added-packets .result in
-    let insert = c .before .before .before .before .before .before .before .before .before .before .before .before .before .before .before .insert-of .result in
-    let all = c .before .before .before .before .before .before .before .before .before .before .before .before .before .before .before .before .before .before .before .scan .result .all in
-    let way = c .before .before .before .before .before .before .before .before .before .before .before .before .before .before .before .before .before .submit-way .result in
-    let there = insert-is ((c .before .before .before .before .before .before .before .before .before .before .before .before .before .before .before)) in
     let end : now .i ≡ n = omega arith in
+    let answer-of = c .before .before .answer-of in
+    let head-after = c .before .before .before .head-after in
+    let if1 = c .before .before .before .before .if1 in
+    let step-of = c .before .before .before .before .before .before .before .before .step-of in
+    let slots-of = c .before .before .before .before .before .before .before .before .before .slots-of in
+    let counted = c .before .before .before .before .before .before .before .before .before .before in
+    let decided = counted .before .before .before .before .before .before .before in
+    let a = decided .before .before .before .before .before .before .before .args in
+    let s = a .t1 in
+    let L = a .lengths .now in
+    let insert = counted .before .before .before .before .before .insert-of .result in
+    let all = decided .before .before .scan .result .all in
+    let way = decided .submit-way .result in
+    let there = insert-is (counted .before .before .before .before .before) in
     let put : now .self .plans ≡ sets (s .plans) all (plansFrom (slots (s .cfg)) insert (stepOf (s .cfg)) 0 (take n L)) =
-    plans-past (c .before .before .before .before .before .before .before .before .before .slots-of .result) insert (c .before .before .before .before .before .before .before .before .step-of .result) (now .i) n L (now .self .plans) (now .to) (omega arith)
+    plans-past (slots-of .result) insert (step-of .result) (now .i) n L (now .self .plans) (now .to) (omega arith)
     ∙ now .inv .5
-    ∙ ap₂ (λ (R k : ℕ). sets (s .plans) all (plansFrom R insert k 0 (take n L))) (c .before .before .before .before .before .before .before .before .before .slots-of .ensures .0) (c .before .before .before .before .before .before .before .before .step-of .ensures) in
+    ∙ ap₂ (λ (R k : ℕ). sets (s .plans) all (plansFrom R insert k 0 (take n L))) (slots-of .ensures .0) (step-of .ensures) in
     let last : now .slot ≡ slotAt (slots (s .cfg)) insert (stepOf (s .cfg)) n =
-    now .inv .1 ∙ ap (slotAt (c .before .before .before .before .before .before .before .before .before .slots-of .result) insert (c .before .before .before .before .before .before .before .before .step-of .result)) end ∙ ap₂ (λ (R k : ℕ). slotAt R insert k n) (c .before .before .before .before .before .before .before .before .before .slots-of .ensures .0) (c .before .before .before .before .before .before .before .before .step-of .ensures) in
-    let push : Pushed s (a .transfer) L (a .ring .now) insert n all (now .slot) way (c .before .before .before .before .if1 .self) (now .self .plans) =
+    now .inv .1
+    ∙ ap (slotAt (slots-of .result) insert (step-of .result)) end
+    ∙ ap₂ (λ (R k : ℕ). slotAt R insert k n) (slots-of .ensures .0) (step-of .ensures) in
+    let push : Pushed s (a .transfer) L (a .ring .now) insert n all (now .slot) way (if1 .self) (now .self .plans) =
     ⊎-elim
-    (λ w. inl (w .0 .taken, w .3 ∙ ap₂ (λ (x : IsoChannelState) (q : IsoRequest). whole (x .cfg) (x .head) (x .fatal) (set (x .requests) (s .head .count) q) (x .plans)) (now .inv .4) (w .1 .ensures)))
+    (λ w.
+    inl (
+      w .0 .taken,
+      w .3
+          ∙ ap₂ (λ (x : IsoChannelState) (q : IsoRequest). whole (x .cfg) (x .head) (x .fatal) (set (x .requests) (s .head .count) q) (x .plans))
+          (now .inv .4) (w .1 .ensures),
+    ))
     (λ w. inr (w .0 .left, w .1 ∙ now .inv .4))
-    (c .before .before .before .before .if1 .came) in
-    let accepts : way ≡ Accept → Admitted s (a .transfer) L (a .ring .now) = λ e. admitted ((c .before .before .before .before .before .before .before .before .before .before .before .before .before .before .before .before .before)) (gate way e) in (
-      answer-by s (a .transfer) L (a .ring .now) (way-is ((c .before .before .before .before .before .before .before .before .before .before .before .before .before .before .before .before .before)))
-          (submitted-by s (a .transfer) L (a .ring .now) insert n all (now .slot) way (c .before .before .before .before .if1 .self) (now .self .plans) (c .before .before .answer-of .result) (c .start-if .result) (c .before .before .before .head-after .result) push put (c .before .before .before .before .before .before .before .before .before .before .added-packets .ensures) there
-          (λ e. (walked ((c .before .before .before .before .before .before .before .before .before .before .before .before .before .before .before .before .before)) (gate way e) .all, accepts e .entry .some)) last (c .before .before .answer-of .ensures) (c .start-if .ensures) (c .before .before .before .head-after .ensures)),
-      ring-by s (a .transfer) L (a .ring .now) (way-is ((c .before .before .before .before .before .before .before .before .before .before .before .before .before .before .before .before .before)))
-          (c .before .before .before .before .before .before .before .before .before .before .before .before .before .store-by .ensures ∙ ring-left s (a .transfer) L (a .ring .now) insert way there (λ e. told-of s (a .transfer) L (a .ring .now) Accept (sym (way-is ((c .before .before .before .before .before .before .before .before .before .before .before .before .before .before .before .before .before))) ∙ e) .1)),
+    (if1 .came) in
+    let accepts : way ≡ Accept → Admitted s (a .transfer) L (a .ring .now) =
+    λ e. admitted decided (gate way e) in (
+      answer-by s (a .transfer) L (a .ring .now) (way-is decided)
+          (submitted-by s (a .transfer) L (a .ring .now) insert n all (now .slot) way (if1 .self) (now .self .plans) (answer-of .result) (c .start-if .result)
+          (head-after .result) push put (counted .added-packets .ensures) there
+          (λ e. (walked decided (gate way e) .all, accepts e .entry .some)) last (answer-of .ensures) (c .start-if .ensures) (head-after .ensures)),
+      ring-by s (a .transfer) L (a .ring .now) (way-is decided)
+          (c .before .before .before .before .before .before .before .before .before .before .before .before .before .store-by .ensures
+          ∙ ring-left s (a .transfer) L (a .ring .now) insert way there
+          (λ e. told-of s (a .transfer) L (a .ring .now) Accept (sym (way-is decided) ∙ e) .1)),
     )
 
 pub submit-spec : {M : Type 1} → statement M
