@@ -2,7 +2,7 @@
 use mathlib.Core.Path.{_≡_, _∙_, sym, ap, subst, subst⁻¹}
 use mathlib.Core.List.{List}
 use Prim.Native.Nat.{ℕ, suc, _+_, _-_, _*_, _/_, _%_, _≤_, _<_, _∣_, max}
-use native.Mathlib.Nat.{zero-add, mod-lt, mod-mod, mod-mod-of-dvd, mod-add-mod, add-mod-mod, mod-le, add-mod-right, add-mul-mod-self-right, div-add-mod', div-le-self}
+use native.Mathlib.Nat.{zero-add, mod-lt, mod-mod, mod-mod-of-dvd, mod-add-mod, add-mod-mod, mod-le, add-mod-right, add-mul-mod-self-right, div-add-mod', div-le-self, div-add-mod, add-mul-mod-self-left, mul-add, mul-one}
 use native.Mathlib.Omega.{arith}
 use lib.ListN.{length, getD}
 use Rattle.ring.specs.Gcd.{gcd}
@@ -14,6 +14,25 @@ use Rattle.ring.proofs.Steps.{turns-pos, steps-apart, steps-round, walk
 
 pub grid-step-pos : (interval R : ℕ) → 0 < gridStep interval R
 grid-step-pos interval R = gcd-pos (max 1 interval) (max 1 R)
+
+-- whole steps added leave the gap as it is; so many that the difference is not negative
+pub gap-wide : (g c t : ℕ) → 0 < g → t ≤ 65535 → (c + g * 65535 - t) % g ≡ gridGap g c t
+gap-wide g c t pos low =
+    sym (add-mul-mod-self-left (c + g * 65535 - t) g (t / g + 1))
+    ∙ ap (λ (x : ℕ). x % g) even
+    ∙ add-mul-mod-self-left (c % g + (g - t % g)) g (c / g + 65535)
+  where
+    even : (c + g * 65535 - t) + g * (t / g + 1) ≡ (c % g + (g - t % g)) + g * (c / g + 65535)
+    even =
+        omega (
+          arith,
+          div-add-mod c g,
+          div-add-mod t g,
+          mod-lt t pos,
+          mul-add g (t / g) 1,
+          mul-one g,
+          mul-add g (c / g) 65535,
+        )
 
 pub ring-size-pos : (speed : Speed) → 0 < ringSize speed
 ring-size-pos High = omega arith
