@@ -4,7 +4,7 @@ use mathlib.Core.Path.{_≡_}
 use mathlib.Core.Bool.{Bool, true, false}
 use mathlib.Core.List.{List, []}
 use Prim.Native.Nat.{ℕ, _+_, _<_}
-use lib.ListN.{getD, take}
+use lib.ListN.{getD, replicate, take}
 use Rattle.ring.specs.RingSums.{nextNumber}
 use Rattle.session.specs.declared.types.IsoConfig.{IsoConfig}
 use Rattle.session.specs.declared.types.IsoHead.{IsoHead}
@@ -30,6 +30,10 @@ whole cfg h fatal requests plans = record { cfg = cfg; head = h; fatal = fatal; 
 
 abbrev pub only : IsoConfig → IsoHead → IsoChannelState
 only cfg h = whole cfg h Nothing [] []
+
+-- where a record is bad the rest is not read
+abbrev pub badScan : RecordScan
+badScan = record { bad = true; all = 0; pending = 0; tail = 0; held = replicate 256 false }
 
 -- what the walk finds in a good record
 pub record Walked (s : IsoChannelState) (r : RecordScan) : Type 0 where

@@ -1,11 +1,11 @@
 // Refusal 18: document 01, "Refusal numbers". The entries in use are walked once, where they stand: a table handed on would be
 // copied. What a submission asks of the tables is found on the same walk.
 ghost use mathlib.Core.Path.{_≡_};
-ghost use mathlib.Core.Bool.{true, not, _||_, _&&_, cond};
+ghost use mathlib.Core.Bool.{not, _||_, _&&_, cond};
 ghost use Prim.Native.Nat.{_≤_};
 ghost use lib.Dec.{leb, ltb};
 ghost use Rattle.session.specs.Record.{isBadConfig, isBadRequest, isBadPlan, isBadRecord};
-ghost use Rattle.session.specs.Scan.{Scanned};
+ghost use Rattle.session.specs.Scan.{badScan, Scanned};
 ghost use Rattle.session.specs.Session.{hasReason};
 ghost use Rattle.session.specs.Session.{room as Session·room};
 use crate::tables::rest;
@@ -84,7 +84,7 @@ pub fn wide_from(done: u16, at: u16, packets: u16) -> u32
 
 // Where a record is bad the rest is not read.
 pub fn bad_scan() -> RecordScan
-    ensures { λ r. ⌜ r .bad ≡ true ⌝ }
+    ensures { λ r. ⌜ r ≡ badScan ⌝ }
 {
     RecordScan {
         bad: true,

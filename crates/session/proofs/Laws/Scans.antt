@@ -11,7 +11,7 @@ use Rattle.session.specs.declared.types.IsoPacketPlan.{IsoPacketPlan}
 use Rattle.session.specs.declared.types.IsoRequest.{IsoRequest}
 use Rattle.session.specs.Session.{blankRequest, blankPlan}
 use Rattle.session.specs.declared.record.RecordScan.{RecordScan}
-use Rattle.session.specs.Scan.{Scanned}
+use Rattle.session.specs.Scan.{badScan, Scanned}
 use Rattle.session.specs.Record.{isBadRequest, anyBadRequest, isBadPlan, anyBadPlan, isBadRecord}
 use Rattle.session.proofs.Laws.Lists.{slice-next, slice-past}
 
@@ -47,8 +47,8 @@ module _ (limit slots : ℕ) where
   plan-past i t l h = ap (anyBadPlan limit slots) (slice-past i t l h)
 
 -- a walk that finds a bad record says only that
-pub bad-found : (s : IsoChannelState) (r : RecordScan) → r .bad ≡ true → isBadRecord s ≡ true → Scanned s r
-bad-found s r e b = record { bad = e ∙ sym b; found = λ g. absurd (both (sym b ∙ g)) }
+pub bad-found : (s : IsoChannelState) (r : RecordScan) → r ≡ badScan → isBadRecord s ≡ true → Scanned s r
+bad-found s r e b = record { bad = ap (λ (x : RecordScan). x .bad) e ∙ sym b; found = λ g. absurd (both (sym b ∙ g)) }
   where
     both : true ≡ false → ⊥
     both x = let z : _≡_ {A = ℕ} 0 1 = cc in omega arith

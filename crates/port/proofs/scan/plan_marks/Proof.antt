@@ -8,6 +8,7 @@ use native.Mathlib.Omega.{arith}
 use lib.ListN.{length, getD, drop, length-set}
 use lib.Seq.{slice}
 use borrow.Author.Needs.{needs}
+use Rattle.session.specs.declared.record.RecordScan.{RecordScan}
 use Rattle.session.specs.declared.types.IsoPacketPlan.{IsoPacketPlan}
 use Rattle.session.specs.Session.{blankPlan}
 use Rattle.session.specs.Record.{isBadPlan, anyBadPlan}
@@ -69,12 +70,13 @@ returns c =
     let l = sessionOf (a .bytes .now) .plans in
     let found = sym (ap (isBadPlan (a .limit) (a .slots)) (here (c .before .before .before))) ∙ sym (c .before .before .is-bad-plan .ensures) ∙ c .before .if1 .taken in
     let some = c .before .before .before .before .before .loop .inv .2 ∙ plan-here (a .limit) (a .slots) (c .before .before .before .before .before .loop .j) (a .all) l (omega arith) (within (c .before .before .before .before .before .before .before)) found in
+    let is-bad = ap (λ (r : RecordScan). r .bad) (c .bad-scan .ensures) in
     record {
-      bad = c .bad-scan .ensures ∙ sym (ap (λ (b : Bool). b || a .bad) some);
-      all = λ e. absurd (never (sym (c .bad-scan .ensures) ∙ e));
-      pending = λ e. absurd (never (sym (c .bad-scan .ensures) ∙ e));
-      tail = λ e. absurd (never (sym (c .bad-scan .ensures) ∙ e));
-      held = λ e k h. absurd (never (sym (c .bad-scan .ensures) ∙ e));
+      bad = is-bad ∙ sym (ap (λ (b : Bool). b || a .bad) some);
+      all = λ e. absurd (never (sym is-bad ∙ e));
+      pending = λ e. absurd (never (sym is-bad ∙ e));
+      tail = λ e. absurd (never (sym is-bad ∙ e));
+      held = λ e k h. absurd (never (sym is-bad ∙ e));
     }
 
 sub-if2 : tie.Need-sub-if2 Inv-loop μ-loop
