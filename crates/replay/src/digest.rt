@@ -65,3 +65,16 @@ pub(crate) fn of_longs(words: &[u64]) -> u64
     }
     sum
 }
+
+// The 64 bytes of a frame list.
+pub(crate) fn of_frames(frames: &[u8; 64]) -> u64
+    ensures { λ r. ⌜ r < 140737488355213 ⌝ }
+{
+    let mut sum: u64 = 1;
+    let mut i: usize = 0;
+    while i < 64 {
+        sum = more_byte(sum, frames[i]);
+        i += 1;
+    }
+    sum
+}

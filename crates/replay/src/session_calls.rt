@@ -9,6 +9,7 @@ use crate::answers::judge;
 use crate::answers::nth;
 use crate::answers::word_at;
 use crate::digest::of_bytes;
+use crate::digest::of_frames;
 use crate::digest::of_longs;
 use crate::digest::of_words;
 use port::PortReclaimed;
@@ -168,7 +169,7 @@ fn submitted(
             s.hctsiz as u64,
             s.hcintmsk as u64,
             s.frame_count as u64,
-            of_bytes(&frames),
+            of_frames(&frames),
             of_words(ring),
             of_bytes(session),
         ],

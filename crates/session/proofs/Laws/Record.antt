@@ -1,12 +1,14 @@
 -- Laws of a session's record: what the record check says in plain facts, and that these facts are all that it asks.
-use mathlib.Core.Path.{_≡_, refl, ap}
+use mathlib.Core.Path.{_≡_, refl, sym, _∙_, ap}
 use mathlib.Core.Bool.{Bool, false, not, _||_, _&&_}
 use mathlib.Core.List.{List, [], _∷_}
 use Prim.Native.Nat.{ℕ, zero, suc, _≤_, _<_}
 use native.Mathlib.Omega.{arith}
 use lib.Dec.{eqb, leb, ltb}
-use lib.ListN.{length, getD}
+use lib.ListN.{length, getD, length-map}
 use lib.Seq.{slice}
+use mir.Val.{Val}
+use denote.Laws.{Is}
 use borrow.Author.Tests.{ltb-false, leb-false, eqb-false, le-ltb, lt-leb, ne-eqb}
 use Rattle.ring.specs.RingSums.{packetLimit}
 use Rattle.ring.proofs.RingFacts.{ring-size-pos}
@@ -18,6 +20,7 @@ use Rattle.session.specs.declared.types.IsoPacketPlan.{IsoPacketPlan}
 use Rattle.session.specs.declared.types.IsoRequest.{IsoRequest}
 use Rattle.session.specs.Session.{blankRequest, blankPlan, slots, room, allPackets, pendingPackets, hasReason, idleSession}
 use Rattle.session.specs.Record.{isBadConfig, isBadRequest, anyBadRequest, isBadPlan, anyBadPlan, isBadCounts, isBadSums, isBadState, isBadRecord}
+use Rattle.session.proofs.types.IsoChannelState as Held
 use Rattle.session.proofs.Laws.Lists.{front-each, front-kept}
 use Rattle.words.proofs.Laws.Tests.{neither, not-both}
 use Rattle.session.proofs.Laws.Tests.{none, unless}
@@ -185,6 +188,13 @@ sound s rl pl e =
       idle-done = λ off. omega (arith, done-in, ltb-false (s .head .done) (s .head .count) (idle off .0));
       idle-nothing = λ off. no-reason (s .fatal) (idle off .1);
     }
+
+-- a session that the machine holds has tables of their lengths, so that a record not found bad is sound
+pub held-long : (s : IsoChannelState) {vs : List Val} → Is Held.the-row s vs → (length (s .requests) ≡ 64) × (length (s .plans) ≡ 1024)
+held-long s h = (sym (length-map (s .requests) _) ∙ h .1 .1 .1 .1 .1 .0 .1 .0 .1, sym (length-map (s .plans) _) ∙ h .1 .1 .1 .1 .1 .1 .0 .1 .0 .1)
+
+pub held-sound : (s : IsoChannelState) {vs : List Val} → Is Held.the-row s vs → isBadRecord s ≡ false → Sound s
+held-sound s h e = sound s (held-long s h .0) (held-long s h .1) e
 
 -- and back: these facts are all that the check asks
 not-bad-config : (cfg : IsoConfig) → GoodConfig cfg → isBadConfig cfg ≡ false

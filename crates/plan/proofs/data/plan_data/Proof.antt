@@ -160,8 +160,7 @@ build-stage-descs-requires c κs =
     (length (c .before .before .before .loop .array)) 256
     (c .before .before .before .before .before .before .before .before .before .before .split-dma-lengths .result .chunk * 256)
     (c .before .before .before .loop .addr) (c .before .before .before .loop .base) (c .before .before .before .loop .plan .toggle .0)
-    (size-is (c .before .before .before))
-    (omega arith)
+    (size-is (c .before .before .before)) (omega arith)
     (omega (arith, long (c .before .before .before), c .before .before .before .loop .inv, c .before .before .loop-test .taken))
     (omega (arith, most-is (c .before .before .before)))
     (omega (arith, most-is (c .before .before .before), full (c .before .before), c .before .before .before .loop .inv)))
@@ -198,14 +197,11 @@ loop-again c =
     let size-of = c .before .before .before .before .before .before .before .before .before .before .before .before .before .before .before .size-of in
     let l = c .before .before .before .before .before .before .before .loop in
     let step =
-    turn (c .before .before .before .before .before .before .before .before .before .before .before .before .before .data-hcchar .result)
-    (size-of .result)
+    turn (c .before .before .before .before .before .before .before .before .before .before .before .before .before .data-hcchar .result) (size-of .result)
     (c .before .before .before .before .before .before .before .before .before .before .before .before .before .before .split-dma-lengths .result .chunk * 256)
     (l .left) (l .len) (l .addr) (l .base) (l .plan) (c .add-stage .result) (data-stage .result) (l .array)
-    (build-stage-descs .last .1 .0)
-    (room (c .before .before .before .before .before .before .before)) (there .loop-test .taken)
-    (most-is (c .before .before .before .before .before .before .before)) (data-stage .ensures)
-    (build-stage-descs .ensures) (c .add-stage .ensures) in
+    (build-stage-descs .last .1 .0) (room (c .before .before .before .before .before .before .before)) (there .loop-test .taken)
+    (most-is (c .before .before .before .before .before .before .before)) (data-stage .ensures) (build-stage-descs .ensures) (c .add-stage .ensures) in
     let more : c .add-stage .result .count ≡ l .plan .count + 1 = ap (λ (p : Dwc2DataPlan). p .count) (c .add-stage .ensures) in (
       build-stage-descs .kept .1 .0 ∙ l .inv .0,
       step .0 ∙ l .inv .1,
@@ -213,9 +209,7 @@ loop-again c =
       omega (arith, there .loop-test .taken),
       omega (arith, more, l .inv .4),
       omega (arith, l .inv .5, there .loop-test .taken),
-      subst⁻¹
-          (λ (k : ℕ). (l .left - 256 - 1) * chunkOf
-          (size-of .result) ≤ l .len - k)
+      subst⁻¹ (λ (k : ℕ). (l .left - 256 - 1) * chunkOf (size-of .result) ≤ l .len - k)
           (most-is (c .before .before .before .before .before .before .before)) (full there .1),
       omega (arith, most-is (c .before .before .before .before .before .before .before), full there .0, l .inv .7),
     )
@@ -230,11 +224,9 @@ build-stage-descs-requires-2 c κs =
     (c .before .before .before .before .before .before .before .before .before .before .before .size-of .result)
     (length (c .before .before .before .loop .array)) (c .before .before .before .loop .left) (c .before .before .before .loop .len)
     (c .before .before .before .loop .addr) (c .before .before .before .loop .base) (c .before .before .before .loop .plan .toggle .0)
-    (size-is (c .before .before .before))
-    (c .before .before .before .loop .inv .3)
+    (size-is (c .before .before .before)) (c .before .before .before .loop .inv .3)
     (omega (arith, long (c .before .before .before), c .before .before .before .loop .inv))
-    (c .before .before .before .loop .inv .6)
-    (c .before .before .before .loop .inv .7))
+    (c .before .before .before .loop .inv .6) (c .before .before .before .loop .inv .7))
 
 add-stage-requires-2 : tie.Need-add-stage-requires-2 Inv-loop μ-loop
 add-stage-requires-2 c κs = room (c .before .before .before .before .before .before)
@@ -252,29 +244,18 @@ returns c =
     let l = c .before .before .before .before .before .before .before .loop in
     let r = a .request in
     let step =
-    last-turn (c .before .before .before .before .before .before .before .before .before .before .before .before .before .data-hcchar .result)
-    (size-of .result)
-    (l .left) (l .len) (l .addr) (l .base) (l .plan) (c .add-stage2 .result) (data-stage2 .result)
-    (l .array) (build-stage-descs2 .last .1 .0)
+    last-turn (c .before .before .before .before .before .before .before .before .before .before .before .before .before .data-hcchar .result) (size-of .result)
+    (l .left) (l .len) (l .addr) (l .base) (l .plan) (c .add-stage2 .result) (data-stage2 .result) (l .array)
+    (build-stage-descs2 .last .1 .0)
     (room (c .before .before .before .before .before .before .before)) (c .before .before .before .before .before .before .loop-test .left)
-    (data-stage2 .ensures) (build-stage-descs2 .ensures)
-    (c .add-stage2 .ensures) in (
+    (data-stage2 .ensures) (build-stage-descs2 .ensures) (c .add-stage2 .ensures) in (
       step .1 ∙ l .inv .2
-          ∙ ap
-          (withStages
-          (size-of .result)
-          (there .blank-plan .result))
-          (start-is there)
-          ∙ ap₂ (λ (m : ℕ) (p : Dwc2DataPlan). withStages m p (dataStages r))
-          (size-of .ensures)
-          (there .blank-plan .ensures)
+          ∙ ap (withStages (size-of .result) (there .blank-plan .result)) (start-is there)
+          ∙ ap₂ (λ (m : ℕ) (p : Dwc2DataPlan). withStages m p (dataStages r)) (size-of .ensures) (there .blank-plan .ensures)
           ∙ planned-is (sizeOf r) Planned (r .toggle) (dataStages r)
           (stages-few (dataHcchar r) (sizeOf r) 4 (splitOf (r .len) (sizeOf r) .count) (r .len) (r .base) 0 (r .toggle .0)),
       step .0 ∙ l .inv .1
-          ∙ ap
-          (λ (ss : List Dwc2TransferStage). laidOut ss
-          (a .array .now))
-          (start-is there),
+          ∙ ap (λ (ss : List Dwc2TransferStage). laidOut ss (a .array .now)) (start-is there),
     )
 
 pub plan-data-spec : {M : Type 1} → statement M

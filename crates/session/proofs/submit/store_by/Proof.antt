@@ -17,6 +17,16 @@ fits :
     → (ringWords (c .args .cfg) ≤ length (c .args .ring .now)) × (c .args .transfer .base + sum (c .args .lengths .now) ≤ 4294967295)
 fits c way e g = c .pre (subst⁻¹ (λ (w : SubmitWay). T (isGate w)) e g)
 
+-- the definition at a way that is known
+told :
+    (c : tie.Start) {way : SubmitWay} → c .args .way ≡ way
+    → let a = c .args in
+    ringBy way (a .cfg) (a .transfer) (a .insert) (a .lengths .now) (a .ring .now)
+    ≡ ringBy (a .way) (a .cfg) (a .transfer) (a .insert) (a .lengths .now) (a .ring .now)
+told c e =
+    let a = c .args in
+    sym (ap (λ (w : SubmitWay). ringBy w (a .cfg) (a .transfer) (a .insert) (a .lengths .now) (a .ring .now)) e)
+
 enum-told : tie.Need-enum-told
 enum-told c = search needs
 
@@ -61,61 +71,49 @@ store-requires-2 : tie.Need-store-requires-2
 store-requires-2 c κs = fits (c .before .before .before .before .before) _ (c .before .enum-told7 .given .1) tt .1
 
 returns : tie.Need-returns
-returns c =
-    let a = c .before .before .before .before .args in
-    sym (ap (λ (w : SubmitWay). ringBy w (a .cfg) (a .transfer) (a .insert) (a .lengths .now) (a .ring .now)) (c .enum-told .given .1))
+returns c = told (c .before .before .before .before) (c .enum-told .given .1)
 
 returns-2 : tie.Need-returns-2
-returns-2 c =
-    let a = c .before .before .before .before .args in
-    sym (ap (λ (w : SubmitWay). ringBy w (a .cfg) (a .transfer) (a .insert) (a .lengths .now) (a .ring .now)) (c .enum-told2 .given .1))
+returns-2 c = told (c .before .before .before .before) (c .enum-told2 .given .1)
 
 returns-3 : tie.Need-returns-3
-returns-3 c =
-    let a = c .before .before .before .before .args in
-    sym (ap (λ (w : SubmitWay). ringBy w (a .cfg) (a .transfer) (a .insert) (a .lengths .now) (a .ring .now)) (c .enum-told3 .given .1))
+returns-3 c = told (c .before .before .before .before) (c .enum-told3 .given .1)
 
 same-length : tie.Need-same-length
 same-length c = search needs
 
 returns-4 : tie.Need-returns-4
 returns-4 c =
-    let a = c .before .before .before .before .before .before .before .before .before .args in
+    let start = c .before .before .before .before .before .before .before .before .before in
     c .before .before .clear-ring .ensures
-    ∙ ap (λ (n : ℕ). cleared n (a .ring .now)) (c .before .before .before .ring-words .ensures .0)
-    ∙ sym (ap (λ (w : SubmitWay). ringBy w (a .cfg) (a .transfer) (a .insert) (a .lengths .now) (a .ring .now))
-    (c .before .before .before .before .before .enum-told4 .given .1))
+    ∙ ap (λ (n : ℕ). cleared n (start .args .ring .now)) (c .before .before .before .ring-words .ensures .0)
+    ∙ told start (c .before .before .before .before .before .enum-told4 .given .1)
 
 same-length-2 : tie.Need-same-length-2
 same-length-2 c = search needs
 
 returns-5 : tie.Need-returns-5
 returns-5 c =
-    let a = c .before .before .before .before .before .before .before .before .args in
     c .before .before .store .ensures
-    ∙ sym (ap (λ (w : SubmitWay). ringBy w (a .cfg) (a .transfer) (a .insert) (a .lengths .now) (a .ring .now))
-    (c .before .before .before .before .enum-told5 .given .1))
+    ∙ told (c .before .before .before .before .before .before .before .before) (c .before .before .before .before .enum-told5 .given .1)
 
 same-length-3 : tie.Need-same-length-3
 same-length-3 c = search needs
 
 returns-6 : tie.Need-returns-6
 returns-6 c =
-    let a = c .before .before .before .before .before .before .before .before .before .args in
+    let start = c .before .before .before .before .before .before .before .before .before in
     c .before .before .clear-ring2 .ensures
-    ∙ ap (λ (n : ℕ). cleared n (a .ring .now)) (c .before .before .before .ring-words2 .ensures .0)
-    ∙ sym (ap (λ (w : SubmitWay). ringBy w (a .cfg) (a .transfer) (a .insert) (a .lengths .now) (a .ring .now))
-    (c .before .before .before .before .before .enum-told6 .given .1))
+    ∙ ap (λ (n : ℕ). cleared n (start .args .ring .now)) (c .before .before .before .ring-words2 .ensures .0)
+    ∙ told start (c .before .before .before .before .before .enum-told6 .given .1)
 
 same-length-4 : tie.Need-same-length-4
 same-length-4 c = search needs
 
 returns-7 : tie.Need-returns-7
 returns-7 c =
-    let a = c .before .before .before .before .before .before .before .before .args in
     c .before .before .store2 .ensures
-    ∙ sym (ap (λ (w : SubmitWay). ringBy w (a .cfg) (a .transfer) (a .insert) (a .lengths .now) (a .ring .now))
-    (c .before .before .before .before .enum-told7 .given .1))
+    ∙ told (c .before .before .before .before .before .before .before .before) (c .before .before .before .before .enum-told7 .given .1)
 
 pub store-by-spec : {M : Type 1} → statement M
 store-by-spec =

@@ -4,12 +4,11 @@ use mathlib.Core.Bool.{true, false}
 use Prim.Native.Nat.{ℕ}
 use native.Mathlib.Omega.{arith}
 use lib.Dec.{ltb}
-use lib.ListN.{length-map}
 use Rattle.session.specs.declared.reply.IsoAnswer.the-variants as answer
 use Rattle.session.specs.Record.{isBadRecord}
 use Rattle.session.specs.Poll.{reply}
 use Rattle.session.specs.Cancel.{requestAt, withCancelled}
-use Rattle.session.proofs.Laws.Record.{Sound, sound}
+use Rattle.session.proofs.Laws.Record.{Sound, held-sound}
 use Rattle.session.proofs.Laws.Tests.{below, not-below}
 use Rattle.session.proofs.Laws.Replies.{cancel-bad, cancel-completed, cancel-unknown, cancel-again, cancel-halt}
 use borrow.Author.Needs.{needs}
@@ -18,9 +17,7 @@ use Rattle.session.proofs.types.IsoChannelState.cancel.Tie as tie
 
 -- what the record says, where it is good
 good : (c : tie.Start) → isBadRecord (c .args .self) ≡ false → Sound (c .args .self)
-good c e =
-    sound (c .args .self) (sym (length-map (c .args .self .requests) _) ∙ c .good .0 .1 .1 .1 .1 .1 .0 .1 .0 .1)
-    (sym (length-map (c .args .self .plans) _) ∙ c .good .0 .1 .1 .1 .1 .1 .1 .0 .1 .0 .1) e
+good c e = held-sound (c .args .self) (c .good .0) e
 
 is-bad-record-requires : tie.Need-is-bad-record-requires
 is-bad-record-requires c κs = search needs

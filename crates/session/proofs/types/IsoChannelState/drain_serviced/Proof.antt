@@ -3,11 +3,11 @@ use mathlib.Core.Path.{_≡_, _∙_, sym, ap, refl, subst⁻¹}
 use mathlib.Core.Bool.{Bool, true, false, _||_}
 use Prim.Native.Nat.{_+_, _-_}
 use native.Mathlib.Omega.{arith}
-use lib.ListN.{length, length-map}
+use lib.ListN.{length}
 use Rattle.session.specs.declared.types.IsoChannelState.{IsoChannelState}
 use Rattle.session.specs.Record.{isBadRecord}
 use Rattle.session.specs.Settle.{isServed, settledSession, Drained, drained}
-use Rattle.session.proofs.Laws.Record.{Sound, sound, not-bad}
+use Rattle.session.proofs.Laws.Record.{Sound, held-sound, not-bad}
 use Rattle.session.proofs.Laws.Settled.{settled-sound, drained-past, drained-stop, drained-next}
 use borrow.Author.Tests.{not-true, not-false}
 use Rattle.session.proofs.types.IsoChannelState.drain_serviced.Statement.{statement}
@@ -22,9 +22,7 @@ abbrev μ-loop : tie.MeasureT-loop
 
 -- what the record says, where it is good
 good : (c : tie.Start Inv-loop μ-loop) → isBadRecord (c .args .self) ≡ false → Sound (c .args .self)
-good c e =
-    sound (c .args .self) (sym (length-map (c .args .self .requests) _) ∙ c .good .0 .1 .1 .1 .1 .1 .0 .1 .0 .1)
-    (sym (length-map (c .args .self .plans) _) ∙ c .good .0 .1 .1 .1 .1 .1 .1 .0 .1 .0 .1) e
+good c e = held-sound (c .args .self) (c .good .0) e
 
 loop-holds : tie.Need-loop-holds Inv-loop μ-loop
 loop-holds c = (good (c .before) (c .before .pre), refl, refl)

@@ -1,20 +1,18 @@
 -- `end` zeroes the ring and gives every pending request the outcome; the rest of the session is written anew.
-use mathlib.Core.Path.{_≡_, sym, _∙_, ap, subst⁻¹}
+use mathlib.Core.Path.{_≡_, _∙_, ap, subst⁻¹}
 use mathlib.Core.Bool.{false}
 use Prim.Native.Nat.{ℕ, _≤_}
-use lib.ListN.{length, length-map}
+use lib.ListN.{length}
 use borrow.Author.Needs.{needs}
 use Rattle.session.specs.Session.{cleared}
 use Rattle.session.specs.Record.{isBadRecord}
-use Rattle.session.proofs.Laws.Record.{Sound, sound}
+use Rattle.session.proofs.Laws.Record.{Sound, held-sound}
 use Rattle.session.proofs.types.IsoChannelState.end.Statement.{statement}
 use Rattle.session.proofs.types.IsoChannelState.end.Tie as tie
 
 -- what the record says, where it is good
 good : (c : tie.Start) → isBadRecord (c .args .self) ≡ false → Sound (c .args .self)
-good c e =
-    sound (c .args .self) (sym (length-map (c .args .self .requests) _) ∙ c .good .0 .1 .1 .1 .1 .1 .0 .1 .0 .1)
-    (sym (length-map (c .args .self .plans) _) ∙ c .good .0 .1 .1 .1 .1 .1 .1 .0 .1 .0 .1) e
+good c e = held-sound (c .args .self) (c .good .0) e
 
 ring-words-requires : tie.Need-ring-words-requires
 ring-words-requires c κs = search needs

@@ -2,9 +2,8 @@
 use mathlib.Core.Path.{_≡_, _∙_, sym}
 use mathlib.Core.Bool.{false}
 use native.Mathlib.Omega.{arith}
-use lib.ListN.{length-map}
 use Rattle.session.specs.Record.{isBadRecord}
-use Rattle.session.proofs.Laws.Record.{Sound, sound}
+use Rattle.session.proofs.Laws.Record.{Sound, held-sound}
 use Rattle.session.proofs.Laws.Handed.{handed-by, none-handed}
 use borrow.Author.Needs.{needs}
 use Rattle.session.proofs.types.IsoChannelState.hand_results.Statement.{statement}
@@ -12,9 +11,7 @@ use Rattle.session.proofs.types.IsoChannelState.hand_results.Tie as tie
 
 -- what the record says, where it is good
 good : (c : tie.Start) → isBadRecord (c .args .self) ≡ false → Sound (c .args .self)
-good c e =
-    sound (c .args .self) (sym (length-map (c .args .self .requests) _) ∙ c .good .0 .1 .1 .1 .1 .1 .0 .1 .0 .1)
-    (sym (length-map (c .args .self .plans) _) ∙ c .good .0 .1 .1 .1 .1 .1 .1 .0 .1 .0 .1) e
+good c e = held-sound (c .args .self) (c .good .0) e
 
 mul-request : tie.Need-mul-request
 mul-request c = search needs

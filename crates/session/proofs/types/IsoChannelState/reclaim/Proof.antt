@@ -3,13 +3,13 @@ use mathlib.Core.Path.{_≡_, sym, _∙_, ap, subst⁻¹}
 use mathlib.Core.Bool.{Bool, false, _||_}
 use Prim.Native.Nat.{ℕ}
 use lib.Dec.{ltb}
-use lib.ListN.{length, length-map}
+use lib.ListN.{length}
 use borrow.Author.Tests.{ltb-false}
 use Rattle.session.specs.declared.reply.IsoReply.{IsoReply}
 use Rattle.session.specs.Session.{ringWords}
 use Rattle.session.specs.Record.{isBadRecord}
 use Rattle.session.specs.Reclaim.{isShort}
-use Rattle.session.proofs.Laws.Record.{Sound, sound, not-bad}
+use Rattle.session.proofs.Laws.Record.{Sound, held-sound, not-bad}
 use Rattle.session.proofs.Laws.Reclaims.{reclaim-short, reclaim-bad, reclaim-done, looked-sound}
 use Rattle.words.proofs.Laws.Tests.{neither}
 use borrow.Author.Needs.{needs}
@@ -18,9 +18,7 @@ use Rattle.session.proofs.types.IsoChannelState.reclaim.Tie as tie
 
 -- what the record says, where it is good
 good : (c : tie.Start) → isBadRecord (c .args .self) ≡ false → Sound (c .args .self)
-good c e =
-    sound (c .args .self) (sym (length-map (c .args .self .requests) _) ∙ c .good .0 .1 .1 .1 .1 .1 .0 .1 .0 .1)
-    (sym (length-map (c .args .self .plans) _) ∙ c .good .0 .1 .1 .1 .1 .1 .1 .0 .1 .0 .1) e
+good c e = held-sound (c .args .self) (c .good .0) e
 
 -- the test of 17, by the words that the code counted
 test-short :

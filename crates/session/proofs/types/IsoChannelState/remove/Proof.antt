@@ -1,10 +1,9 @@
 -- What is left is its definition at what the calls answer.
-use mathlib.Core.Path.{_≡_, _∙_, sym}
+use mathlib.Core.Path.{_≡_}
 use mathlib.Core.Bool.{false}
 use native.Mathlib.Omega.{arith}
-use lib.ListN.{length-map}
 use Rattle.session.specs.Record.{isBadRecord}
-use Rattle.session.proofs.Laws.Record.{Sound, sound}
+use Rattle.session.proofs.Laws.Record.{Sound, held-sound}
 use Rattle.session.proofs.Laws.Handed.{plans-in, removed-by}
 use borrow.Author.Needs.{needs}
 use Rattle.session.proofs.types.IsoChannelState.remove.Statement.{statement}
@@ -12,9 +11,7 @@ use Rattle.session.proofs.types.IsoChannelState.remove.Tie as tie
 
 -- what the record says, where it is good
 good : (c : tie.Start) → isBadRecord (c .args .self) ≡ false → Sound (c .args .self)
-good c e =
-    sound (c .args .self) (sym (length-map (c .args .self .requests) _) ∙ c .good .0 .1 .1 .1 .1 .1 .0 .1 .0 .1)
-    (sym (length-map (c .args .self .plans) _) ∙ c .good .0 .1 .1 .1 .1 .1 .1 .0 .1 .0 .1) e
+good c e = held-sound (c .args .self) (c .good .0) e
 
 plans-begin-requires : tie.Need-plans-begin-requires
 plans-begin-requires c κs = (c .before .pre .0, omega (arith, good (c .before) (c .before .pre .0) .done-in, c .before .pre .1))

@@ -1,10 +1,9 @@
 -- Settling is its definition at what the loops answer.
-use mathlib.Core.Path.{_≡_, _∙_, sym}
+use mathlib.Core.Path.{_≡_}
 use mathlib.Core.Bool.{false}
 use native.Mathlib.Omega.{arith}
-use lib.ListN.{length-map}
 use Rattle.session.specs.Record.{isBadRecord}
-use Rattle.session.proofs.Laws.Record.{Sound, sound}
+use Rattle.session.proofs.Laws.Record.{Sound, held-sound}
 use Rattle.session.proofs.Laws.Settled.{oldest-in, ring-by, settled-by}
 use borrow.Author.Needs.{needs}
 use Rattle.session.proofs.types.IsoChannelState.settle_request.Statement.{statement}
@@ -12,9 +11,7 @@ use Rattle.session.proofs.types.IsoChannelState.settle_request.Tie as t
 
 -- what the record says, where it is good
 good : (c : tie.Start) → isBadRecord (c .args .t1) ≡ false → Sound (c .args .t1)
-good c e =
-    sound (c .args .t1) (sym (length-map (c .args .t1 .requests) _) ∙ c .good .0 .1 .1 .1 .1 .1 .0 .1 .0 .1)
-    (sym (length-map (c .args .t1 .plans) _) ∙ c .good .0 .1 .1 .1 .1 .1 .1 .0 .1 .0 .1) e
+good c e = held-sound (c .args .t1) (c .good .0) e
 
 oldest-from-requires : tie.Need-oldest-from-requires
 oldest-from-requires c κs = search needs
