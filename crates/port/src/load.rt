@@ -1,6 +1,6 @@
 // A session out of its bytes: whether they are one of the layout, and which.
 ghost use mathlib.Core.Path.{_≡_};
-ghost use Prim.Native.Nat.{_≤_};
+ghost use Prim.Native.Nat.{_+_, _≤_};
 ghost use lib.ListN.{length, drop};
 ghost use Rattle.port.specs.Layout.{configOf, headOf, requestOf, planOf, tableOf, anyOf, isBadRequestBytes, isBadPlanBytes, isBadMark, isBadHead, layoutNumber, sessionOf};
 use crate::entries::is_bad_plan_at;
@@ -104,7 +104,7 @@ fn any_bad_request(bytes: &[u8]) -> bool
     let mut at: usize = 40;
     let mut i: usize = 0;
     while i < 64 {
-        if is_bad_request_at(bytes, at) {
+        if is_bad_outcome_at(bytes, at) {
             return true;
         }
         at += 20;
@@ -113,20 +113,53 @@ fn any_bad_request(bytes: &[u8]) -> bool
     false
 }
 
+// Most requests have no outcome yet, or none but done: its six bytes, behind the count of packets, are then 0.
+fn is_bad_outcome_at(bytes: &[u8], at: usize) -> bool
+    requires { ⌜ at + 20 ≤ length (now bytes) ⌝ }
+    ensures { λ r. ⌜ r ≡ isBadRequestBytes (drop at (now (bytes .entry))) ⌝ }
+{
+    if u64_at(bytes, at + 12) < 65_536 {
+        return false;
+    }
+    is_bad_request_at(bytes, at)
+}
+
+// Sixteen plans a turn: tests joined by `|` are one test for the compiler.
 fn any_bad_plan(bytes: &[u8]) -> bool
     requires { ⌜ 8488 ≤ length (now bytes) ⌝ }
     ensures { λ r. ⌜ r ≡ anyOf isBadPlanBytes 7 1024 (drop 1320 (now (bytes .entry))) ⌝ }
 {
     let mut at: usize = 1_320;
     let mut i: usize = 0;
-    while i < 1_024 {
-        if is_bad_plan_at(bytes, at) {
+    while i < 64 {
+        if any_of_eight(bytes, at) | any_of_eight(bytes, at + 56) {
             return true;
         }
-        at += 7;
+        at += 112;
         i += 1;
     }
     false
+}
+
+fn any_of_eight(bytes: &[u8], at: usize) -> bool
+    requires { ⌜ at + 56 ≤ length (now bytes) ⌝ }
+    ensures { λ r. ⌜ r ≡ anyOf isBadPlanBytes 7 8 (drop at (now (bytes .entry))) ⌝ }
+{
+    any_of_four(bytes, at) | any_of_four(bytes, at + 28)
+}
+
+fn any_of_four(bytes: &[u8], at: usize) -> bool
+    requires { ⌜ at + 28 ≤ length (now bytes) ⌝ }
+    ensures { λ r. ⌜ r ≡ anyOf isBadPlanBytes 7 4 (drop at (now (bytes .entry))) ⌝ }
+{
+    any_of_two(bytes, at) | any_of_two(bytes, at + 14)
+}
+
+fn any_of_two(bytes: &[u8], at: usize) -> bool
+    requires { ⌜ at + 14 ≤ length (now bytes) ⌝ }
+    ensures { λ r. ⌜ r ≡ anyOf isBadPlanBytes 7 2 (drop at (now (bytes .entry))) ⌝ }
+{
+    is_bad_plan_at(bytes, at) | is_bad_plan_at(bytes, at + 7)
 }
 
 fn is_bad_mark(bytes: &[u8]) -> bool

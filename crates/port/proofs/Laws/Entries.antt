@@ -1,12 +1,13 @@
 -- One entry of a table: what the code reads field by field is the entry that the rest begins with, and what it writes field by field is the
 -- entry's bytes.
 use mathlib.Core.Path.{_≡_, refl, _∙_, sym, ap}
-use mathlib.Core.Bool.{Bool}
+use mathlib.Core.Bool.{Bool, false}
 use mathlib.Core.List.{List, [], _∷_, _++_}
-use Prim.Native.Nat.{ℕ, _+_}
+use Prim.Native.Nat.{ℕ, _+_, _*_, _<_}
+use native.Mathlib.Omega.{arith}
 use lib.Dec.{ltb}
-use lib.ListN.{length, drop}
-use lib.Seq.{sets, drop-drop}
+use lib.ListN.{length, getD, drop}
+use lib.Seq.{sets, getD-drop, drop-drop}
 use Rattle.session.specs.declared.types.IsoOutcome.{IsoOutcome}
 use Rattle.session.specs.declared.types.TransferStatus.{TransferStatus}
 use Rattle.session.specs.declared.types.IsoRequest.{IsoRequest}
@@ -132,3 +133,33 @@ length-request r = refl
 pub length-plan : (p : IsoPacketPlan) → length (planBytes p) ≡ 7
 unfolding planBytes u16Bytes
 length-plan p = refl
+
+-- ---- a request without an outcome
+
+halves : (ys : List ℕ) → u64Of ys ≡ u16Of ys + 65536 * u16Of (drop 2 ys) + 4294967296 * u32Of (drop 4 ys)
+unfolding u64Of u32Of
+halves ys = refl
+
+pair : (ys : List ℕ) → u16Of ys ≡ byteOf ys + 256 * byteOf (drop 1 ys)
+unfolding u16Of byteOf
+pair ys = ap (λ (n : ℕ). getD ys 0 0 + 256 * n) (sym (getD-drop 1 ys 0 0))
+
+none-bad : (t k w : ℕ) → t ≡ 0 → k ≡ 0 → w ≡ 0 → false ≡ isBadTagged 3 4 (tagged t k w)
+none-bad t k w p q r = rw (p, q, r)
+
+none-of : (ys : List ℕ) → u64Of ys < 65536 → (byteOf (drop 2 ys) ≡ 0) × (byteOf (drop 1 (drop 2 ys)) ≡ 0) × (u32Of (drop 4 ys) ≡ 0)
+none-of ys h =
+    (omega (arith, h, halves ys, pair (drop 2 ys)), omega (arith, h, halves ys, pair (drop 2 ys)), omega (arith, h, halves ys))
+
+-- the count of packets fills the two bytes before it
+pub no-outcome : (xs : List ℕ) (at : ℕ) → u64Of (drop (at + 12) xs) < 65536 → false ≡ isBadRequestBytes (drop at xs)
+unfolding isBadRequestBytes taggedOf
+no-outcome xs at h =
+    let ys : List ℕ = drop (at + 12) xs in
+    let same : at + 14 ≡ at + 12 + 2 = omega arith in
+    let place : drop 14 (drop at xs) ≡ drop 2 ys =
+    drop-drop 14 at xs ∙ ap (λ (n : ℕ). drop n xs) same ∙ sym (drop-drop 2 (at + 12) xs) in
+    let none = none-of ys h in
+    none-bad (byteOf (drop 2 ys)) (byteOf (drop 1 (drop 2 ys))) (u32Of (drop 2 (drop 2 ys))) (none .0) (none .1)
+    (ap u32Of (drop-drop 2 2 ys) ∙ none .2)
+    ∙ sym (ap (λ (l : List ℕ). isBadTagged 3 4 (tagged (byteOf l) (byteOf (drop 1 l)) (u32Of (drop 2 l)))) place)

@@ -3,6 +3,7 @@ use mathlib.Core.Path.{_≡_, refl, _∙_, sym, ap, ap₂}
 use mathlib.Core.Bool.{Bool, true, false, _||_}
 use mathlib.Core.List.{List, [], _∷_, _++_, append-assoc}
 use Prim.Native.Nat.{ℕ, zero, suc, _+_, _-_, _*_, _≤_, _<_}
+use native.Mathlib.Nat.{zero-add, suc-add, zero-mul, suc-mul}
 use native.Mathlib.Numerals.{add-one}
 use native.Mathlib.Omega.{arith}
 use lib.ListN.{length, getD, set, drop, length-append, drop-of-length-le}
@@ -66,6 +67,47 @@ module _ (bad : List ℕ → Bool) (w : ℕ) where
       ap (λ (x : Bool). x || anyOf bad w (n - (i + 1)) (drop (at + w) xs)) e
       ∙ sym (any-next (n - (i + 1)) at xs)
       ∙ ap (λ (k : ℕ). anyOf bad w k (drop at xs)) left
+
+  -- some entries and those behind them
+  any-split :
+      (m n at : ℕ) (xs : List ℕ)
+      → anyOf bad w (m + n) (drop at xs) ≡ (anyOf bad w m (drop at xs) || anyOf bad w n (drop (at + m * w) xs))
+  unfolding anyOf
+  any-split zero n at xs =
+      let none : at ≡ at + 0 * w = omega (arith, zero-mul w) in
+      ap (λ (k : ℕ). anyOf bad w k (drop at xs)) (zero-add n) ∙ ap (λ (k : ℕ). anyOf bad w n (drop k xs)) none
+  any-split (suc m) n at xs =
+      let further : at + w + m * w ≡ at + suc m * w = omega (arith, suc-mul m w) in
+      ap (λ (k : ℕ). anyOf bad w k (drop at xs)) (suc-add m n)
+      ∙ any-next (m + n) at xs
+      ∙ ap (λ (x : Bool). bad (drop at xs) || x) (any-split m n (at + w) xs)
+      ∙ sym (or-assoc (bad (drop at xs)) (anyOf bad w m (drop (at + w) xs)) (anyOf bad w n (drop (at + w + m * w) xs)))
+      ∙ ap₂ (λ (x y : Bool). x || y) (sym (any-next m at xs)) (ap (λ (k : ℕ). anyOf bad w n (drop k xs)) further)
+    where
+      or-assoc : (x y z : Bool) → ((x || y) || z) ≡ (x || (y || z))
+      or-assoc true y z = refl
+      or-assoc false y z = refl
+
+  pub any-one : (at : ℕ) (xs : List ℕ) {b : Bool} → b ≡ bad (drop at xs) → b ≡ anyOf bad w 1 (drop at xs)
+  unfolding anyOf
+  any-one at xs e = e ∙ sym (or-false (bad (drop at xs)))
+    where
+      or-false : (x : Bool) → (x || false) ≡ x
+      or-false true = refl
+      or-false false = refl
+
+  -- two runs of entries, the second behind the first
+  pub any-both :
+      (m n at next : ℕ) (xs : List ℕ) {b c : Bool} → next ≡ at + m * w → b ≡ anyOf bad w m (drop at xs) → c ≡ anyOf bad w n (drop next xs)
+      → (b || c) ≡ anyOf bad w (m + n) (drop at xs)
+  any-both m n at next xs e p q =
+      ap₂ (λ (x y : Bool). x || y) p (q ∙ ap (λ (k : ℕ). anyOf bad w n (drop k xs)) e) ∙ sym (any-split m n at xs)
+
+  -- a run of entries and those still to be looked at behind it
+  pub any-group :
+      (k more left at next : ℕ) (xs : List ℕ) {b : Bool} → left ≡ k + more → next ≡ at + k * w → b ≡ anyOf bad w k (drop at xs)
+      → (b || anyOf bad w more (drop next xs)) ≡ anyOf bad w left (drop at xs)
+  any-group k more left at next xs e f p = any-both k more at next xs f p refl ∙ ap (λ (m : ℕ). anyOf bad w m (drop at xs)) (sym e)
 
   pub any-more :
       (n i at : ℕ) (xs : List ℕ) {b : Bool} → i < n → b ≡ bad (drop at xs) → b ≡ false

@@ -18,13 +18,13 @@ abbrev μ-loop : tie.MeasureT-loop
 loop-holds : tie.Need-loop-holds Inv-loop μ-loop
 loop-holds c = (omega arith, refl, refl)
 
-is-bad-request-at-requires : tie.Need-is-bad-request-at-requires Inv-loop μ-loop
-is-bad-request-at-requires c κs = omega arith
+is-bad-outcome-at-requires : tie.Need-is-bad-outcome-at-requires Inv-loop μ-loop
+is-bad-outcome-at-requires c κs = omega arith
 
 returns : tie.Need-returns Inv-loop μ-loop
 returns c =
     any-found isBadRequestBytes 20 64 (c .before .before .before .loop .i) (c .before .before .before .loop .at)
-    (c .before .before .before .before .before .args .bytes .now) (omega arith) (c .before .is-bad-request-at .ensures) (c .if1 .taken)
+    (c .before .before .before .before .before .args .bytes .now) (omega arith) (c .before .is-bad-outcome-at .ensures) (c .if1 .taken)
     ∙ c .before .before .before .loop .inv .2
 
 add-at : tie.Need-add-at Inv-loop μ-loop
@@ -41,7 +41,7 @@ loop-again c = (
   omega arith,
   omega arith,
   any-more isBadRequestBytes 20 64 (c .before .before .before .loop .i) (c .before .before .before .loop .at)
-      (c .before .before .before .before .before .args .bytes .now) (omega arith) (c .before .is-bad-request-at .ensures) (c .if1 .left)
+      (c .before .before .before .before .before .args .bytes .now) (omega arith) (c .before .is-bad-outcome-at .ensures) (c .if1 .left)
       ∙ c .before .before .before .loop .inv .2,
 )
 
@@ -55,7 +55,7 @@ any-bad-request-spec =
     Inv-loop
     μ-loop
     loop-holds
-    is-bad-request-at-requires
+    is-bad-outcome-at-requires
     returns
     add-at
     add-i
