@@ -103,7 +103,7 @@ module _ {A : Type 0} (f : A → List ℕ) (w : ℕ) (long : (a : A) → length 
 
 module _ (xs : List ℕ) (s : IsoChannelState)
     (enough : 8488 ≤ length xs) (many-requests : length (s .requests) ≡ 64) (many-plans : length (s .plans) ≡ 1024) where
-  length-saved : length (saved s) ≡ 8488
+  pub length-saved : length (saved s) ≡ 8488
   unfolding saved front
   length-saved =
       length-append (front s ++ tableBytes requestBytes (s .requests)) (tableBytes planBytes (s .plans))
