@@ -2,6 +2,7 @@
 mod answers;
 mod calls;
 mod cancel;
+mod drain;
 mod end;
 mod entries;
 mod load;

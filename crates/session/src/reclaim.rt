@@ -23,7 +23,7 @@ use crate::types::IsoPacketPlan;
 use crate::types::IsoRequest;
 use crate::types::TransferStatus;
 
-pub(crate) fn is_done(outcome: IsoOutcome) -> bool
+pub fn is_done(outcome: IsoOutcome) -> bool
     ensures { λ r. ⌜ r ≡ isDone outcome ⌝ }
 {
     match outcome {
@@ -45,7 +45,7 @@ fn error_bit(status: TransferStatus) -> u32
 }
 
 // One packet's result: the length moved, the length asked for and whether it failed.
-fn result_word(plan: IsoPacketPlan) -> u64
+pub fn result_word(plan: IsoPacketPlan) -> u64
     ensures { λ r. ⌜ r ≡ resultWord plan ⌝ }
 {
     let status = plan.status;
@@ -130,7 +130,7 @@ fn handed_length(request: IsoRequest) -> u32
     0
 }
 
-fn handed_answer(request: IsoRequest) -> ReclaimAnswer
+pub fn handed_answer(request: IsoRequest) -> ReclaimAnswer
     ensures { λ r. ⌜ r ≡ handedAnswer request ⌝ }
 {
     let outcome = request.outcome;

@@ -1,0 +1,136 @@
+-- Settling in place: one turn of the walk over the oldest request's plans, and the bytes and the ring after its last store.
+use mathlib.Core.Path.{_≡_, refl, _∙_, sym, ap}
+use mathlib.Core.List.{List, [], _∷_, map}
+use Prim.Native.Nat.{ℕ, _+_, _*_, _≤_, _<_}
+use native.Mathlib.Omega.{arith}
+use lib.ListN.{length, getD, set, drop, length-map, length-set}
+use lib.Seq.{slice, sets, length-sets, length-slice}
+use Rattle.words.specs.declared.types.Direction.{Direction}
+use Rattle.session.specs.declared.types.IsoHead.{IsoHead}
+use Rattle.session.specs.declared.types.IsoOutcome.the-variants.{Done}
+use Rattle.session.specs.declared.types.IsoRequest.{IsoRequest}
+use Rattle.session.specs.declared.types.IsoPacketPlan.{IsoPacketPlan}
+use Rattle.session.specs.declared.types.IsoChannelState.{IsoChannelState}
+use Rattle.session.specs.Session.{blankRequest, blankPlan, packetsOf}
+use Rattle.session.specs.Settle.{settledPlan, oldest, oldestFrom, oldestTo, movedTotal, oneMore, slotsCleared, settledRequest, settledSession, settledRing}
+use Rattle.session.proofs.Laws.Lists.{slice-next, slice-after-set, slice-pushed, slice-sets, amend-by}
+use Rattle.session.proofs.Laws.Sums.{packets-append}
+use Rattle.session.proofs.Laws.Record.{Sound}
+use Rattle.session.proofs.Laws.Settled.{oldest-in, builtBy, settled-by}
+use Rattle.port.specs.Layout.{headBytes, requestBytes, requestOf, sessionOf, saved}
+use Rattle.port.specs.Places.{requestsOf, plansOf, withPlans}
+use Rattle.port.proofs.Laws.Entries.{request}
+use Rattle.port.proofs.Laws.Loaded.{session}
+use Rattle.port.proofs.Laws.Placed.{request-there, request-put, head-put}
+use Rattle.port.proofs.Laws.Walks.{requests-many, plans-many, there}
+
+-- ---- one turn: the plan at `i` became `v`
+
+module _ (f : IsoPacketPlan → IsoPacketPlan) (i to : ℕ) (l : List IsoPacketPlan) {next : List IsoPacketPlan} {v : IsoPacketPlan}
+    (h : i < to) (k : to ≤ length l) (e : next ≡ set l i v) (ev : v ≡ f (getD l i blankPlan)) where
+  pub plans-turn : sets next (i + 1) (map f (slice (i + 1) to next)) ≡ sets l i (map f (slice i to l))
+  plans-turn = ap (λ (m : List IsoPacketPlan). sets m (i + 1) (map f (slice (i + 1) to m))) e ∙ amend-by f i to l blankPlan v h k ev
+
+  pub sum-turn : (sum n : ℕ) → n ≡ v .actual → sum + n + movedTotal (map f (slice (i + 1) to next)) ≡ sum + movedTotal (map f (slice i to l))
+  sum-turn sum n en =
+      let rest : movedTotal (map f (slice (i + 1) to next)) ≡ movedTotal (map f (slice (i + 1) to l)) =
+      ap (λ (m : List IsoPacketPlan). movedTotal (map f (slice (i + 1) to m))) e
+      ∙ ap (λ (m : List IsoPacketPlan). movedTotal (map f m)) (slice-after-set (i + 1) to i l v (omega arith) h) in
+      let whole : movedTotal (map f (slice i to l)) ≡ f (getD l i blankPlan) .actual + movedTotal (map f (slice (i + 1) to l)) =
+      ap (λ (m : List IsoPacketPlan). movedTotal (map f m)) (slice-next i to l blankPlan h k) in
+      let here : v .actual ≡ f (getD l i blankPlan) .actual = ap (λ (p : IsoPacketPlan). p .actual) ev in
+      omega (arith, rest, whole, here, en)
+
+-- settling leaves a plan's slot
+same-slots : (d : Direction) (ring now : List ℕ) (ps : List IsoPacketPlan) → slotsCleared (map (settledPlan d ring) ps) now ≡ slotsCleared ps now
+same-slots d ring now [] = refl
+same-slots d ring now (p ∷ ps) = same-slots d ring (set (set now (2 * p .«desc_index») 0) (2 * p .«desc_index» + 1) 0) ps
+
+-- ---- the whole: `b` holds the settled plans, `c` the settled request besides, `d` the head
+
+module _ (xs ring : List ℕ) (from to : ℕ) (dir : Direction) (long : 8488 ≤ length xs) (g : Sound (sessionOf xs))
+    (h : sessionOf xs .head .done < sessionOf xs .head .count) (ef : from ≡ oldestFrom (sessionOf xs)) (et : to ≡ oldestTo (sessionOf xs))
+    (ed : dir ≡ sessionOf xs .cfg .direction) where
+  abbrev s : IsoChannelState
+  s = sessionOf xs
+
+  abbrev settledBy : Direction → List IsoPacketPlan
+  settledBy d = map (settledPlan d ring) (slice from to (s .plans))
+
+  abbrev table : List IsoPacketPlan
+  table = sets (s .plans) from (settledBy dir)
+
+  table-many : length table ≡ 1024
+  table-many = length-sets (s .plans) from (settledBy dir) ∙ plans-many xs
+
+  plans-end : to ≤ 1024
+  plans-end = omega (arith, et, oldest-in s g h, g .all-few)
+
+  fits : from + length (settledBy dir) ≡ to
+  fits =
+      omega (arith, length-map (slice from to (s .plans)) (settledPlan dir ring), length-slice from to (s .plans) (omega (arith, plans-end, plans-many xs)), ef, et)
+
+  settled-slice : slice from to table ≡ settledBy dir
+  settled-slice =
+      ap (λ (n : ℕ). slice from n table) (sym fits) ∙ slice-sets (settledBy dir) (s .plans) from (omega (arith, fits, plans-end, plans-many xs))
+
+  module _ {b : List ℕ} (eb : b ≡ sets xs 0 (saved (withPlans s table))) where
+    held : sessionOf b ≡ withPlans s table
+    held = ap sessionOf eb ∙ there xs (withPlans s table) long (requests-many xs) table-many
+
+    pub ring-settled : {now : List ℕ} → now ≡ slotsCleared (slice from to (plansOf b)) ring → now ≡ settledRing s ring
+    ring-settled e =
+        e
+        ∙ ap (λ (t : IsoChannelState). slotsCleared (slice from to (t .plans)) ring) held
+        ∙ ap (λ (ps : List IsoPacketPlan). slotsCleared ps ring) settled-slice
+        ∙ same-slots dir ring ring (slice from to (s .plans))
+        ∙ ap (λ (n : ℕ). slotsCleared (slice n to (s .plans)) ring) ef
+        ∙ ap (λ (n : ℕ). slotsCleared (slice (oldestFrom s) n (s .plans)) ring) et
+
+    pub bytes-settled :
+        {c d : List ℕ} {head next : IsoHead} {r : IsoRequest} {total : ℕ} → head ≡ s .head → total ≡ movedTotal (settledBy dir)
+        → r ≡ requestOf (drop (40 + 20 * head .done) b)
+        → c ≡ sets b (40 + 20 * head .done) (requestBytes (request (r .id) (r .packets) total Done))
+        → next ≡ oneMore head
+        → d ≡ sets c 15 (headBytes next)
+        → d ≡ sets xs 0 (saved (settledSession s ring))
+    bytes-settled {c} {d} {head} {next} {r} {total} eh es er ec en ex =
+        let done : ℕ = s .head .done in
+        let in-use : done < 64 = omega (arith, h, g .count-in) in
+        let new : IsoRequest → IsoRequest = λ (q : IsoRequest). request (q .id) (q .packets) total Done in
+        let read : r ≡ oldest s =
+        er
+        ∙ ap (λ (k : IsoHead). requestOf (drop (40 + 20 * k .done) b)) eh
+        ∙ request-there b done blankRequest in-use
+        ∙ ap (λ (t : IsoChannelState). getD (t .requests) done blankRequest) held in
+        let put : c ≡ sets xs 0 (saved (session (s .cfg) (s .head) (s .fatal) (set (s .requests) done (new (oldest s))) table)) =
+        ec
+        ∙ ap (λ (k : IsoHead). sets b (40 + 20 * k .done) (requestBytes (new r))) eh
+        ∙ ap (λ (q : IsoRequest). sets b (40 + 20 * done) (requestBytes (new q))) read
+        ∙ ap (λ (m : List ℕ). sets m (40 + 20 * done) (requestBytes (new (oldest s)))) eb
+        ∙ request-put xs (withPlans s table) long (requests-many xs) table-many done (new (oldest s)) in-use in
+        let same : table ≡ sets (s .plans) from (settledBy (s .cfg .direction)) = ap (λ (x : Direction). sets (s .plans) from (settledBy x)) ed in
+        let sum : total ≡ movedTotal (slice from to table) = es ∙ ap movedTotal (sym settled-slice) in
+        ex
+        ∙ ap (λ (k : IsoHead). sets c 15 (headBytes k)) (en ∙ ap oneMore eh)
+        ∙ ap (λ (m : List ℕ). sets m 15 (headBytes (oneMore (s .head)))) put
+        ∙ head-put xs (session (s .cfg) (s .head) (s .fatal) (set (s .requests) done (new (oldest s))) table) long
+        (length-set (s .requests) done (new (oldest s)) ∙ requests-many xs) table-many (oneMore (s .head))
+        ∙ ap (λ (t : IsoChannelState). sets xs 0 (saved t))
+        (settled-by s ring from to ef et total table (omega (arith, et, plans-end, plans-many xs)) same sum)
+
+-- ---- request by request
+
+pub oldest-ends :
+    (s : IsoChannelState) (from done n : ℕ) → from ≡ oldestFrom s → done ≡ s .head .done → n ≡ getD (s .requests) done blankRequest .packets
+    → from + n ≡ oldestTo s
+oldest-ends s from done n ef ed en = omega (arith, ef, en, ap (λ (k : ℕ). getD (s .requests) k blankRequest .packets) ed)
+
+-- the next one's plans begin where the settled one's end
+pub settled-from :
+    (s : IsoChannelState) (ring : List ℕ) → Sound s → s .head .done < s .head .count → oldestFrom (settledSession s ring) ≡ oldestTo s
+settled-from s ring g h =
+    let within : s .head .done < length (s .requests) = omega (arith, g .requests-long, g .count-in) in
+    ap packetsOf (slice-pushed 0 (s .head .done) (s .requests) (settledRequest s ring) (omega arith) within)
+    ∙ packets-append (slice 0 (s .head .done) (s .requests)) (settledRequest s ring ∷ [])
+    ∙ omega arith

@@ -1,0 +1,68 @@
+-- The invariant: the slots still to be cleared, cleared on the ring as it is now, give the goal. The measure is how many plans are left.
+use mathlib.Core.Path.{_≡_, refl, _∙_, sym, ap}
+use Prim.Native.Nat.{ℕ, _+_, _-_, _*_, _≤_}
+use native.Mathlib.Omega.{arith}
+use lib.ListN.{length, set}
+use lib.Seq.{slice}
+use borrow.Author.Needs.{needs}
+use Rattle.session.specs.Settle.{slotsCleared}
+use Rattle.session.proofs.Laws.Settled.{cleared-next, cleared-past}
+use Rattle.port.specs.Places.{plansOf}
+use Rattle.port.proofs.Laws.Walks.{plans-many}
+use Rattle.port.proofs.drain.clear_slots_at.Statement.{statement}
+use Rattle.port.proofs.drain.clear_slots_at.Tie as tie
+
+abbrev Inv-loop : tie.InvT-loop
+Inv-loop bytes from to ring₀ i₀ ring i =
+    (length ring ≡ length ring₀) × (slotsCleared (slice i to (plansOf bytes)) ring ≡ slotsCleared (slice from to (plansOf bytes)) ring₀)
+
+abbrev μ-loop : tie.MeasureT-loop
+μ-loop bytes from to ring₀ i₀ ring i = to - i
+
+loop-holds : tie.Need-loop-holds Inv-loop μ-loop
+loop-holds c = (refl, refl)
+
+slot-at-requires : tie.Need-slot-at-requires Inv-loop μ-loop
+slot-at-requires c κs = omega arith
+
+clear-slot-requires : tie.Need-clear-slot-requires Inv-loop μ-loop
+clear-slot-requires c κs = search needs
+
+add-i : tie.Need-add-i Inv-loop μ-loop
+add-i c = omega arith
+
+loop-less : tie.Need-loop-less Inv-loop μ-loop
+loop-less c = omega arith
+
+loop-again : tie.Need-loop-again Inv-loop μ-loop
+loop-again c =
+    let a = c .before .before .before .before .before .before .before .before .before .args in
+    let now = c .before .before .before .before .before .before .loop in
+    let plans = plansOf (a .bytes .now) in
+    let zero-at = c .before .before .clear-slot .ensures ∙ ap (λ (n : ℕ). set (set (now .ring) (2 * n) 0) (2 * n + 1) 0) (c .before .before .before .slot-at .ensures) in (
+      c .before .before .clear-slot .kept .0 ∙ now .inv .0,
+      cleared-next (now .i) (a .to) plans (now .ring) _ (omega arith) (omega (arith, plans-many (a .bytes .now))) zero-at ∙ now .inv .1,
+    )
+
+same-length : tie.Need-same-length Inv-loop μ-loop
+same-length c = c .before .loop .inv .0
+
+returns : tie.Need-returns Inv-loop μ-loop
+returns c =
+    let a = c .before .before .before .before .args in
+    cleared-past (c .before .loop .i) (a .to) (plansOf (a .bytes .now)) (c .before .loop .ring) (omega arith) ∙ c .before .loop .inv .1
+
+pub clear-slots-at-spec : {M : Type 1} → statement M
+clear-slots-at-spec =
+    tie.close
+    (tie.spec
+    Inv-loop
+    μ-loop
+    loop-holds
+    slot-at-requires
+    clear-slot-requires
+    add-i
+    loop-less
+    loop-again
+    same-length
+    returns)

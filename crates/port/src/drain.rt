@@ -1,0 +1,166 @@
+// Settling on the session's bytes: document 01, "Poll". The oldest requests are completed where they stand; nothing else is read or written.
+ghost use mathlib.Core.Path.{_≡_};
+ghost use mathlib.Core.Bool.{false, not};
+ghost use mathlib.Core.List.{map};
+ghost use Prim.Native.Nat.{_+_, _-_, _*_, _≤_, _<_};
+ghost use lib.ListN.{length, getD};
+ghost use lib.Seq.{slice, sets};
+ghost use Rattle.words.specs.Words.{isSet, active};
+ghost use Rattle.session.specs.Session.{blankRequest, blankPlan, packetsOf};
+ghost use Rattle.session.specs.Record.{isBadRecord};
+ghost use Rattle.session.specs.Settle.{settledPlan, oldestFrom, oldestTo, movedTotal, oneMore, slotsCleared, settledSession, settledRing, drained};
+ghost use Rattle.port.specs.Layout.{layoutNumber, sessionOf, saved};
+ghost use Rattle.port.specs.Places.{requestsOf, plansOf, withPlans};
+use crate::entries::plan_at;
+use crate::entries::put_plan;
+use crate::entries::put_request;
+use crate::entries::request_at;
+use crate::load::head_at;
+use crate::numbers::byte_at;
+use crate::numbers::u16_at;
+use crate::save::put_head;
+use crate::tags::direction_of;
+use session::IsoHead;
+use session::IsoOutcome;
+use session::IsoPacketPlan;
+use session::IsoRequest;
+use session::settled_plan;
+use words::Direction;
+use words::clear_slot;
+use words::is_active_at;
+
+// The packets of the request at a place.
+pub(crate) fn packets_at(bytes: &[u8], i: usize) -> usize
+    requires { ⌜ (8488 ≤ length (now bytes)) × (i < 64) ⌝ }
+    ensures { λ r. ⌜ (r ≡ getD (requestsOf (now (bytes .entry))) i blankRequest .packets) × (r ≤ 65535) ⌝ }
+{
+    u16_at(bytes, 52 + 20 * i) as usize
+}
+
+// The packets of the requests before a place: where the plans of the one that stands there begin.
+pub(crate) fn packets_before(bytes: &[u8], end: u16) -> usize
+    requires { ⌜ (8488 ≤ length (now bytes)) × (end ≤ 64) ⌝ }
+    ensures { λ r. ⌜ r ≡ packetsOf (slice 0 end (requestsOf (now (bytes .entry)))) ⌝ }
+{
+    let mut sum: usize = 0;
+    let mut i: usize = 0;
+    while i < end as usize {
+        sum += packets_at(bytes, i);
+        i += 1;
+    }
+    sum
+}
+
+// The slot of the plan at a place.
+fn slot_at(bytes: &[u8], i: usize) -> u16
+    requires { ⌜ (8488 ≤ length (now bytes)) × (i < 1024) ⌝ }
+    ensures { λ r. ⌜ r ≡ getD (plansOf (now (bytes .entry))) i blankPlan .«desc_index» ⌝ }
+{
+    u16_at(bytes, 1_322 + 7 * i)
+}
+
+fn length_of(plan: IsoPacketPlan) -> u32
+    ensures { λ r. ⌜ (r ≡ plan .actual) × (r ≤ 65535) ⌝ }
+{
+    plan.actual as u32
+}
+
+// Settles the plans from `from` to `to`, each where it stands, and answers the bytes that they moved.
+fn settle_plans_at(
+    bytes: &mut [u8],
+    from: usize,
+    to: usize,
+    direction: Direction,
+    ring: &[u32],
+) -> u32
+    requires { ⌜ (layoutNumber (now bytes) ≡ 0) × (from ≤ to) × (to ≤ 1024) ⌝ }
+    ensures { λ r. ⌜ (r ≡ movedTotal (map (settledPlan direction (now (ring .entry))) (slice from to (plansOf (now (bytes .entry)))))) × (now (bytes .exit) ≡ sets (now (bytes .entry)) 0 (saved (withPlans (sessionOf (now (bytes .entry))) (sets (plansOf (now (bytes .entry))) from (map (settledPlan direction (now (ring .entry))) (slice from to (plansOf (now (bytes .entry))))))))) ⌝ }
+{
+    let mut sum: u32 = 0;
+    let mut i = from;
+    while i < to {
+        let at = 1_320 + 7 * i;
+        let plan = settled_plan(direction, plan_at(bytes, at), ring);
+        put_plan(bytes, at, plan);
+        sum += length_of(plan);
+        i += 1;
+    }
+    sum
+}
+
+// Both words of the slots of the plans from `from` to `to` become zero.
+fn clear_slots_at(bytes: &[u8], from: usize, to: usize, ring: &mut [u32])
+    requires { ⌜ (8488 ≤ length (now bytes)) × (to ≤ 1024) ⌝ }
+    ensures { λ _. ⌜ now (ring .exit) ≡ slotsCleared (slice from to (plansOf (now (bytes .entry)))) (now (ring .entry)) ⌝ }
+{
+    let mut i = from;
+    while i < to {
+        clear_slot(ring, slot_at(bytes, i));
+        i += 1;
+    }
+}
+
+// Completes the oldest pending request, whose plans are those from `from` to `to`; its slots become zero after all of them were read.
+fn settle_at(bytes: &mut [u8], from: usize, to: usize, ring: &mut [u32])
+    requires { ⌜ (layoutNumber (now bytes) ≡ 0) × (isBadRecord (sessionOf (now bytes)) ≡ false) × (sessionOf (now bytes) .head .done < sessionOf (now bytes) .head .count) × (from ≡ oldestFrom (sessionOf (now bytes))) × (to ≡ oldestTo (sessionOf (now bytes))) ⌝ }
+    ensures { λ _. ⌜ (now (bytes .exit) ≡ sets (now (bytes .entry)) 0 (saved (settledSession (sessionOf (now (bytes .entry))) (now (ring .entry))))) × (now (ring .exit) ≡ settledRing (sessionOf (now (bytes .entry))) (now (ring .entry))) ⌝ }
+{
+    let head = head_at(bytes);
+    let direction = direction_of(byte_at(bytes, 6));
+    let total = settle_plans_at(bytes, from, to, direction, ring);
+    clear_slots_at(bytes, from, to, ring);
+    let place = 40 + 20 * head.done as usize;
+    let request = request_at(bytes, place);
+    let settled = IsoRequest {
+        id: request.id,
+        packets: request.packets,
+        actual_length: total,
+        outcome: IsoOutcome::Done,
+    };
+    put_request(bytes, place, settled);
+    put_head(bytes, one_more(head));
+}
+
+fn one_more(head: IsoHead) -> IsoHead
+    requires { ⌜ head .done < 64 ⌝ }
+    ensures { λ r. ⌜ r ≡ oneMore head ⌝ }
+{
+    IsoHead {
+        next_request_id: head.next_request_id,
+        live: head.live,
+        td_last: head.td_last,
+        start_full_frame: head.start_full_frame,
+        done: head.done + 1,
+        count: head.count,
+    }
+}
+
+// The last descriptor of the request whose plans end at `to` is no longer the controller's.
+fn is_served_at(bytes: &[u8], to: usize, ring: &[u32]) -> bool
+    requires { ⌜ (8488 ≤ length (now bytes)) × (0 < to) × (to ≤ 1024) ⌝ }
+    ensures { λ r. ⌜ r ≡ not (isSet active (getD (now (ring .entry)) (2 * getD (plansOf (now (bytes .entry))) (to - 1) blankPlan .«desc_index») 0)) ⌝ }
+{
+    !is_active_at(ring, slot_at(bytes, to - 1))
+}
+
+// Settles the oldest request at once where the bit is set, then each oldest one that is served.
+pub(crate) fn drain_at(bytes: &mut [u8], bit: bool, ring: &mut [u32])
+    requires { ⌜ (layoutNumber (now bytes) ≡ 0) × (isBadRecord (sessionOf (now bytes)) ≡ false) ⌝ }
+    ensures { λ _. ⌜ (now (bytes .exit) ≡ sets (now (bytes .entry)) 0 (saved (drained bit (sessionOf (now (bytes .entry))) (now (ring .entry)) .session))) × (now (ring .exit) ≡ drained bit (sessionOf (now (bytes .entry))) (now (ring .entry)) .ring) ⌝ }
+{
+    let head = head_at(bytes);
+    let count = head.count;
+    let mut done = head.done;
+    let mut from = packets_before(bytes, done);
+    let mut at_once = bit;
+    while done < count {
+        let to = from + packets_at(bytes, done as usize);
+        if !(at_once | is_served_at(bytes, to, ring)) {
+            return;
+        }
+        settle_at(bytes, from, to, ring);
+        at_once = false;
+        from = to;
+        done += 1;
+    }
+}
