@@ -1,12 +1,16 @@
 // The C interface: document 01, "What must change shape", and include/dwc2_port.h. A session crosses as bytes (docs/LAYOUT.md).
 mod answers;
 mod calls;
+mod cancel;
 mod drain;
+mod end;
 mod entries;
 mod load;
 mod numbers;
 mod planning;
+mod poll;
 mod requests;
+mod reset;
 mod ring_sums;
 mod save;
 mod scan;
