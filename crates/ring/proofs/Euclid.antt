@@ -1,10 +1,9 @@
 -- Laws of Euclid's rule. One induction over its steps gives that the answer divides both numbers, and that whatever divides a multiple of
 -- both divides the same multiple of the answer; with that, no linear combination is needed.
-use mathlib.Core.Path.{_≡_, _∙_, sym, ap, ap₂, subst, subst⁻¹}
-use mathlib.Core.Logic.{_⊎_, inl, inr}
+use mathlib.Core.Path.{_≡_, subst, subst⁻¹}
 use mathlib.Core.WellFounded.{Acc, Acc·intro}
-use Prim.Native.Nat.{ℕ, zero, suc, _+_, _-_, _*_, _/_, _%_, _<_, _∣_, max, min}
-use native.Mathlib.Nat.{mod-lt, mod-eq-of-lt, mul-add-mod-self-left, mul-lt-mul-of-pos-left, mul-comm, eq-zero-or-pos, zero-lt-suc, dvd-refl, dvd-zero, dvd-mod-iff, dvd-add-iff-right, dvd-mul-right-of-dvd, div-add-mod, mul-add, mul-assoc}
+use Prim.Native.Nat.{ℕ, zero, suc, _+_, _*_, _/_, _%_, _<_, _∣_, max}
+use native.Mathlib.Nat.{mod-lt, zero-lt-suc, dvd-refl, dvd-zero, dvd-mod-iff, dvd-add-iff-right, dvd-mul-right-of-dvd, div-add-mod, mul-add, mul-assoc}
 use native.Mathlib.Omega.{arith}
 use lib.WfN.{Nat·lt-wfRel}
 use Rattle.ring.specs.Gcd.{gcd, gcd-zero, gcd-step}
@@ -49,63 +48,3 @@ gcd-greatest n m = euclid-induction (λ a b. 0 < a + b → n ∣ m * a → n ∣
 
     step : (a b : ℕ) → 0 < b → (0 < b + a % b → n ∣ m * b → n ∣ m * (a % b) → n ∣ m * gcd b (a % b)) → 0 < a + b → n ∣ m * a → n ∣ m * b → n ∣ m * gcd a b
     step a b h ih _ p q = subst⁻¹ (λ (x : ℕ). n ∣ m * x) (gcd-step a b h) (ih (omega arith) q (rest a b p q))
-
--- ---- as the code goes: the larger number first, and both times 65,536
-
--- the first step of Euclid's rule exchanges two numbers that are not in order
-pub gcd-ordered : (a b : ℕ) → gcd (max a b) (min a b) ≡ gcd a b
-gcd-ordered a b = by-order (eq-zero-or-pos (b - a))
-  where
-    by-order : (b - a ≡ 0) ⊎ (0 < b - a) → gcd (max a b) (min a b) ≡ gcd a b
-    by-order (inl e) = let p : max a b ≡ a = omega arith in let q : min a b ≡ b = omega arith in ap₂ gcd p q
-    by-order (inr h) =
-        let p : max a b ≡ b = omega arith in
-        let q : min a b ≡ a = omega arith in
-        let less : a < b = omega arith in
-        ap₂ gcd p q ∙ ap (gcd b) (sym (mod-eq-of-lt less)) ∙ sym (gcd-step a b (omega arith))
-
-scaled-mod : (k a b : ℕ) → 0 < k → 0 < b → k * a % (k * b) ≡ k * (a % b)
-scaled-mod k a b p q =
-    ap (λ (x : ℕ). x % (k * b)) parts ∙ mul-add-mod-self-left (k * b) (a / b) (k * (a % b)) ∙ mod-eq-of-lt (mul-lt-mul-of-pos-left (mod-lt a q) p)
-  where
-    parts : k * a ≡ k * b * (a / b) + k * (a % b)
-    parts =
-        ap (λ (x : ℕ). k * x) (sym (div-add-mod a b))
-        ∙ mul-add k (b * (a / b)) (a % b)
-        ∙ ap (λ (x : ℕ). x + k * (a % b)) (sym (mul-assoc k b (a / b)))
-
-gcd-scaled : (a b : ℕ) → 0 < a + b → gcd (65536 * a) (65536 * b) ≡ 65536 * gcd a b
-gcd-scaled = euclid-induction (λ a b. 0 < a + b → gcd (65536 * a) (65536 * b) ≡ 65536 * gcd a b) base step
-  where
-    base : (a : ℕ) → 0 < a + 0 → gcd (65536 * a) (65536 * 0) ≡ 65536 * gcd a 0
-    base a h =
-        let p : max 1 (65536 * a) ≡ 65536 * max 1 a = omega arith in
-        gcd-zero (65536 * a) ∙ p ∙ ap (λ (x : ℕ). 65536 * x) (sym (gcd-zero a))
-
-    step : (a b : ℕ) → 0 < b → (0 < b + a % b → gcd (65536 * b) (65536 * (a % b)) ≡ 65536 * gcd b (a % b)) → 0 < a + b
-        → gcd (65536 * a) (65536 * b) ≡ 65536 * gcd a b
-    step a b h ih _ =
-        gcd-step (65536 * a) (65536 * b) (omega arith)
-        ∙ ap (gcd (65536 * b)) (scaled-mod 65536 a b (omega arith) h)
-        ∙ ih (omega arith)
-        ∙ ap (λ (x : ℕ). 65536 * x) (sym (gcd-step a b h))
-
--- the rule on both numbers times 65,536 gives the answer times 65,536, or at most 1 where both are 0
-pub gcd-wide : (a b r : ℕ) → max 1 r ≡ gcd (max a b * 65536) (min a b * 65536) → max 1 (r / 65536) ≡ gcd a b
-gcd-wide a b r e = both (eq-zero-or-pos (a + b))
-  where
-    wide : max 1 r ≡ gcd (65536 * max a b) (65536 * min a b)
-    wide = e ∙ ap₂ gcd (mul-comm (max a b) 65536) (mul-comm (min a b) 65536)
-
-    both : (a + b ≡ 0) ⊎ (0 < a + b) → max 1 (r / 65536) ≡ gcd a b
-    both (inl none) =
-        let p : a ≡ 0 = omega arith in
-        let q : b ≡ 0 = omega arith in
-        let large : 65536 * max a b ≡ 0 = omega arith in
-        let small : 65536 * min a b ≡ 0 = omega arith in
-        let one : max 1 r ≡ 1 = wide ∙ ap₂ gcd large small ∙ gcd-zero 0 in
-        let low : max 1 (r / 65536) ≡ 1 = omega arith in
-        low ∙ sym (ap₂ gcd p q ∙ gcd-zero 0)
-    both (inr some) =
-        let scaled : max 1 r ≡ 65536 * gcd a b = wide ∙ gcd-scaled (max a b) (min a b) (omega arith) ∙ ap (λ (x : ℕ). 65536 * x) (gcd-ordered a b) in
-        omega (arith, scaled, gcd-pos a b)

@@ -1,41 +1,19 @@
 // The grid of slots that a channel visits: document 01, "Ring sums".
 ghost use mathlib.Core.Path.{_≡_};
-ghost use Prim.Native.Nat.{_<_, max, min};
+ghost use Prim.Native.Nat.{_<_, max};
 ghost use Rattle.ring.specs.Gcd.{gcd as Gcd·gcd};
 ghost use Rattle.ring.specs.RingSums.{ringSize, gridStep, capacity, gridGap, gridSlot};
 use crate::speed::Speed;
 use crate::speed::iso_ring_size;
 
-// The greatest common divisor by Euclid's rule on remainders; 1 for 0 and 0, so that nothing divides by 0. The larger number is
-// divided first, which spares a division, and both stand in the upper half of a word: divisions of 16 bits are slower.
+// The greatest common divisor by Euclid's rule on remainders; 1 for 0 and 0, so that nothing divides by 0.
 pub fn gcd(a: u16, b: u16) -> u16
     ensures { λ r. ⌜ r ≡ Gcd·gcd a b ⌝ }
 {
-    let large = larger(a, b) as u32 * 65_536;
-    let small = smaller(a, b) as u32 * 65_536;
-    at_least_one((euclid(large, small) / 65_536) as u16)
-}
-
-// Euclid's rule; 0 for 0 and 0.
-fn euclid(a: u32, b: u32) -> u32
-    ensures { λ r. ⌜ max 1 r ≡ Gcd·gcd a b ⌝ }
-{
     if b == 0 {
-        return a;
+        return at_least_one(a);
     }
-    euclid(b, a % b)
-}
-
-fn larger(a: u16, b: u16) -> u16
-    ensures { λ r. ⌜ r ≡ max a b ⌝ }
-{
-    if a < b { b } else { a }
-}
-
-fn smaller(a: u16, b: u16) -> u16
-    ensures { λ r. ⌜ r ≡ min a b ⌝ }
-{
-    if a < b { a } else { b }
+    gcd(b, a % b)
 }
 
 pub(crate) fn at_least_one(x: u16) -> u16

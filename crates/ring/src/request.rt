@@ -6,9 +6,6 @@ ghost use Rattle.ring.specs.RingSums.{nextNumber};
 pub fn next_request_id(id: u64) -> u64
     ensures { λ r. ⌜ r ≡ nextNumber id ⌝ }
 {
-    if id == 18_446_744_073_709_551_615 {
-        1
-    } else {
-        id + 1
-    }
+    let next = std::num::wrapping_add_u64(id, 1);
+    if next == 0 { 1 } else { next }
 }
