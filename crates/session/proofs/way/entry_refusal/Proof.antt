@@ -4,7 +4,7 @@ use mathlib.Core.Bool.{true, false, not, _||_, _&&_}
 use Prim.Native.Nat.{ℕ, _+_, _-_, _≤_, _<_}
 use native.Mathlib.Omega.{arith}
 use lib.Dec.{eqb, leb, ltb}
-use borrow.Author.Tests.{lt-ltb, le-ltb, ltb-false}
+use borrow.Author.Tests.{lt-ltb, le-ltb, ltb-false, leb-false}
 use Rattle.session.specs.Session.{ringWords, room, allPackets, pendingPackets}
 use Rattle.session.specs.Record.{isBadRecord}
 use Rattle.session.specs.Scan.{whole}
@@ -12,6 +12,7 @@ use Rattle.session.specs.Way.{isOver}
 use Rattle.session.proofs.Laws.Sums.{room-few}
 use Rattle.session.proofs.Laws.Record.{good-sums}
 use Rattle.words.proofs.Laws.Limits.{rest-test}
+use Rattle.words.proofs.Laws.Tests.{neither}
 use Rattle.session.proofs.Laws.Ways.{full-test, entry-equal, entry-short, entry-bad, entry-rest, not-over}
 use borrow.Author.Needs.{needs}
 use Rattle.session.proofs.way.entry_refusal.Statement.{statement}
@@ -71,8 +72,12 @@ returns-3 c =
           ∙ entry-equal (not (a .transfer .isochronous)) (eqb n 0) (not (a .transfer .«has_buffer»)) alone (c .before .before .before .before .before .has-reason .ensures) (c .before .before .before .before .is-low .ensures) over full
           ∙ entry-rest _ (long ((c .before .before .before .before .before .before .before .before .before .before .before .before))) bad,
       λ z.
-          let off : ltb (c .before .before .before .before .before .before .before .before .rest .result) n ≡ false = not-over (c .before .before .before .before .before .has-reason .result) (c .before .before .before .before .is-low .result) (not (a .transfer .isochronous)) (eqb n 0) (not (a .transfer .«has_buffer»)) (ltb (c .before .before .before .before .before .before .before .before .rest .result) n && alone) (ltb (c .before .before .before .before .before .before .before .before .rest .result) n) last (sym (c .entry-number .ensures) ∙ z) in
-          omega (arith, ltb-false (c .before .before .before .before .before .before .before .before .rest .result) n off, c .before .before .before .before .before .before .before .before .rest .ensures, most, room-few (a .cfg)),
+          let over = ltb (c .before .before .before .before .before .before .before .before .rest .result) n in
+          let off = not-over (c .before .before .before .before .before .has-reason .result) (c .before .before .before .before .is-low .result) (not (a .transfer .isochronous)) (eqb n 0) (not (a .transfer .«has_buffer»)) (over && alone) over last (sym (c .entry-number .ensures) ∙ z) in (
+            omega (arith, ltb-false (c .before .before .before .before .before .before .before .before .rest .result) n (off .0), c .before .before .before .before .before .before .before .before .rest .ensures, most, room-few (a .cfg)),
+            leb-false 64 (a .head .count) (neither (leb 64 (a .head .count)) (ltb (c .before .before .before .before .before .before .rest2 .result) n) (off .1) .0),
+            ltb-false (a .words) (ringWords (a .cfg)) (long ((c .before .before .before .before .before .before .before .before .before .before .before .before))),
+          ),
     )
 
 pub entry-refusal-spec : {M : Type 1} → statement M
