@@ -11,5 +11,6 @@ pub mod Planning
 pub mod Requests
 pub mod Runs
 pub mod Saved
+pub mod Scans
 pub mod Tables
 pub mod Tags

@@ -8,6 +8,7 @@ mod planning;
 mod requests;
 mod ring_sums;
 mod save;
+mod scan;
 mod setup;
 mod stages;
 mod tags;

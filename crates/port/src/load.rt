@@ -25,7 +25,7 @@ use session::IsoPacketPlan;
 use session::IsoRequest;
 use session::TransferStatus;
 
-fn config_at(bytes: &[u8]) -> IsoConfig
+pub(crate) fn config_at(bytes: &[u8]) -> IsoConfig
     requires { ⌜ 8488 ≤ length (now bytes) ⌝ }
     ensures { λ r. ⌜ r ≡ configOf (now (bytes .entry)) ⌝ }
 {
@@ -41,7 +41,7 @@ fn config_at(bytes: &[u8]) -> IsoConfig
     }
 }
 
-fn head_at(bytes: &[u8]) -> IsoHead
+pub(crate) fn head_at(bytes: &[u8]) -> IsoHead
     requires { ⌜ 8488 ≤ length (now bytes) ⌝ }
     ensures { λ r. ⌜ r ≡ headOf (now (bytes .entry)) ⌝ }
 {

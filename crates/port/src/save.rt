@@ -50,7 +50,7 @@ fn put_config(bytes: &mut [u8], cfg: IsoConfig)
     put_three(bytes, 12, cfg.endpoint, cfg.device, cfg.mult);
 }
 
-fn put_head(bytes: &mut [u8], head: IsoHead)
+pub(crate) fn put_head(bytes: &mut [u8], head: IsoHead)
     requires { ⌜ 8488 ≤ length (now bytes) ⌝ }
     ensures { λ _. ⌜ now (bytes .exit) ≡ sets (now (bytes .entry)) 15 (headBytes head) ⌝ }
 {

@@ -11,6 +11,7 @@ use Rattle.session.specs.declared.types.IsoFatal.{IsoFatal}
 use Rattle.session.specs.declared.types.IsoFatal.the-variants as fatal
 use Rattle.session.specs.declared.types.IsoHaltReason.{IsoHaltReason}
 use Rattle.session.specs.declared.types.IsoHaltReason.the-variants as reason
+use Rattle.session.specs.declared.types.IsoHead.{IsoHead}
 use Rattle.session.specs.declared.types.IsoOutcome.{IsoOutcome}
 use Rattle.session.specs.declared.types.IsoOutcome.the-variants as outcome
 use Rattle.session.specs.declared.types.IsoChannelState.{IsoChannelState}
@@ -41,10 +42,13 @@ wayByFault fault.Nothing f word = wayByReason f word
 wayByFault (fault.Fault kind) f word = cond (isSet halted word) (End (outcome.Fault kind word)) (Halt (reason.Fault kind word))
 
 -- "Poll changes nothing without a live channel or a reported event (0 may be one)"; "unplugged ends the session with that error"
+abbrev pub wayOf : IsoHead → IsoFatal → IsoEvent → PollWay
+wayOf h f e =
+    cond (not (h .live) || not (e .reported)) Nothing
+    (cond (e .unplugged) (End outcome.Disconnected) (wayByFault (hcintFault (e .hcint)) f (e .hcint)))
+
 abbrev pub pollWay : IsoChannelState → IsoEvent → PollWay
-pollWay s e =
-    cond (not (s .head .live) || not (e .reported)) Nothing
-    (cond (e .unplugged) (End outcome.Disconnected) (wayByFault (hcintFault (e .hcint)) (s .fatal) (e .hcint)))
+pollWay s e = wayOf (s .head) (s .fatal) e
 
 abbrev pub withReason : IsoHaltReason → IsoChannelState → IsoChannelState
 withReason r s = record { cfg = s .cfg; head = s .head; fatal = fatal.Reason r; requests = s .requests; plans = s .plans }

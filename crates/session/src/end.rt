@@ -37,7 +37,7 @@ fn fail_requests(
     table
 }
 
-pub(crate) fn with_outcome(request: IsoRequest, outcome: IsoOutcome) -> IsoRequest
+pub fn with_outcome(request: IsoRequest, outcome: IsoOutcome) -> IsoRequest
     ensures { λ r. ⌜ r ≡ withOutcome outcome request ⌝ }
 {
     IsoRequest {

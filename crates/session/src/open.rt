@@ -1,6 +1,8 @@
 // Opening: document 01, "The session". One endpoint configuration is fixed, and the ring is zeroed.
 ghost use mathlib.Core.Path.{_≡_};
+ghost use mathlib.Core.Bool.{cond};
 ghost use Prim.Native.Nat.{_≤_};
+ghost use lib.Dec.{ltb};
 ghost use lib.ListN.{length};
 ghost use Rattle.session.specs.Session.{idleSession, cleared, ringWords};
 ghost use Rattle.session.specs.Open.{opened, openedRing};
@@ -47,7 +49,7 @@ impl IsoChannelState {
 }
 
 // Two words a slot.
-pub(crate) fn ring_words(cfg: IsoConfig) -> usize
+pub fn ring_words(cfg: IsoConfig) -> usize
     ensures { λ r. ⌜ (r ≡ ringWords cfg) × (r ≤ 512) ⌝ }
 {
     let speed = cfg.speed;
@@ -63,6 +65,16 @@ pub(crate) fn clear_ring(ring: &mut [u32], words: usize)
         ring[i] = 0;
         i += 1;
     }
+}
+
+// The first words zero; a ring that has fewer stays as it was.
+pub fn clear_first(ring: &mut [u32], words: usize)
+    ensures { λ _. ⌜ now (ring .exit) ≡ cond (ltb (length (now (ring .entry))) words) (now (ring .entry)) (cleared words (now (ring .entry))) ⌝ }
+{
+    if ring.len() < words {
+        return;
+    }
+    clear_ring(ring, words);
 }
 
 fn idle_session(cfg: IsoConfig) -> IsoChannelState

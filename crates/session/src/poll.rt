@@ -5,7 +5,7 @@ ghost use Prim.Native.Nat.{_≤_};
 ghost use lib.ListN.{length};
 ghost use Rattle.session.specs.Session.{ringWords};
 ghost use Rattle.session.specs.Record.{isBadRecord};
-ghost use Rattle.session.specs.Poll.{outcomeOf, wayByReason, wayByFault, pollWay, polledBy, polledRingBy, polled, polledRing};
+ghost use Rattle.session.specs.Poll.{outcomeOf, wayByReason, wayByFault, wayOf, pollWay, polledBy, polledRingBy, polled, polledRing};
 use crate::open::ring_words;
 use crate::reply::IsoEvent;
 use crate::reply::IsoReply;
@@ -15,6 +15,7 @@ use crate::reply::refused;
 use crate::types::IsoChannelState;
 use crate::types::IsoFatal;
 use crate::types::IsoHaltReason;
+use crate::types::IsoHead;
 use crate::types::IsoOutcome;
 use words::HcintFault;
 use words::hcint_chhltd;
@@ -68,20 +69,27 @@ fn way_by_fault(fault: HcintFault, fatal: IsoFatal, hcint: u32) -> PollWay
     }
 }
 
+// The way of an event, by the numbers and the reason of the session that it meets.
+pub fn way_of(head: IsoHead, fatal: IsoFatal, event: IsoEvent) -> PollWay
+    ensures { λ r. ⌜ r ≡ wayOf head fatal event ⌝ }
+{
+    if !head.live | !event.reported {
+        return PollWay::Nothing;
+    }
+    if event.unplugged {
+        return PollWay::End(IsoOutcome::Disconnected);
+    }
+    let hcint = event.hcint;
+    way_by_fault(hcint_fault(hcint), fatal, hcint)
+}
+
 impl IsoChannelState {
     pub(crate) fn poll_way(self, event: IsoEvent) -> PollWay
         ensures { λ r. ⌜ r ≡ pollWay self event ⌝ }
     {
         let head = self.head;
-        if !head.live | !event.reported {
-            return PollWay::Nothing;
-        }
-        if event.unplugged {
-            return PollWay::End(IsoOutcome::Disconnected);
-        }
         let fatal = self.fatal;
-        let hcint = event.hcint;
-        way_by_fault(hcint_fault(hcint), fatal, hcint)
+        way_of(head, fatal, event)
     }
 }
 

@@ -73,7 +73,7 @@ pub fn is_bad_state(head: IsoHead, slots: u16, fatal: IsoFatal) -> bool
 }
 
 // The packets of the request at `at`, where it is pending.
-fn wide_from(done: u16, at: u16, packets: u16) -> u32
+pub fn wide_from(done: u16, at: u16, packets: u16) -> u32
     ensures { λ r. ⌜ (r ≡ cond (ltb at done) 0 packets) × (r ≤ packets) ⌝ }
 {
     if at < done {
@@ -83,7 +83,7 @@ fn wide_from(done: u16, at: u16, packets: u16) -> u32
 }
 
 // Where a record is bad the rest is not read.
-fn bad_scan() -> RecordScan
+pub fn bad_scan() -> RecordScan
     ensures { λ r. ⌜ r .bad ≡ true ⌝ }
 {
     RecordScan {

@@ -45,14 +45,14 @@ pub(crate) fn packets_of(requests: [IsoRequest; 64], from: u16, to: u16) -> u32
     sum
 }
 
-pub(crate) fn wide(x: u16) -> u32
+pub fn wide(x: u16) -> u32
     ensures { λ r. ⌜ (r ≡ x) × (r ≤ 65535) ⌝ }
 {
     x as u32
 }
 
 // What is left of `all`.
-pub(crate) fn rest(all: u32, used: u32) -> usize
+pub fn rest(all: u32, used: u32) -> usize
     ensures { λ r. ⌜ r ≡ all - used ⌝ }
 {
     if all <= used {
