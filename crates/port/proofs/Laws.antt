@@ -12,5 +12,6 @@ pub mod Requests
 pub mod Runs
 pub mod Saved
 pub mod Scans
+pub mod Submits
 pub mod Tables
 pub mod Tags

@@ -11,6 +11,7 @@ mod save;
 mod scan;
 mod setup;
 mod stages;
+mod submit;
 mod tags;
 
 pub use answers::PortReclaimed;

@@ -28,7 +28,7 @@ use Rattle.session.specs.Scan.{whole, only, Walked, Scanned, isGate, add
 use Rattle.ring.specs.Stores.{stored, storesFrom}
 use Rattle.session.specs.Place.{stepOf, insertAt, insertOf, plansFrom}
 use Rattle.session.specs.Way.{submitWay}
-use Rattle.session.specs.Submit.{newRequest, startWords, noStart, answerOf, startAfter, sessionAfter, ringAfter, submittedBy, submitted, submittedRing}
+use Rattle.session.specs.Submit.{newRequest, startWords, noStart, answerOf, startAfter, sessionAfter, ringAfter, submittedBy, submittedRing}
 use Rattle.session.specs.Parts.{requestsWith, plansWith, joined, Parted}
 use Rattle.ring.proofs.Stores.{whole-plan}
 use Rattle.session.proofs.Laws.Admitted.{Admitted, gate-admitted, acceptable, told-of}
@@ -91,7 +91,7 @@ module _ (s : IsoChannelState) (t : IsoTransfer) (n : ℕ) where
   start-by Accept count e f = let h : 0 < count = f refl in one-starts (omega arith)
 
 -- where packets are added, a request is
-pushed : (s : IsoChannelState) (n : ℕ) → 0 < n → requestsWith s n ≡ set (s .requests) (s .head .count) (newRequest (s .head .«next_request_id») n)
+pub pushed : (s : IsoChannelState) (n : ℕ) → 0 < n → requestsWith s n ≡ set (s .requests) (s .head .count) (newRequest (s .head .«next_request_id») n)
 pushed s n h =
     ap (λ (b : Bool). cond b (s .requests) (set (s .requests) (s .head .count) (newRequest (s .head .«next_request_id») n))) (ne-eqb n 0 (λ e. omega arith))
 

@@ -1,6 +1,5 @@
 -- `submit_parts` acts by its way: what its functions answer for the way are the parts of the submission, in every session that the walk speaks of.
-use Prim.Native.Nat.{_≤_}
-use mathlib.Core.Path.{_≡_, refl, _∙_}
+use mathlib.Core.Path.{refl, _∙_}
 use native.Mathlib.Omega.{arith}
 use lib.ListN.{length}
 use Rattle.session.specs.Scan.{whole}

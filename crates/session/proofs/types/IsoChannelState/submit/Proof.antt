@@ -14,7 +14,6 @@ use Rattle.session.specs.declared.types.IsoChannelState.{IsoChannelState
 use Rattle.session.specs.declared.types.IsoRequest.{IsoRequest}
 use Rattle.session.specs.Scan.{whole}
 use Rattle.session.specs.Place.{plansFrom}
-use Rattle.session.specs.Submit.{submittedRing}
 use Rattle.session.specs.Parts.{plansWith, Fitting, Parted}
 use Rattle.session.proofs.Laws.Stores.{newPlan, plans-next, plans-past}
 use Rattle.session.proofs.Laws.Submits.{Pushed, joined-by}
