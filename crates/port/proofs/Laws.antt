@@ -14,6 +14,7 @@ pub mod Saved
 pub mod Scans
 pub mod Settling
 pub mod Steps
+pub mod Submits
 pub mod Tables
 pub mod Tags
 pub mod Walks

@@ -16,6 +16,7 @@ mod save;
 mod scan;
 mod setup;
 mod stages;
+mod submit;
 mod tags;
 
 pub use answers::PortReclaimed;

@@ -5,12 +5,11 @@ ghost use Rattle.port.specs.Calls.{openBy, openBytes, openRing, isBadNam
 use crate::answers::PortSubmitted;
 use crate::answers::PortTransfer;
 use crate::answers::open_number;
-use crate::answers::submit_port;
 use crate::answers::submit_refused;
 use crate::answers::transfer_of;
 use crate::load::layout_refusal;
-use crate::load::load_session;
 use crate::save::save_session;
+use crate::submit::submit_at;
 use crate::tags::direction_of;
 use crate::tags::mode_of;
 use crate::tags::speed_of;
@@ -96,10 +95,5 @@ pub extern "C" fn dwc2_iso_submit(
         return submit_refused(18);
     }
     let t = transfer_of(transfer);
-    let reply = load_session(session).submit(t, lengths, ring);
-    let after = reply.session;
-    save_session(session, after);
-    let answer = reply.answer;
-    let start = reply.start;
-    submit_port(answer, start)
+    submit_at(session, t, lengths, ring)
 }

@@ -2,6 +2,7 @@ pub mod Cancel
 pub mod End
 pub mod Numbers
 pub mod Open
+pub mod Parts
 pub mod Place
 pub mod Poll
 pub mod Reclaim

@@ -1,6 +1,7 @@
 // Where the packets of a submission go: document 01, "Submit".
 ghost use mathlib.Core.Path.{_≡_};
 ghost use Prim.Native.Nat.{_≤_, _<_};
+ghost use Rattle.ring.specs.RingSums.{slotAt};
 ghost use Rattle.session.specs.Session.{slots};
 ghost use Rattle.session.specs.Place.{stepOf, startAt, cursorAt, targetAt, insertAt};
 use crate::transfer::IsoTransfer;
@@ -75,4 +76,12 @@ pub(crate) fn insert_of(
         cfg.interval,
         slots_of(cfg),
     )
+}
+
+// The slot after the last of `n` packets.
+pub(crate) fn slot_after(slots: u16, insert: u16, step: u16, n: usize) -> u16
+    requires { ⌜ (0 < slots) × (n ≤ 255) ⌝ }
+    ensures { λ r. ⌜ r ≡ slotAt slots insert step n ⌝ }
+{
+    ((insert as u32 + n as u32 * step as u32) % slots as u32) as u16
 }

@@ -1,109 +1,47 @@
 // Submission: document 01, "Submit". The way is decided first; nothing is stored before the last check but gate 2. What the way does
-// to ring, numbers, answer and start is four functions of small things; the tables are written in place, by `submit` itself, since a
+// to ring, numbers, answer and start is `submit_parts`, on small things; the tables are written in place, by who holds them, since a
 // method that is handed the session copies it.
 ghost use mathlib.Core.Path.{_≡_};
-ghost use mathlib.Core.Bool.{cond};
-ghost use Prim.Native.Nat.{_+_, _≤_, max};
+ghost use mathlib.Core.List.{List};
+ghost use Prim.Native.Nat.{_+_, _≤_};
 ghost use lib.Dec.{T};
 ghost use lib.ListN.{length, take};
+ghost use Rattle.session.specs.declared.types.IsoRequest.{IsoRequest};
+ghost use Rattle.session.specs.declared.types.IsoPacketPlan.{IsoPacketPlan};
 ghost use Rattle.session.specs.declared.transfer.SubmitWay.the-variants.{Accept};
 ghost use Rattle.session.specs.Session.{slots, ringWords};
-ghost use Rattle.session.specs.Scan.{only, isGate, added, headAfter, ringBy};
+ghost use Rattle.session.specs.Scan.{whole, only, Scanned, isGate, added, headAfter, ringBy};
 ghost use Rattle.ring.specs.Stores.{stored, storesFrom};
 ghost use Rattle.session.specs.Place.{stepOf};
 ghost use Rattle.session.specs.Way.{sum};
-ghost use Rattle.session.specs.Submit.{spent, unplugged, newRequest, startWords, noStart, answerOf, submitted, submittedRing};
+ghost use Rattle.session.specs.Submit.{spent, unplugged, newRequest, answerOf, submitted, submittedRing};
+ghost use Rattle.session.specs.Parts.{Parted};
 use crate::open::clear_ring;
 use crate::open::ring_words;
 use crate::place::insert_of;
+use crate::place::slot_after;
 use crate::place::slots_of;
 use crate::place::start_of;
 use crate::place::step_of;
-use crate::transfer::IsoChannelStart;
+use crate::record::RecordScan;
+use crate::start::start_if;
 use crate::transfer::IsoTransfer;
 use crate::transfer::SubmitAnswer;
+use crate::transfer::SubmitParts;
 use crate::transfer::SubmitWay;
 use crate::transfer::Submitted;
 use crate::types::IsoChannelState;
 use crate::types::IsoConfig;
+use crate::types::IsoFatal;
 use crate::types::IsoHead;
 use crate::types::IsoOutcome;
 use crate::types::IsoPacketPlan;
 use crate::types::IsoRequest;
 use crate::types::TransferStatus;
 use crate::way::submit_way;
-use ring::IsoServiceFrames;
-use ring::iso_pid;
-use ring::iso_schinfo;
-use ring::iso_service_frames;
 use ring::next_request_id;
 use ring::next_slot;
 use ring::store_packets;
-use words::Dwc2EpType;
-
-fn no_start() -> IsoChannelStart
-    ensures { λ r. ⌜ r ≡ noStart ⌝ }
-{
-    IsoChannelStart {
-        first: false,
-        hcchar: 0,
-        hctsiz: 0,
-        hcintmsk: 0,
-        frames: IsoServiceFrames {
-            count: 0,
-            frames: [0; 64],
-        },
-    }
-}
-
-// A camera's packet holds at least one byte.
-fn packet_size(max_packet_size: u16) -> u16
-    ensures { λ r. ⌜ r ≡ max 1 «max_packet_size» ⌝ }
-{
-    if max_packet_size == 0 {
-        1
-    } else {
-        max_packet_size
-    }
-}
-
-// What the caller programs a channel with that starts now.
-fn start_words(cfg: IsoConfig, head: IsoHead, transfer: IsoTransfer) -> IsoChannelStart
-    ensures { λ r. ⌜ r ≡ startWords (only cfg head) transfer ⌝ }
-{
-    let speed = cfg.speed;
-    let direction = cfg.direction;
-    let mps = packet_size(cfg.max_packet_size);
-    let start = start_of(cfg, head, transfer);
-    let pid = iso_pid(speed, direction, cfg.mult);
-    let schinfo = iso_schinfo(speed, cfg.interval);
-    IsoChannelStart {
-        first: true,
-        hcchar: words::hcchar(
-            cfg.device,
-            cfg.endpoint,
-            direction,
-            Dwc2EpType::Isochronous,
-            mps,
-            false,
-            cfg.mult,
-            false,
-        ),
-        hctsiz: words::hctsiz_ddma(pid, slots_of(cfg) as u32, schinfo),
-        hcintmsk: words::iso_hcintmsk(direction),
-        frames: iso_service_frames(start, cfg.interval, speed),
-    }
-}
-
-// The words of a channel that starts, where this submission is the first.
-fn start_if(first: bool, cfg: IsoConfig, head: IsoHead, transfer: IsoTransfer) -> IsoChannelStart
-    ensures { λ r. ⌜ r ≡ cond first (startWords (only cfg head) transfer) noStart ⌝ }
-{
-    if first {
-        return start_words(cfg, head, transfer);
-    }
-    no_start()
-}
 
 fn answer_of(way: SubmitWay, cfg: IsoConfig, head: IsoHead) -> SubmitAnswer
     ensures { λ r. ⌜ r ≡ answerOf way (only cfg head) ⌝ }
@@ -239,13 +177,43 @@ fn store_by(
     }
 }
 
-fn new_request(id: u64, n: usize) -> IsoRequest
-    requires { ⌜ n ≤ 255 ⌝ }
-    ensures { λ r. ⌜ r ≡ newRequest id n ⌝ }
+// A submission but for the tables of the session, which its caller holds: the ring is stored to, and the parts say what else is left.
+pub fn submit_parts(
+    cfg: IsoConfig,
+    head: IsoHead,
+    fatal: IsoFatal,
+    scan: RecordScan,
+    transfer: IsoTransfer,
+    lengths: &[u32],
+    ring: &mut [u32],
+) -> SubmitParts
+    ensures { λ r. ⌜ ((requests : List IsoRequest) (plans : List IsoPacketPlan) → Scanned (whole cfg head fatal requests plans) scan → Parted (whole cfg head fatal requests plans) transfer (now (lengths .entry)) (now (ring .entry)) r × (now (ring .exit) ≡ submittedRing (whole cfg head fatal requests plans) transfer (now (lengths .entry)) (now (ring .entry)))) ⌝ }
+{
+    let way = submit_way(cfg, head, fatal, scan, transfer, lengths, ring);
+    let insert = insert_of(cfg, head, transfer, scan.tail, ring);
+    store_by(way, cfg, transfer, insert, lengths, ring);
+    let n = added_packets(way, lengths.len());
+    let slots = slots_of(cfg);
+    let step = step_of(cfg);
+    let slot = slot_after(slots, insert, step, n);
+    SubmitParts {
+        answer: answer_of(way, cfg, head),
+        start: start_if((n > 0) & !head.live, cfg, head, transfer),
+        head: head_after(way, cfg, head, transfer, slot),
+        added: n,
+        to: scan.all as usize,
+        insert,
+        step,
+        slots,
+    }
+}
+
+pub fn new_request(id: u64, packets: u16) -> IsoRequest
+    ensures { λ r. ⌜ r ≡ newRequest id packets ⌝ }
 {
     IsoRequest {
         id,
-        packets: n as u16,
+        packets,
         actual_length: 0,
         outcome: IsoOutcome::Done,
     }
@@ -260,14 +228,12 @@ impl IsoChannelState {
         let head = self.head;
         let fatal = self.fatal;
         let scan = self.scan();
-        let way = submit_way(cfg, head, fatal, scan, transfer, lengths, ring);
-        let insert = insert_of(cfg, head, transfer, scan.tail, ring);
-        store_by(way, cfg, transfer, insert, lengths, ring);
-        let n = added_packets(way, lengths.len());
-        let slots = slots_of(cfg);
-        let step = step_of(cfg);
-        let mut slot = insert % slots;
-        let mut to = scan.all as usize;
+        let parts = submit_parts(cfg, head, fatal, scan, transfer, lengths, ring);
+        let n = parts.added;
+        let slots = parts.slots;
+        let step = parts.step;
+        let mut slot = parts.insert % slots;
+        let mut to = parts.to;
         let mut i: usize = 0;
         while i < n {
             self.plans[to] = IsoPacketPlan {
@@ -281,13 +247,15 @@ impl IsoChannelState {
             i += 1;
         }
         if n > 0 {
-            self.requests[head.count as usize] = new_request(head.next_request_id, n);
+            self.requests[head.count as usize] = new_request(head.next_request_id, n as u16);
         }
-        let next = head_after(way, cfg, head, transfer, slot);
+        let next = parts.head;
+        let answer = parts.answer;
+        let start = parts.start;
         self.head = next;
         Submitted {
-            answer: answer_of(way, cfg, head),
-            start: start_if((n > 0) & !head.live, cfg, head, transfer),
+            answer,
+            start,
             session: self,
         }
     }

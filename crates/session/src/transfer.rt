@@ -1,5 +1,6 @@
 // What a submission is given and what it answers.
 use crate::types::IsoChannelState;
+use crate::types::IsoHead;
 use ring::IsoServiceFrames;
 
 // A request as the caller brings it, beside the lengths of its packets: what kind it is, its buffer, the frame readings, whether a
@@ -50,4 +51,17 @@ pub struct Submitted {
     pub session: IsoChannelState,
     pub answer: SubmitAnswer,
     pub start: IsoChannelStart,
+}
+
+// A submission as small things: what it answers, the numbers that it leaves, and the packets that it adds. Packet i of them has its
+// plan at `to` + i and the slot `insert` + i × `step` in a ring of `slots`.
+pub struct SubmitParts {
+    pub answer: SubmitAnswer,
+    pub start: IsoChannelStart,
+    pub head: IsoHead,
+    pub added: usize,
+    pub to: usize,
+    pub insert: u16,
+    pub step: u16,
+    pub slots: u16,
 }

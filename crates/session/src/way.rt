@@ -3,15 +3,16 @@
 ghost use mathlib.Core.Path.{_≡_};
 ghost use mathlib.Core.Bool.{false, _&&_};
 ghost use mathlib.Core.List.{List};
-ghost use Prim.Native.Nat.{ℕ, _≤_, _<_};
+ghost use Prim.Native.Nat.{ℕ, _+_, _≤_, _<_};
+ghost use lib.Dec.{T};
 ghost use lib.ListN.{length, getD};
 ghost use Rattle.ring.specs.RingSums.{slotsFrom};
 ghost use Rattle.session.specs.declared.types.IsoRequest.{IsoRequest};
 ghost use Rattle.session.specs.declared.types.IsoPacketPlan.{IsoPacketPlan};
-ghost use Rattle.session.specs.Session.{slots};
-ghost use Rattle.session.specs.Scan.{whole, Walked, Scanned};
+ghost use Rattle.session.specs.Session.{slots, ringWords};
+ghost use Rattle.session.specs.Scan.{whole, Walked, Scanned, isGate};
 ghost use Rattle.session.specs.Place.{stepOf};
-ghost use Rattle.session.specs.Way.{isLow, isGuarded, isHeld, anyHeld, entryNumber, entryRefusal, spendNumber, spendRefusal, gateAt, submitWay};
+ghost use Rattle.session.specs.Way.{isLow, isGuarded, isHeld, anyHeld, sum, entryNumber, entryRefusal, spendNumber, spendRefusal, gateAt, submitWay};
 use crate::open::ring_words;
 use crate::place::insert_of;
 use crate::place::slots_of;
@@ -132,8 +133,7 @@ fn entry_refusal(
     n: usize,
     words: usize,
 ) -> u16
-    ensures { λ r. ⌜ ((requests : List IsoRequest) (plans : List IsoPacketPlan) → Scanned (whole cfg head fatal requests plans) scan
-        → r ≡ entryRefusal (whole cfg head fatal requests plans) transfer n words) × (r ≡ 0 → n ≤ 255) ⌝ }
+    ensures { λ r. ⌜ ((requests : List IsoRequest) (plans : List IsoPacketPlan) → Scanned (whole cfg head fatal requests plans) scan → r ≡ entryRefusal (whole cfg head fatal requests plans) transfer n words) × (r ≡ 0 → (n ≤ 255) × (head .count < 64) × (ringWords cfg ≤ words)) ⌝ }
 {
     if words < ring_words(cfg) {
         return 17;
@@ -158,8 +158,7 @@ fn entry_refusal(
 
 // 13: a slot of the submission is one of a pending request.
 fn clash(cfg: IsoConfig, insert: u16, held: [bool; 256], n: usize) -> bool
-    ensures { λ r. ⌜ ((ps : List IsoPacketPlan) → ((k : ℕ) → k < 256 → getD held k false ≡ isHeld ps k)
-        → r ≡ (isGuarded (cfg .mode) && anyHeld ps (slotsFrom (slots cfg) insert (stepOf cfg) 0 n))) ⌝ }
+    ensures { λ r. ⌜ ((ps : List IsoPacketPlan) → ((k : ℕ) → k < 256 → getD held k false ≡ isHeld ps k) → r ≡ (isGuarded (cfg .mode) && anyHeld ps (slotsFrom (slots cfg) insert (stepOf cfg) 0 n))) ⌝ }
 {
     let mode = cfg.mode;
     if !is_guarded(mode) {
@@ -179,8 +178,7 @@ fn spend_refusal(
     ring: &[u32],
 ) -> u16
     requires { ⌜ length (now lengths) ≤ 1024 ⌝ }
-    ensures { λ r. ⌜ ((requests : List IsoRequest) (plans : List IsoPacketPlan) → Walked (whole cfg head fatal requests plans) scan
-        → r ≡ spendRefusal (whole cfg head fatal requests plans) transfer (now (lengths .entry)) (now (ring .entry))) ⌝ }
+    ensures { λ r. ⌜ ((requests : List IsoRequest) (plans : List IsoPacketPlan) → Walked (whole cfg head fatal requests plans) scan → r ≡ spendRefusal (whole cfg head fatal requests plans) transfer (now (lengths .entry)) (now (ring .entry))) × (r ≡ 0 → transfer .base + sum (now (lengths .entry)) ≤ 4294967295) ⌝ }
 {
     let sum = sum_of(lengths);
     let no_channel = !head.live & !transfer.channel_free;
@@ -195,7 +193,8 @@ fn spend_refusal(
     )
 }
 
-// The way of a submission: what it does follows from this alone.
+// The way of a submission: what it does follows from this alone. Whatever the walk found, a way past every refusal is sure of ring,
+// address and room.
 pub(crate) fn submit_way(
     cfg: IsoConfig,
     head: IsoHead,
@@ -205,8 +204,7 @@ pub(crate) fn submit_way(
     lengths: &[u32],
     ring: &[u32],
 ) -> SubmitWay
-    ensures { λ r. ⌜ ((requests : List IsoRequest) (plans : List IsoPacketPlan) → Scanned (whole cfg head fatal requests plans) scan
-        → r ≡ submitWay (whole cfg head fatal requests plans) transfer (now (lengths .entry)) (now (ring .entry))) ⌝ }
+    ensures { λ r. ⌜ ((requests : List IsoRequest) (plans : List IsoPacketPlan) → Scanned (whole cfg head fatal requests plans) scan → r ≡ submitWay (whole cfg head fatal requests plans) transfer (now (lengths .entry)) (now (ring .entry))) × (T (isGate r) → (length (now (lengths .entry)) ≤ 255) × (head .count < 64) × (ringWords cfg ≤ length (now (ring .entry))) × (transfer .base + sum (now (lengths .entry)) ≤ 4294967295)) ⌝ }
 {
     let n = lengths.len();
     let refused = entry_refusal(cfg, head, fatal, scan, transfer, n, ring.len());

@@ -1,5 +1,5 @@
 -- Submitting and opening by bytes, at each way out.
-use mathlib.Core.Path.{_≡_, _∙_, sym, ap}
+use mathlib.Core.Path.{_≡_, refl, _∙_, sym, ap}
 use mathlib.Core.Bool.{Bool, true, false, cond}
 use mathlib.Core.List.{List}
 use Prim.Native.Nat.{ℕ, _≤_, _<_}
@@ -72,21 +72,23 @@ module _ (xs : List ℕ) (t : PortTransfer) (lengths ring : List ℕ) where
   )
 
   pub submit-done :
-      {n : ℕ} {s : IsoChannelState} {u : IsoTransfer} {r : Submitted} {p : PortSubmitted} {after words : List ℕ} → n ≡ layoutNumber xs → n ≡ 0
-      → t .kind ≤ 3
-      → s ≡ sessionOf xs
-      → u ≡ transferOf t
-      → r ≡ submitted s u lengths ring
-      → words ≡ submittedRing s u lengths ring
-      → p ≡ submittedPort r
-      → after ≡ sets xs 0 (saved (r .session))
+      {n : ℕ} {u : IsoTransfer} {p : PortSubmitted} {after words : List ℕ} → n ≡ layoutNumber xs → n ≡ 0 → t .kind ≤ 3 → u ≡ transferOf t
+      → p ≡ submittedPort (submitted (sessionOf xs) u lengths ring)
+      → after ≡ sets xs 0 (saved (submitted (sessionOf xs) u lengths ring .session))
+      → words ≡ submittedRing (sessionOf xs) u lengths ring
       → (p ≡ submitBy xs t lengths ring) × (after ≡ submitBytes xs t lengths ring) × (words ≡ submitRing xs t lengths ring)
-  submit-done {s = s} {r = r} e z h l w g k p b =
+  submit-done e z h w p b k =
       let call : IsoChannelState → Submitted = λ (x : IsoChannelState). submitted x (transferOf t) lengths ring in
-      let given : r ≡ call s = g ∙ ap (λ (x : IsoTransfer). submitted s x lengths ring) w in (
-        p ∙ kind-done xs (t .kind) submitRefused call submittedPort e z h l given,
-        b ∙ kind-done xs (t .kind) (λ (n : ℕ). xs) call (λ (x : Submitted). sets xs 0 (saved (x .session))) e z h l given,
-        kind-done xs (t .kind) (λ (n : ℕ). ring) ringFor (λ (x : List ℕ). x) e z h l (k ∙ ap (λ (x : IsoTransfer). submittedRing s x lengths ring) w),
+      let s : IsoChannelState = sessionOf xs in (
+        p
+            ∙ ap (λ (x : IsoTransfer). submittedPort (submitted s x lengths ring)) w
+            ∙ kind-done xs (t .kind) submitRefused call submittedPort {s = s} {r = call s} e z h refl refl,
+        b
+            ∙ ap (λ (x : IsoTransfer). sets xs 0 (saved (submitted s x lengths ring .session))) w
+            ∙ kind-done xs (t .kind) (λ (n : ℕ). xs) call (λ (x : Submitted). sets xs 0 (saved (x .session))) {s = s} {r = call s} e z h refl refl,
+        k
+            ∙ ap (λ (x : IsoTransfer). submittedRing s x lengths ring) w
+            ∙ kind-done xs (t .kind) (λ (n : ℕ). ring) ringFor (λ (x : List ℕ). x) {s = s} {r = ringFor s} e z h refl refl,
       )
 
 -- ---- opening

@@ -1,31 +1,38 @@
 -- The laws of a submission's ends: what the code leaves on each way, part by part, is what the definition leaves.
-use mathlib.Core.Path.{_≡_, refl, _∙_, ap, ap₂}
+use mathlib.Core.Path.{_≡_, refl, _∙_, sym, ap, ap₂, subst⁻¹}
 use mathlib.Core.Bool.{Bool, true, false, not, _&&_, cond}
 use mathlib.Core.List.{List}
-use mathlib.Core.Logic.{_⊎_, inl, inr, ⊎-elim}
+use mathlib.Core.Logic.{_⊎_, ⊎-elim}
 use Prim.Native.Nat.{ℕ, _*_, _≤_, _<_}
+use native.Mathlib.Decide.{decLe}
 use native.Mathlib.Omega.{arith}
 use lib.Dec.{T, ltb}
 use lib.ListN.{length, set, take}
 use lib.Seq.{sets, take-all}
-use borrow.Author.Tests.{lt-ltb}
+use borrow.Author.Tests.{lt-ltb, ne-eqb}
 use Rattle.ring.specs.RingSums.{slotAt}
 use Rattle.session.specs.declared.types.IsoHead.{IsoHead}
 use Rattle.session.specs.declared.types.IsoRequest.{IsoRequest}
 use Rattle.session.specs.declared.types.IsoPacketPlan.{IsoPacketPlan}
 use Rattle.session.specs.declared.types.IsoChannelState.{IsoChannelState}
+use Rattle.session.specs.declared.record.RecordScan.{RecordScan}
 use Rattle.session.specs.declared.transfer.IsoTransfer.{IsoTransfer}
 use Rattle.session.specs.declared.transfer.SubmitWay.{SubmitWay}
 use Rattle.session.specs.declared.transfer.SubmitWay.the-variants.{Refuse, TooLong, Spend, Early, Cut, Late, Accept}
 use Rattle.session.specs.declared.transfer.IsoChannelStart.{IsoChannelStart}
 use Rattle.session.specs.declared.transfer.SubmitAnswer.{SubmitAnswer}
 use Rattle.session.specs.declared.transfer.Submitted.{Submitted}
+use Rattle.session.specs.declared.transfer.SubmitParts.{SubmitParts}
 use Rattle.session.specs.Session.{slots, allPackets}
-use Rattle.session.specs.Scan.{whole, only, isGate, added, headAfter, ringBy}
+use Rattle.session.specs.Scan.{whole, only, Walked, Scanned, isGate, added, headAfter, ringBy}
 use Rattle.ring.specs.Stores.{stored, storesFrom}
-use Rattle.session.specs.Place.{stepOf, insertOf, plansFrom}
-use Rattle.session.specs.Submit.{newRequest, startWords, noStart, answerOf, startAfter, sessionAfter, ringAfter, submittedBy}
+use Rattle.session.specs.Place.{stepOf, insertAt, insertOf, plansFrom}
+use Rattle.session.specs.Way.{submitWay}
+use Rattle.session.specs.Submit.{newRequest, startWords, noStart, answerOf, startAfter, sessionAfter, ringAfter, submittedBy, submittedRing}
+use Rattle.session.specs.Parts.{requestsWith, plansWith, joined, Parted}
 use Rattle.ring.proofs.Stores.{whole-plan}
+use Rattle.session.proofs.Laws.Admitted.{Admitted, gate-admitted, acceptable, told-of}
+use Rattle.session.proofs.Laws.Ways.{answer-by, ring-by}
 
 -- only an accepted submission adds packets
 pub some-added : (way : SubmitWay) (count n : ℕ) → n ≡ added way count → 0 < n → (way ≡ Accept) × (n ≡ count)
@@ -36,6 +43,18 @@ some-added Early count n e h = absurd (omega arith)
 some-added Cut count n e h = absurd (omega arith)
 some-added Late count n e h = absurd (omega arith)
 some-added Accept count n e h = (refl, e)
+
+-- what an accepted submission is sure of, packets that are added are
+pub few-added : (way : SubmitWay) (count n limit : ℕ) → n ≡ added way count → (way ≡ Accept → count ≤ limit) → n ≤ limit
+few-added way count n limit e h = go (decLe 1 n)
+  where
+    go : Dec (1 ≤ n) → n ≤ limit
+    go (yes some) = let q = some-added way count n e (omega arith) in omega (arith, q .1, h (q .0))
+    go (no none) = omega arith
+
+-- an accepted submission passed every refusal
+pub gate : (way : SubmitWay) → way ≡ Accept → T (isGate way)
+gate way e = subst⁻¹ (λ (w : SubmitWay). T (isGate w)) e tt
 
 -- the answer reads of the session its next number alone
 pub answer-only : (way : SubmitWay) (s : IsoChannelState) → answerOf way (only (s .cfg) (s .head)) ≡ answerOf way s
@@ -71,6 +90,11 @@ module _ (s : IsoChannelState) (t : IsoTransfer) (n : ℕ) where
   start-by Late count e f = none-starts e
   start-by Accept count e f = let h : 0 < count = f refl in one-starts (omega arith)
 
+-- where packets are added, a request is
+pub pushed : (s : IsoChannelState) (n : ℕ) → 0 < n → requestsWith s n ≡ set (s .requests) (s .head .count) (newRequest (s .head .«next_request_id») n)
+pushed s n h =
+    ap (λ (b : Bool). cond b (s .requests) (set (s .requests) (s .head .count) (newRequest (s .head .«next_request_id») n))) (ne-eqb n 0 (λ e. omega arith))
+
 -- the ring: where the packets go is asked only past every refusal, and an accepted submission stores every word
 module _ (s : IsoChannelState) (t : IsoTransfer) (lengths ring : List ℕ) (insert : ℕ) where
   pub ring-left :
@@ -87,29 +111,17 @@ module _ (s : IsoChannelState) (t : IsoTransfer) (lengths ring : List ℕ) (inse
       ∙ ap (λ (i : ℕ). stored (storesFrom (slots (s .cfg)) i (stepOf (s .cfg)) 0 (t .base) lengths) ring) (at tt)
 
   -- the session: a request and its plans behind the others where packets were added, else the tables as they were
-  module _ (n all slot : ℕ) (requests : List IsoRequest) (plans : List IsoPacketPlan)
-      (put : plans ≡ sets (s .plans) all (plansFrom (slots (s .cfg)) insert (stepOf (s .cfg)) 0 (take n lengths)))
-      (push : ((0 < n) × (requests ≡ set (s .requests) (s .head .count) (newRequest (s .head .«next_request_id») n)))
-      ⊎ ((n ≤ 0) × (requests ≡ s .requests))) where
-    same-plans : n ≡ 0 → plans ≡ s .plans
-    same-plans e = put ∙ ap (λ (k : ℕ). sets (s .plans) all (plansFrom (slots (s .cfg)) insert (stepOf (s .cfg)) 0 (take k lengths))) e
+  module _ (n all slot : ℕ) where
+    abbrev planned : ℕ → List IsoPacketPlan
+    planned k = sets (s .plans) all (plansFrom (slots (s .cfg)) insert (stepOf (s .cfg)) 0 (take k lengths))
 
-    same-requests : n ≡ 0 → requests ≡ s .requests
-    same-requests e = ⊎-elim (λ w. absurd (omega (arith, w .0))) (λ w. w .1) push
-
-    kept :
-        (way : SubmitWay) → n ≡ 0
-        → whole (s .cfg) (headAfter way (s .cfg) (s .head) t slot) (s .fatal) requests plans
-        ≡ whole (s .cfg) (headAfter way (s .cfg) (s .head) t slot) (s .fatal) (s .requests) (s .plans)
-    kept way e = ap₂ (whole (s .cfg) (headAfter way (s .cfg) (s .head) t slot) (s .fatal)) (same-requests e) (same-plans e)
-
-    pushed : 0 < n → requests ≡ set (s .requests) (s .head .count) (newRequest (s .head .«next_request_id») n)
-    pushed h = ⊎-elim (λ w. w .1) (λ w. absurd (omega (arith, w .0))) push
+    kept : (way : SubmitWay) → n ≡ 0 → whole (s .cfg) (headAfter way (s .cfg) (s .head) t slot) (s .fatal) (requestsWith s n) (planned n) ≡ whole (s .cfg) (headAfter way (s .cfg) (s .head) t slot) (s .fatal) (s .requests) (s .plans)
+    kept way e = ap (λ (k : ℕ). whole (s .cfg) (headAfter way (s .cfg) (s .head) t slot) (s .fatal) (requestsWith s k) (planned k)) e
 
     pub session-left :
         (way : SubmitWay) → n ≡ added way (length lengths) → (T (isGate way) → insert ≡ insertOf s t ring)
         → (way ≡ Accept → (all ≡ allPackets s) × (0 < length lengths)) → slot ≡ slotAt (slots (s .cfg)) insert (stepOf (s .cfg)) n
-        → whole (s .cfg) (headAfter way (s .cfg) (s .head) t slot) (s .fatal) requests plans ≡ sessionAfter way s t lengths ring
+        → whole (s .cfg) (headAfter way (s .cfg) (s .head) t slot) (s .fatal) (requestsWith s n) (planned n) ≡ sessionAfter way s t lengths ring
     session-left (Refuse k) e at f last = kept (Refuse k) e
     session-left (TooLong k) e at f last = kept (TooLong k) e
     session-left (Spend k) e at f last = kept (Spend k) e
@@ -120,52 +132,100 @@ module _ (s : IsoChannelState) (t : IsoTransfer) (lengths ring : List ℕ) (inse
         let R = slots (s .cfg) in
         let step = stepOf (s .cfg) in
         let i = insertOf s t ring in
-        let some : 0 < length lengths = f refl .1 in
         let after : slot ≡ slotAt R i step (length lengths) = last ∙ ap₂ (λ (a b : ℕ). slotAt R a step b) (at tt) e in
-        let asked : requests ≡ set (s .requests) (s .head .count) (newRequest (s .head .«next_request_id») (length lengths)) =
-        pushed (omega arith) ∙ ap (λ (m : ℕ). set (s .requests) (s .head .count) (newRequest (s .head .«next_request_id») m)) e in
-        let planned : plans ≡ sets (s .plans) (allPackets s) (plansFrom R i step 0 lengths) =
-        put
-        ∙ ap₂ (λ (a b : ℕ). sets (s .plans) a (plansFrom R b step 0 (take n lengths))) (f refl .0) (at tt)
+        let asked : requestsWith s n ≡ set (s .requests) (s .head .count) (newRequest (s .head .«next_request_id») (length lengths)) =
+        ap (requestsWith s) e ∙ pushed s (length lengths) (f refl .1) in
+        let plans : planned n ≡ sets (s .plans) (allPackets s) (plansFrom R i step 0 lengths) =
+        ap₂ (λ (a b : ℕ). sets (s .plans) a (plansFrom R b step 0 (take n lengths))) (f refl .0) (at tt)
         ∙ ap (λ (l : List ℕ). sets (s .plans) (allPackets s) (plansFrom R i step 0 l)) (take-all n lengths (omega arith)) in
-        ap (λ (x : ℕ). whole (s .cfg) (headAfter Accept (s .cfg) (s .head) t x) (s .fatal) requests plans) after
-        ∙ ap₂ (whole (s .cfg) (headAfter Accept (s .cfg) (s .head) t (slotAt R i step (length lengths))) (s .fatal)) asked planned
+        ap (λ (x : ℕ). whole (s .cfg) (headAfter Accept (s .cfg) (s .head) t x) (s .fatal) (requestsWith s n) (planned n)) after
+        ∙ ap₂ (whole (s .cfg) (headAfter Accept (s .cfg) (s .head) t (slotAt R i step (length lengths))) (s .fatal)) asked plans
 
--- the whole answer, from the session as the code leaves it before its numbers
-module _ (s : IsoChannelState) (t : IsoTransfer) (lengths ring : List ℕ) (insert n all slot : ℕ) (way : SubmitWay) (self : IsoChannelState)
-    (plans : List IsoPacketPlan) where
+-- the whole answer, from its parts
+abbrev of : SubmitAnswer → IsoChannelStart → IsoChannelState → Submitted
+of x y z = record { answer = x; start = y; session = z }
+
+module _ (s : IsoChannelState) (t : IsoTransfer) (lengths ring : List ℕ) (r : SubmitParts) (way : SubmitWay) where
+  abbrev placed : ℕ → ℕ → IsoHead → IsoChannelState
+  placed R step h =
+      whole (s .cfg) h (s .fatal) (requestsWith s (r .added)) (sets (s .plans) (r .to) (plansFrom R (r .insert) step 0 (take (r .added) lengths)))
+
+  parts-by :
+      (slot : ℕ) → r .slots ≡ slots (s .cfg) → r .step ≡ stepOf (s .cfg) → r .added ≡ added way (length lengths)
+      → (T (isGate way) → r .insert ≡ insertOf s t ring)
+      → (way ≡ Accept → (r .to ≡ allPackets s) × (0 < length lengths)) → slot ≡ slotAt (r .slots) (r .insert) (r .step) (r .added)
+      → r .answer ≡ answerOf way (only (s .cfg) (s .head))
+      → r .start ≡ cond (ltb 0 (r .added) && not (s .head .live)) (startWords (only (s .cfg) (s .head)) t) noStart
+      → r .head ≡ headAfter way (s .cfg) (s .head) t slot
+      → joined s r lengths ≡ submittedBy way s t lengths ring
+  parts-by slot eR ek e at f last a b h =
+      let R = slots (s .cfg) in
+      let step = stepOf (s .cfg) in
+      ap₂ (λ (x y : ℕ). of (r .answer) (r .start) (placed x y (r .head))) eR ek
+      ∙ ap₂ (λ (x : SubmitAnswer) (y : IsoChannelStart). of x y (placed R step (r .head))) (a ∙ answer-only way s) (b ∙ start-by s t (r .added) way (length lengths) e (λ w. f w .1))
+      ∙ ap (λ (x : IsoHead). of (answerOf way s) (startAfter way s t) (placed R step x)) h
+      ∙ ap (of (answerOf way s) (startAfter way s t)) (session-left s t lengths ring (r .insert) (r .added) (r .to) slot way e at f (last ∙ ap₂ (λ (x y : ℕ). slotAt x (r .insert) y (r .added)) eR ek))
+
+-- the parts in a session that the walk speaks of: what the walk found is asked only past every refusal
+module _ (s : IsoChannelState) (t : IsoTransfer) (lengths ring : List ℕ) (scan : RecordScan) (way : SubmitWay) (insert : ℕ)
+    (found : Scanned s scan) (e : way ≡ submitWay s t lengths ring) (at : insert ≡ insertAt (s .cfg) (s .head) t (scan .tail) ring) where
+  passed : T (isGate way) → Admitted s t lengths ring
+  passed = gate-admitted s t lengths ring way e
+
+  walked : T (isGate way) → Walked s scan
+  walked g = found .found (passed g .entry .record-good)
+
+  there : T (isGate way) → insert ≡ insertOf s t ring
+  there g = at ∙ ap (λ (tail : ℕ). insertAt (s .cfg) (s .head) t tail ring) (walked g .tail)
+
+  pub ring-parted : ringBy way (s .cfg) t insert lengths ring ≡ submittedRing s t lengths ring
+  ring-parted = ring-by s t lengths ring e (ring-left s t lengths ring insert way there (λ a. told-of s t lengths ring Accept (sym e ∙ a) .1))
+
+  pub parted :
+      (r : SubmitParts) (slot : ℕ) → r .insert ≡ insert → r .to ≡ scan .all → (r .slots ≡ slots (s .cfg)) × (0 < r .slots) × (r .slots ≤ 256)
+      → r .step ≡ stepOf (s .cfg)
+      → r .added ≡ added way (length lengths)
+      → slot ≡ slotAt (r .slots) (r .insert) (r .step) (r .added)
+      → r .answer ≡ answerOf way (only (s .cfg) (s .head))
+      → r .start ≡ cond (ltb 0 (r .added) && not (s .head .live)) (startWords (only (s .cfg) (s .head)) t) noStart
+      → r .head ≡ headAfter way (s .cfg) (s .head) t slot
+      → Parted s t lengths ring r
+  parted r slot ei et eR ek en last a b h =
+      let taken : way ≡ Accept → (r .to ≡ allPackets s) × (0 < length lengths) = λ w. (et ∙ walked (gate way w) .all, passed (gate way w) .entry .some) in
+      record {
+        joins = answer-by s t lengths ring e (parts-by s t lengths ring r way slot (eR .0) ek en (λ g. ei ∙ there g) taken last a b h);
+        some-slots = eR .1;
+        fitting = λ some.
+            let q = some-added way (length lengths) (r .added) en some in
+            let ok = acceptable s t lengths ring (passed (gate way (q .0))) in
+            record {
+              every = q .1;
+              few = omega (arith, ok .few, q .1);
+              requests = omega (arith, ok .requests);
+              plans = omega (arith, ok .packets, q .1, taken (q .0) .0);
+              short = ok .short;
+            };
+      }
+
+-- the parts joined, from the session as the code leaves it before its numbers
+module _ (s : IsoChannelState) (lengths : List ℕ) (r : SubmitParts) (self : IsoChannelState) (plans : List IsoPacketPlan) where
   abbrev pub Pushed : Type 0
   Pushed =
-      ((0 < n) × (self ≡ whole (s .cfg) (s .head) (s .fatal) (set (s .requests) (s .head .count) (newRequest (s .head .«next_request_id») n)) plans))
-      ⊎ ((n ≤ 0) × (self ≡ whole (s .cfg) (s .head) (s .fatal) (s .requests) plans))
+      ((0 < r .added) × (self ≡ whole (s .cfg) (s .head) (s .fatal) (set (s .requests) (s .head .count) (newRequest (s .head .«next_request_id») (r .added))) plans))
+      ⊎ ((r .added ≤ 0) × (self ≡ whole (s .cfg) (s .head) (s .fatal) (s .requests) plans))
 
-  pub submitted-by :
-      (answer : SubmitAnswer) (start : IsoChannelStart) (next : IsoHead) → Pushed
-      → plans ≡ sets (s .plans) all (plansFrom (slots (s .cfg)) insert (stepOf (s .cfg)) 0 (take n lengths))
-      → n ≡ added way (length lengths) → (T (isGate way) → insert ≡ insertOf s t ring)
-      → (way ≡ Accept → (all ≡ allPackets s) × (0 < length lengths)) → slot ≡ slotAt (slots (s .cfg)) insert (stepOf (s .cfg)) n
-      → answer ≡ answerOf way (only (s .cfg) (s .head))
-      → start ≡ cond (ltb 0 n && not (s .head .live)) (startWords (only (s .cfg) (s .head)) t) noStart
-      → next ≡ headAfter way (s .cfg) (s .head) t slot
-      → record { answer = answer; start = start; session = whole (self .cfg) next (self .fatal) (self .requests) (self .plans) }
-      ≡ submittedBy way s t lengths ring
-  submitted-by answer start next push put e at f last a b h =
-      ap (λ (x : SubmitAnswer). of x start (whole (self .cfg) next (self .fatal) (self .requests) (self .plans))) (a ∙ answer-only way s)
-      ∙ ap (λ (y : IsoChannelStart). of (answerOf way s) y (whole (self .cfg) next (self .fatal) (self .requests) (self .plans)))
-      (b ∙ start-by s t n way (length lengths) e (λ w. f w .1))
-      ∙ ap (of (answerOf way s) (startAfter way s t))
-      (⊎-elim (λ w. left (set (s .requests) (s .head .count) (newRequest (s .head .«next_request_id») n)) (inl (w .0, refl)) (w .1))
-      (λ w. left (s .requests) (inr (w .0, refl)) (w .1)) push)
+  pub joined-by :
+      Pushed → plans ≡ plansWith s r lengths
+      → of (r .answer) (r .start) (whole (self .cfg) (r .head) (self .fatal) (self .requests) (self .plans)) ≡ joined s r lengths
+  joined-by push put =
+      ⊎-elim
+      (λ w. left (set (s .requests) (s .head .count) (newRequest (s .head .«next_request_id») (r .added))) (w .1) (sym (pushed s (r .added) (w .0))))
+      (λ w. let none : r .added ≡ 0 = omega (arith, w .0) in left (s .requests) (w .1) (sym (ap (requestsWith s) none)))
+      push
     where
-      of : SubmitAnswer → IsoChannelStart → IsoChannelState → Submitted
-      of x y z = record { answer = x; start = y; session = z }
-
       left :
-          (requests : List IsoRequest)
-          → ((0 < n) × (requests ≡ set (s .requests) (s .head .count) (newRequest (s .head .«next_request_id») n))) ⊎ ((n ≤ 0) × (requests ≡ s .requests))
-          → self ≡ whole (s .cfg) (s .head) (s .fatal) requests plans
-          → whole (self .cfg) next (self .fatal) (self .requests) (self .plans) ≡ sessionAfter way s t lengths ring
-      left requests p q =
-          ap (λ (x : IsoChannelState). whole (x .cfg) next (x .fatal) (x .requests) (x .plans)) q
-          ∙ ap (λ (x : IsoHead). whole (s .cfg) x (s .fatal) requests plans) h
-          ∙ session-left s t lengths ring insert n all slot requests plans put p way e at f last
+          (requests : List IsoRequest) → self ≡ whole (s .cfg) (s .head) (s .fatal) requests plans → requests ≡ requestsWith s (r .added)
+          → of (r .answer) (r .start) (whole (self .cfg) (r .head) (self .fatal) (self .requests) (self .plans)) ≡ joined s r lengths
+      left requests q e =
+          ap (λ (x : IsoChannelState). of (r .answer) (r .start) (whole (x .cfg) (r .head) (x .fatal) (x .requests) (x .plans))) q
+          ∙ ap₂ (λ (x : List IsoRequest) (y : List IsoPacketPlan). of (r .answer) (r .start) (whole (s .cfg) (r .head) (s .fatal) x y)) e put

@@ -35,12 +35,14 @@ pub entry-equal :
     → entryNumber reason low kind empty none (over && alone) over full ≡ entryNumber reason′ low′ kind empty none (over′ && alone) over′ full′
 entry-equal kind empty none alone r l o f = rw (r, l, o, f)
 
--- no test held, so the submission is not over the capacity
-pub not-over : (reason low kind empty none alone over full : Bool) → entryNumber reason low kind empty none alone over full ≡ 0 → over ≡ false
+-- no test held, so the submission is not over the capacity, and the tables are not full
+pub not-over : (reason low kind empty none alone over full : Bool) → entryNumber reason low kind empty none alone over full ≡ 0 → (over ≡ false) × (full ≡ false)
 not-over reason low kind empty none alone over full e =
+    let h =
     none-holds (reason ⇒ 1 ∷ low ⇒ 2 ∷ kind ⇒ 3 ∷ empty ⇒ 4 ∷ none ⇒ 5 ∷ alone ⇒ 6 ∷ over ⇒ 7 ∷ full ⇒ 8 ∷ [])
     (omega arith and omega arith and omega arith and omega arith and omega arith and omega arith and omega arith and omega arith and tt)
-    e .1 .1 .1 .1 .1 .1 .0
+    e in
+    (h .1 .1 .1 .1 .1 .1 .0, h .1 .1 .1 .1 .1 .1 .1 .0)
 
 -- 17 and 18 by themselves; where neither holds, the rest decides
 pub entry-short : {short : Bool} (rest : ℕ) → short ≡ true → 17 ≡ cond short 17 rest
@@ -56,6 +58,11 @@ pub spend-equal :
     {sums sums′ limit limit′ clash clash′ : Bool} (channel : Bool) → sums ≡ sums′ → limit ≡ limit′ → clash ≡ clash′
     → spendNumber sums limit channel clash ≡ spendNumber sums′ limit′ channel clash′
 spend-equal channel s l c = rw (s, l, c)
+
+-- no test held, so the address is within its limit
+pub not-beyond : (sums limit channel clash : Bool) → spendNumber sums limit channel clash ≡ 0 → limit ≡ false
+not-beyond sums limit channel clash e =
+    none-holds (sums ⇒ 10 ∷ limit ⇒ 11 ∷ channel ⇒ 12 ∷ clash ⇒ 13 ∷ []) (omega arith and omega arith and omega arith and omega arith and tt) e .1 .0
 
 -- the way by the first refusal, the first long packet, the second refusal and the gates
 abbrev pub wayOf : ℕ → ℕ → ℕ → ℕ → SubmitWay → SubmitWay

@@ -1,7 +1,6 @@
--- Refused at the bytes, a kind that names nothing, or loaded, submitted and saved: a law for each way out.
-use borrow.Author.Needs.{needs}
+-- Refused at the bytes, a kind that names nothing, or submitted where the bytes stand: a law for each way out.
 use Rattle.port.proofs.Laws.Requests.{submit-refused, submit-kind, submit-done}
-use Rattle.port.proofs.Laws.Calls.{long-enough}
+use borrow.Author.Needs.{needs}
 use Rattle.port.proofs.requests.dwc2_iso_submit.Statement.{statement}
 use Rattle.port.proofs.requests.dwc2_iso_submit.Tie as tie
 
@@ -15,9 +14,7 @@ same-length : tie.Need-same-length
 same-length c = search needs
 
 returns : tie.Need-returns
-returns c =
-    let a = c .before .before .before .before .before .before .before .args in
-    submit-refused (a .session .now) (a .transfer) (a .lengths .now) (a .ring .now) (c .before .before .layout-refusal .ensures) (c .before .if1 .taken) (c .submit-refused .ensures)
+returns c = submit-refused (c .before .before .before .before .before .before .before .args .session .now) (c .before .before .before .before .before .before .before .args .transfer) (c .before .before .before .before .before .before .before .args .lengths .now) (c .before .before .before .before .before .before .before .args .ring .now) (c .before .before .layout-refusal .ensures) (c .before .if1 .taken) (c .submit-refused .ensures)
 
 submit-refused-requires-2 : tie.Need-submit-refused-requires-2
 submit-refused-requires-2 c κs = search needs
@@ -27,30 +24,14 @@ same-length-2 c = search needs
 
 returns-2 : tie.Need-returns-2
 returns-2 c =
-    let a = c .before .before .before .before .before .before .before .before .before .args in
-    submit-kind (a .session .now) (a .transfer) (a .lengths .now) (a .ring .now) (c .before .before .before .before .layout-refusal .ensures)
-    (c .before .before .before .if1 .left) (c .before .if2 .taken) (c .submit-refused2 .ensures)
+    submit-kind (c .before .before .before .before .before .before .before .before .before .args .session .now) (c .before .before .before .before .before .before .before .before .before .args .transfer) (c .before .before .before .before .before .before .before .before .before .args .lengths .now) (c .before .before .before .before .before .before .before .before .before .args .ring .now) (c .before .before .before .before .layout-refusal .ensures) (c .before .before .before .if1 .left) (c .before .if2 .taken)
+    (c .submit-refused2 .ensures)
 
 transfer-of-requires : tie.Need-transfer-of-requires
 transfer-of-requires c κs = search needs
 
-load-session-requires : tie.Need-load-session-requires
-load-session-requires c κs =
-    long-enough (c .before .before .before .before .before .before .before .before .before .before .args .session .now)
-    (c .before .before .before .before .before .layout-refusal .ensures) (c .before .before .before .before .if1 .left)
-
-submit-requires : tie.Need-submit-requires
-submit-requires c κs = search needs
-
-save-session-requires : tie.Need-save-session-requires
-save-session-requires c κs =
-    long-enough
-    (c .before .before .before .before .before .before .before .before .before .before .before .before .before .before .before .before .before .args .session .now)
-    (c .before .before .before .before .before .before .before .before .before .before .before .before .layout-refusal .ensures)
-    (c .before .before .before .before .before .before .before .before .before .before .before .if1 .left)
-
-submit-port-requires : tie.Need-submit-port-requires
-submit-port-requires c κs = search needs
+submit-at-requires : tie.Need-submit-at-requires
+submit-at-requires c κs = search needs
 
 same-length-3 : tie.Need-same-length-3
 same-length-3 c = search needs
@@ -60,16 +41,8 @@ same-length-4 c = search needs
 
 returns-3 : tie.Need-returns-3
 returns-3 c =
-    let a = c .before .before .before .before .before .before .before .before .before .before .before .before .before .before .before .before .before .before .before .before .before .before .args in
-    submit-done (a .session .now) (a .transfer) (a .lengths .now) (a .ring .now)
-    (c .before .before .before .before .before .before .before .before .before .before .before .before .before .before .before .before .before .layout-refusal .ensures)
-    (c .before .before .before .before .before .before .before .before .before .before .before .before .before .before .before .before .if1 .left)
-    (c .before .before .before .before .before .before .before .before .before .before .before .before .before .before .if2 .left)
-    (c .before .before .before .before .before .before .before .before .before .before .before .load-session .ensures)
-    (c .before .before .before .before .before .before .before .before .before .before .before .before .before .transfer-of .ensures)
-    (c .before .before .before .before .before .before .before .before .before .submit .ensures .0)
-    (c .before .before .before .before .before .before .before .before .before .submit .ensures .1) (c .submit-port .ensures)
-    (c .before .before .before .before .save-session .ensures)
+    submit-done (c .before .before .before .before .before .before .before .before .before .before .before .before .before .before .before .before .args .session .now) (c .before .before .before .before .before .before .before .before .before .before .before .before .before .before .before .before .args .transfer) (c .before .before .before .before .before .before .before .before .before .before .before .before .before .before .before .before .args .lengths .now) (c .before .before .before .before .before .before .before .before .before .before .before .before .before .before .before .before .args .ring .now) (c .before .before .before .before .before .before .before .before .before .before .before .layout-refusal .ensures) (c .before .before .before .before .before .before .before .before .before .before .if1 .left) (c .before .before .before .before .before .before .before .before .if2 .left)
+    (c .before .before .before .before .before .before .before .transfer-of .ensures) (c .before .before .before .before .submit-at .ensures .0) (c .before .before .before .before .submit-at .ensures .1) (c .before .before .before .before .submit-at .ensures .2)
 
 pub dwc2-iso-submit-spec : {M : Type 1} → statement M
 dwc2-iso-submit-spec =
@@ -83,10 +56,7 @@ dwc2-iso-submit-spec =
     same-length-2
     returns-2
     transfer-of-requires
-    load-session-requires
-    submit-requires
-    save-session-requires
-    submit-port-requires
+    submit-at-requires
     same-length-3
     same-length-4
     returns-3)

@@ -1,16 +1,17 @@
 -- `spend_refusal`: the code's flags are the definition's tests, in every session that the walk speaks of.
-use mathlib.Core.Path.{_∙_, ap}
+use mathlib.Core.Path.{_≡_, _∙_, sym, ap}
 use mathlib.Core.Bool.{not, _&&_}
-use Prim.Native.Nat.{ℕ}
+use Prim.Native.Nat.{ℕ, _+_}
 use lib.Dec.{eqb}
 use lib.ListN.{length}
+use borrow.Author.Tests.{ltb-false}
 use Rattle.words.specs.Words.{isBeyond}
 use Rattle.ring.specs.RingSums.{slotsFrom}
 use Rattle.session.specs.Session.{slots}
 use Rattle.session.specs.Scan.{whole}
 use Rattle.session.specs.Place.{insertAt, stepOf}
-use Rattle.session.specs.Way.{isGuarded, anyHeld, pendingPlans}
-use Rattle.session.proofs.Laws.Ways.{spend-equal}
+use Rattle.session.specs.Way.{isGuarded, sum, anyHeld, pendingPlans}
+use Rattle.session.proofs.Laws.Ways.{spend-equal, not-beyond}
 use borrow.Author.Needs.{needs}
 use Rattle.session.proofs.way.spend_refusal.Statement.{statement}
 use Rattle.session.proofs.way.spend_refusal.Tie as tie
@@ -34,19 +35,22 @@ spend-number-requires : tie.Need-spend-number-requires
 spend-number-requires c κs = search needs
 
 returns : tie.Need-returns
-returns c = λ requests plans w.
-    let sum-of = c .before .before .before .before .before .before .before .before .sum-of in
+returns c =
     let a = c .before .before .before .before .before .before .before .before .before .before .before .args in
-    let s = whole (a .cfg) (a .head) (a .fatal) requests plans in
     let n = length (a .lengths .now) in
-    c .spend-number .ensures
-    ∙ spend-equal (not (a .head .live) && not (a .transfer .«channel_free»))
-    (ap (λ (x : ℕ). not (eqb x (a .transfer .«buffer_len»))) (sum-of .ensures))
-    (c .before .is-beyond .ensures ∙ ap (isBeyond (a .transfer .base)) (sum-of .ensures))
-    (c .before .before .before .clash .ensures (pendingPlans s) (w .held)
-    ∙ ap (λ (i : ℕ). isGuarded (a .cfg .mode) && anyHeld (pendingPlans s) (slotsFrom (slots (a .cfg)) i (stepOf (a .cfg)) 0 n))
-    (c .before .before .before .before .before .insert-of .ensures
-    ∙ ap (λ (tail : ℕ). insertAt (a .cfg) (a .head) (a .transfer) tail (a .ring .now)) (w .tail)))
+    let sum-is = c .before .before .before .before .before .before .before .before .sum-of .ensures in
+    let no-channel = not (a .head .live) && not (a .transfer .«channel_free») in
+    let beyond : c .before .is-beyond .result ≡ isBeyond (a .transfer .base) (sum (a .lengths .now)) = c .before .is-beyond .ensures ∙ ap (isBeyond (a .transfer .base)) sum-is in (
+      λ requests plans w.
+          let s = whole (a .cfg) (a .head) (a .fatal) requests plans in
+          c .spend-number .ensures
+          ∙ spend-equal no-channel (ap (λ (x : ℕ). not (eqb x (a .transfer .«buffer_len»))) sum-is) beyond
+          (c .before .before .before .clash .ensures (pendingPlans s) (w .held)
+          ∙ ap (λ (i : ℕ). isGuarded (a .cfg .mode) && anyHeld (pendingPlans s) (slotsFrom (slots (a .cfg)) i (stepOf (a .cfg)) 0 n)) (c .before .before .before .before .before .insert-of .ensures ∙ ap (λ (tail : ℕ). insertAt (a .cfg) (a .head) (a .transfer) tail (a .ring .now)) (w .tail))),
+      λ z.
+          let off = not-beyond (not (eqb (c .before .before .before .before .before .before .before .before .sum-of .result) (a .transfer .«buffer_len»))) (c .before .is-beyond .result) no-channel (c .before .before .before .clash .result) (sym (c .spend-number .ensures) ∙ z) in
+          ltb-false 4294967295 (a .transfer .base + sum (a .lengths .now)) (sym beyond ∙ off),
+    )
 
 pub spend-refusal-spec : {M : Type 1} → statement M
 spend-refusal-spec =

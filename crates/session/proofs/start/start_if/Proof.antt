@@ -4,8 +4,8 @@ use mathlib.Core.Bool.{Bool, cond}
 use Rattle.session.specs.Scan.{only}
 use Rattle.session.specs.Submit.{noStart, startWords}
 use borrow.Author.Needs.{needs}
-use Rattle.session.proofs.submit.start_if.Statement.{statement}
-use Rattle.session.proofs.submit.start_if.Tie as tie
+use Rattle.session.proofs.start.start_if.Statement.{statement}
+use Rattle.session.proofs.start.start_if.Tie as tie
 
 start-words-requires : tie.Need-start-words-requires
 start-words-requires c κs = search needs

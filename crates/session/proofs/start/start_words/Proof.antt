@@ -1,7 +1,7 @@
 -- `start_words` is its definition at what its callees answer.
 use borrow.Author.Needs.{needs}
-use Rattle.session.proofs.submit.start_words.Statement.{statement}
-use Rattle.session.proofs.submit.start_words.Tie as tie
+use Rattle.session.proofs.start.start_words.Statement.{statement}
+use Rattle.session.proofs.start.start_words.Tie as tie
 
 packet-size-requires : tie.Need-packet-size-requires
 packet-size-requires c κs = search needs
