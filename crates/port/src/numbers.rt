@@ -1,8 +1,8 @@
 // Numbers in a run of bytes, little-endian, at an offset.
 ghost use mathlib.Core.Path.{_≡_};
-ghost use Prim.Native.Nat.{ℕ, _+_, _≤_, _<_};
+ghost use Prim.Native.Nat.{_+_, _≤_};
 ghost use mathlib.Core.List.{[], _∷_};
-ghost use lib.ListN.{length, getD, drop};
+ghost use lib.ListN.{length, drop};
 ghost use lib.Seq.{sets};
 ghost use Rattle.port.specs.Bytes.{byteOf, u16Of, u32Of, u64Of, u16Bytes, u32Bytes, u64Bytes};
 
@@ -17,19 +17,6 @@ fn wide(x: u8) -> u16
     ensures { λ r. ⌜ (r ≡ x) × (r ≤ 255) ⌝ }
 {
     x as u16
-}
-
-// Every byte is below 256, which the contract of a lent slice does not say by itself. The walk has no effect, so the compiled code has
-// none of it.
-pub(crate) fn octets(bytes: &[u8])
-    ensures { λ _. ⌜ ((i : ℕ) → getD (now (bytes .entry)) i 0 < 256) ⌝ }
-{
-    let n = bytes.len();
-    let mut i: usize = 0;
-    while i < n {
-        wide(bytes[i]);
-        i += 1;
-    }
 }
 
 pub(crate) fn u16_at(bytes: &[u8], at: usize) -> u16

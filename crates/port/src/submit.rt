@@ -17,7 +17,6 @@ use crate::entries::put_request;
 use crate::entries::tagged_at;
 use crate::load::config_at;
 use crate::load::head_at;
-use crate::numbers::octets;
 use crate::save::put_head;
 use crate::scan::scan_at;
 use crate::tags::fatal_of;
@@ -62,7 +61,7 @@ fn put_packets(
 
 // The request and its plans behind the others, where packets are added.
 fn put_added(bytes: &mut [u8], head: IsoHead, parts: SubmitParts, lengths: &[u32])
-    requires { ⌜ (layoutNumber (now bytes) ≡ 0) × ((i : ℕ) → getD (now bytes) i 0 < 256) × (head ≡ sessionOf (now bytes) .head) × (0 < parts .slots) × (0 < parts .added → Fitting (sessionOf (now bytes)) parts (now lengths)) ⌝ }
+    requires { ⌜ (layoutNumber (now bytes) ≡ 0) × (head ≡ sessionOf (now bytes) .head) × (0 < parts .slots) × (0 < parts .added → Fitting (sessionOf (now bytes)) parts (now lengths)) ⌝ }
     ensures { λ _. ⌜ now (bytes .exit) ≡ sets (now (bytes .entry)) 0 (saved (grown (sessionOf (now (bytes .entry))) parts (now (lengths .entry)))) ⌝ }
 {
     let n = parts.added;
@@ -84,7 +83,6 @@ pub(crate) fn submit_at(
     requires { ⌜ layoutNumber (now bytes) ≡ 0 ⌝ }
     ensures { λ r. ⌜ (r ≡ submittedPort (submitted (sessionOf (now (bytes .entry))) transfer (now (lengths .entry)) (now (ring .entry)))) × (now (bytes .exit) ≡ sets (now (bytes .entry)) 0 (saved (submitted (sessionOf (now (bytes .entry))) transfer (now (lengths .entry)) (now (ring .entry)) .session))) × (now (ring .exit) ≡ submittedRing (sessionOf (now (bytes .entry))) transfer (now (lengths .entry)) (now (ring .entry))) ⌝ }
 {
-    octets(bytes);
     let cfg = config_at(bytes);
     let head = head_at(bytes);
     let fatal = fatal_of(tagged_at(bytes, 34));

@@ -26,14 +26,14 @@ use Rattle.session.proofs.Laws.Stores.{newPlan, length-plansFrom, getD-plansFro
 use Rattle.session.proofs.Laws.Submits.{pushed}
 use Rattle.port.specs.declared.tags.Tagged.{Tagged}
 use Rattle.port.specs.Tags.{taggedOf, fatalOf}
-use Rattle.port.specs.Layout.{configOf, headOf, headBytes, requestBytes, requestOf, planBytes, planOf, tableBytes, layoutNumber, sessionOf, saved}
+use Rattle.port.specs.Layout.{configOf, headOf, headBytes, requestBytes, planBytes, tableBytes, layoutNumber, sessionOf, saved}
 use Rattle.port.specs.Submit.{grown}
 use Rattle.port.proofs.Laws.Runs.{sets-append}
 use Rattle.port.proofs.Laws.Entries.{length-plan}
-use Rattle.port.proofs.Laws.Tables.{length-table}
 use Rattle.port.proofs.Laws.Loaded.{session, session-at}
 use Rattle.port.proofs.Laws.Calls.{long-enough}
 use Rattle.port.proofs.Laws.Kept.{Octets}
+use Rattle.port.proofs.Laws.Scans.{requests-long, plans-long}
 use Rattle.port.proofs.Laws.Placed.{plan-put, request-put, head-put}
 use Rattle.port.proofs.Canonical.{loaded-saved}
 
@@ -78,14 +78,6 @@ cond-long : (b : Bool) (l : List IsoRequest) (i : ℕ) (q : IsoRequest) → leng
 cond-long true l i q = refl
 cond-long false l i q = length-set l i q
 
-many-requests : (xs : List ℕ) → length (sessionOf xs .requests) ≡ 64
-unfolding sessionOf
-many-requests xs = length-table requestOf 20 64 (drop 40 xs)
-
-many-plans : (xs : List ℕ) → length (sessionOf xs .plans) ≡ 1024
-unfolding sessionOf
-many-plans xs = length-table planOf 7 1024 (drop 1320 xs)
-
 module _ (xs : List ℕ) (octets : Octets xs) (z : layoutNumber xs ≡ 0) (lengths : List ℕ) (r : SubmitParts) where
   abbrev s : IsoChannelState
   s = sessionOf xs
@@ -101,10 +93,10 @@ module _ (xs : List ℕ) (octets : Octets xs) (z : layoutNumber xs ≡ 0) (lengt
   long = long-enough xs refl z
 
   planned-long : length (plansWith s r lengths) ≡ 1024
-  planned-long = length-sets (s .plans) (r .to) (packets (r .added)) ∙ many-plans xs
+  planned-long = length-sets (s .plans) (r .to) (packets (r .added)) ∙ plans-long xs
 
   grown-long : length (requestsWith s (r .added)) ≡ 64
-  grown-long = cond-long (eqb (r .added) 0) (s .requests) (s .head .count) (newRequest (s .head .«next_request_id») (r .added)) ∙ many-requests xs
+  grown-long = cond-long (eqb (r .added) 0) (s .requests) (s .head .count) (newRequest (s .head .«next_request_id») (r .added)) ∙ requests-long xs
 
   pub none-put : r .added ≤ 0 → xs ≡ sets xs 0 (saved (grown s r lengths))
   none-put h =
@@ -126,11 +118,11 @@ module _ (xs : List ℕ) (octets : Octets xs) (z : layoutNumber xs ≡ 0) (lengt
       let put : one ≡ sets xs 0 (saved planned) =
       e
       ∙ ap (λ (m : List ℕ). sets m (1320 + 7 * r .to) (tableBytes planBytes (packets (r .added)))) (sym (loaded-saved xs octets z))
-      ∙ plans-put xs s long (many-requests xs) (many-plans xs) (packets (r .added)) (r .to) room in
+      ∙ plans-put xs s long (requests-long xs) (plans-long xs) (packets (r .added)) (r .to) room in
       f
       ∙ ap₂ (λ (m : List ℕ) (h : IsoHead). sets m (40 + 20 * h .count) (requestBytes q)) put eh
       ∙ ap (λ (x : IsoRequest). sets (sets xs 0 (saved planned)) (40 + 20 * s .head .count) (requestBytes x)) asked
-      ∙ request-put xs planned long (many-requests xs) planned-long (s .head .count) new (fit .requests)
+      ∙ request-put xs planned long (requests-long xs) planned-long (s .head .count) new (fit .requests)
       ∙ ap (λ (l : List IsoRequest). sets xs 0 (saved (session (s .cfg) (s .head) (s .fatal) l (plansWith s r lengths)))) (sym (pushed s (r .added) some))
 
   pub numbers-put :
