@@ -10,11 +10,11 @@ use crate::answers::PortReclaimed;
 use crate::answers::PortReply;
 use crate::answers::reclaim_port;
 use crate::answers::reclaim_refused;
-use crate::answers::reply_port;
 use crate::answers::reply_refused;
 use crate::cancel::cancel_at;
 use crate::load::layout_refusal;
 use crate::load::load_session;
+use crate::poll::poll_on;
 use crate::poll::recover_at;
 use crate::reset::reset_at;
 use crate::save::save_session;
@@ -94,11 +94,7 @@ pub extern "C" fn dwc2_iso_poll(
         return reply_refused(refusal);
     }
     let event = event_of(reported, unplugged, hcint);
-    let reply = load_session(session).poll_channel(event, ring);
-    let after = reply.session;
-    save_session(session, after);
-    let answer = reply.answer;
-    reply_port(answer, reply.taken, reply.halt)
+    poll_on(session, event, ring)
 }
 
 #[no_mangle]
