@@ -8,12 +8,12 @@ ghost use Rattle.session.specs.declared.types.IsoChannelState.{IsoChannelState}
 ghost use Rattle.port.specs.Calls.{replyBy, bytesBy, wordsBy, checkBy, eventOf, reclaimBy};
 use crate::answers::PortReclaimed;
 use crate::answers::PortReply;
-use crate::answers::reclaim_port;
 use crate::answers::reclaim_refused;
 use crate::answers::reply_port;
 use crate::answers::reply_refused;
 use crate::load::layout_refusal;
 use crate::load::load_session;
+use crate::reclaim::reclaim_at;
 use crate::save::save_session;
 use session::IsoEvent;
 
@@ -125,9 +125,5 @@ pub extern "C" fn dwc2_iso_reclaim(
         return reclaim_refused(refusal);
     }
     let event = event_of(reported, unplugged, hcint);
-    let reply = load_session(session).reclaim(id, event, ring, results);
-    let after = reply.session;
-    save_session(session, after);
-    let answer = reply.answer;
-    reclaim_port(answer, reply.taken, reply.halt)
+    reclaim_at(session, id, event, ring, results)
 }

@@ -6,6 +6,7 @@ mod entries;
 mod load;
 mod numbers;
 mod planning;
+mod reclaim;
 mod requests;
 mod ring_sums;
 mod save;
