@@ -15,6 +15,7 @@ pub mod Runs
 pub mod Saved
 pub mod Scans
 pub mod Settling
+pub mod Steps
 pub mod Tables
 pub mod Tags
 pub mod Walks

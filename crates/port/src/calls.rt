@@ -11,10 +11,14 @@ use crate::answers::PortReply;
 use crate::answers::reclaim_refused;
 use crate::answers::reply_port;
 use crate::answers::reply_refused;
+use crate::cancel::cancel_at;
 use crate::load::layout_refusal;
 use crate::load::load_session;
+use crate::poll::recover_at;
 use crate::reclaim::reclaim_at;
+use crate::reset::reset_at;
 use crate::save::save_session;
+use crate::scan::scan_at;
 use session::IsoEvent;
 
 #[no_mangle]
@@ -25,7 +29,8 @@ pub extern "C" fn dwc2_iso_check(session: &[u8]) -> u32
     if refusal != 0 {
         return refusal as u32;
     }
-    if load_session(session).is_bad_record() {
+    let scan = scan_at(session);
+    if scan.bad {
         return 18;
     }
     0
@@ -39,11 +44,7 @@ pub extern "C" fn dwc2_iso_reset(session: &mut [u8]) -> PortReply
     if refusal != 0 {
         return reply_refused(refusal);
     }
-    let reply = load_session(session).reset();
-    let after = reply.session;
-    save_session(session, after);
-    let answer = reply.answer;
-    reply_port(answer, reply.taken, reply.halt)
+    reset_at(session)
 }
 
 #[no_mangle]
@@ -54,11 +55,7 @@ pub extern "C" fn dwc2_iso_cancel(session: &mut [u8], id: u64) -> PortReply
     if refusal != 0 {
         return reply_refused(refusal);
     }
-    let reply = load_session(session).cancel(id);
-    let after = reply.session;
-    save_session(session, after);
-    let answer = reply.answer;
-    reply_port(answer, reply.taken, reply.halt)
+    cancel_at(session, id)
 }
 
 #[no_mangle]
@@ -69,11 +66,7 @@ pub extern "C" fn dwc2_iso_recover(session: &mut [u8], ring: &mut [u32]) -> Port
     if refusal != 0 {
         return reply_refused(refusal);
     }
-    let reply = load_session(session).recover(ring);
-    let after = reply.session;
-    save_session(session, after);
-    let answer = reply.answer;
-    reply_port(answer, reply.taken, reply.halt)
+    recover_at(session, ring)
 }
 
 fn event_of(reported: u32, unplugged: u32, hcint: u32) -> IsoEvent

@@ -1,13 +1,17 @@
 // The C interface: document 01, "What must change shape", and include/dwc2_port.h. A session crosses as bytes (docs/LAYOUT.md).
 mod answers;
 mod calls;
+mod cancel;
 mod drain;
+mod end;
 mod entries;
 mod load;
 mod numbers;
 mod planning;
+mod poll;
 mod reclaim;
 mod requests;
+mod reset;
 mod ring_sums;
 mod save;
 mod scan;

@@ -2,6 +2,7 @@
 ghost use mathlib.Core.Path.{_≡_};
 ghost use Prim.Native.Nat.{_≤_};
 ghost use lib.ListN.{length, drop};
+ghost use Rattle.port.specs.Tags.{taggedOf, fatalOf};
 ghost use Rattle.port.specs.Layout.{configOf, headOf, requestOf, planOf, tableOf, anyOf, isBadRequestBytes, isBadPlanBytes, isBadMark, isBadHead, layoutNumber, sessionOf};
 use crate::entries::is_bad_plan_at;
 use crate::entries::is_bad_request_at;
@@ -19,6 +20,7 @@ use crate::tags::mode_of;
 use crate::tags::speed_of;
 use session::IsoChannelState;
 use session::IsoConfig;
+use session::IsoFatal;
 use session::IsoHead;
 use session::IsoOutcome;
 use session::IsoPacketPlan;
@@ -53,6 +55,14 @@ pub(crate) fn head_at(bytes: &[u8]) -> IsoHead
         done: u16_at(bytes, 30),
         count: u16_at(bytes, 32),
     }
+}
+
+// Why the session is ending.
+pub(crate) fn reason_at(bytes: &[u8]) -> IsoFatal
+    requires { ⌜ 8488 ≤ length (now bytes) ⌝ }
+    ensures { λ r. ⌜ r ≡ fatalOf (taggedOf (drop 34 (now (bytes .entry)))) ⌝ }
+{
+    fatal_of(tagged_at(bytes, 34))
 }
 
 fn requests_at(bytes: &[u8]) -> [IsoRequest; 64]

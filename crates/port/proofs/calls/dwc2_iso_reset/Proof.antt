@@ -1,7 +1,9 @@
--- Refused at the bytes, or loaded, reset and saved: the law of calls by bytes at each way out.
+-- Refused at the bytes, or worked on where they stand: the law of calls by bytes at each way out.
+use mathlib.Core.Path.{refl, _∙_, sym}
 use borrow.Author.Needs.{needs}
 use Rattle.session.specs.Poll.{resetReply}
-use Rattle.port.proofs.Laws.Calls.{long-enough, reply-refused, reply-done}
+use Rattle.port.specs.Layout.{sessionOf}
+use Rattle.port.proofs.Laws.Calls.{reply-refused, reply-done}
 use Rattle.port.proofs.calls.dwc2_iso_reset.Statement.{statement}
 use Rattle.port.proofs.calls.dwc2_iso_reset.Tie as tie
 
@@ -17,31 +19,16 @@ same-length c = search needs
 returns : tie.Need-returns
 returns c = reply-refused (c .before .before .before .before .before .args .session .now) resetReply (c .before .before .layout-refusal .ensures) (c .before .if1 .taken) (c .reply-refused .ensures)
 
-load-session-requires : tie.Need-load-session-requires
-load-session-requires c κs = long-enough (c .before .before .before .before .before .args .session .now) (c .before .before .layout-refusal .ensures) (c .before .if1 .left)
-
-reset-requires : tie.Need-reset-requires
-reset-requires c κs = search needs
-
-save-session-requires : tie.Need-save-session-requires
-save-session-requires c κs =
-    long-enough (c .before .before .before .before .before .before .before .before .before .args .session .now)
-    (c .before .before .before .before .before .before .layout-refusal .ensures) (c .before .before .before .before .before .if1 .left)
-
-reply-port-requires : tie.Need-reply-port-requires
-reply-port-requires c κs = search needs
+reset-at-requires : tie.Need-reset-at-requires
+reset-at-requires c κs = sym (c .before .before .layout-refusal .ensures) ∙ c .before .if1 .left
 
 same-length-2 : tie.Need-same-length-2
 same-length-2 c = search needs
 
 returns-2 : tie.Need-returns-2
 returns-2 c =
-    reply-done
-    (c .before .before .before .before .before .before .before .before .before .before .before .before .before .args .session .now) resetReply
-    (c .before .before .before .before .before .before .before .before .before .before .layout-refusal .ensures)
-    (c .before .before .before .before .before .before .before .before .before .if1 .left)
-    (c .before .before .before .before .before .before .before .load-session .ensures)
-    (c .before .before .before .before .before .before .reset .ensures) (c .reply-port .ensures) (c .before .before .before .save-session .ensures)
+    let xs = c .before .before .before .before .before .before .before .before .args .session .now in
+    reply-done xs resetReply {s = sessionOf xs} {r = resetReply (sessionOf xs)} (c .before .before .before .before .before .layout-refusal .ensures) (c .before .before .before .before .if1 .left) refl refl (c .before .before .reset-at .ensures .0) (c .before .before .reset-at .ensures .1)
 
 pub dwc2-iso-reset-spec : {M : Type 1} → statement M
 dwc2-iso-reset-spec =
@@ -51,9 +38,6 @@ dwc2-iso-reset-spec =
     reply-refused-requires
     same-length
     returns
-    load-session-requires
-    reset-requires
-    save-session-requires
-    reply-port-requires
+    reset-at-requires
     same-length-2
     returns-2)

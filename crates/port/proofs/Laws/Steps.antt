@@ -1,0 +1,177 @@
+-- Work on a session's bytes where they stand, step by step: bytes that hold a session hold the next one after each store, and what stands behind
+-- the session stays.
+use mathlib.Core.Path.{_≡_, refl, _∙_, sym, ap, ap₂}
+use mathlib.Core.Bool.{Bool, true, false, cond}
+use mathlib.Core.List.{List, map}
+use Prim.Native.Nat.{ℕ, _+_, _*_, _≤_, _<_}
+use native.Mathlib.Omega.{arith}
+use lib.Dec.{ltb}
+use lib.ListN.{length, getD, drop, set, length-set}
+use lib.Seq.{slice, sets, sets-eq, length-sets}
+use Rattle.session.specs.declared.reply.IsoReply.{IsoReply}
+use Rattle.session.specs.declared.types.IsoFatal.{IsoFatal}
+use Rattle.session.specs.declared.types.IsoFatal.the-variants.{Nothing}
+use Rattle.session.specs.declared.types.IsoHead.{IsoHead}
+use Rattle.session.specs.declared.types.IsoOutcome.{IsoOutcome}
+use Rattle.session.specs.declared.types.IsoRequest.{IsoRequest}
+use Rattle.session.specs.declared.types.IsoChannelState.{IsoChannelState}
+use Rattle.session.specs.Session.{blankRequest, ringWords}
+use Rattle.session.specs.Record.{isBadRecord}
+use Rattle.session.specs.Poll.{refusedReply}
+use Rattle.session.specs.End.{withOutcome, endedRequests, ended}
+use Rattle.session.proofs.Laws.Lists.{amend-next}
+use Rattle.port.specs.declared.answers.PortReply.{PortReply}
+use Rattle.port.specs.declared.tags.Tagged.{Tagged}
+use Rattle.port.specs.Tags.{taggedBytes, fatalTagged}
+use Rattle.port.specs.Layout.{headBytes, requestBytes, requestOf, layoutNumber, saved, sessionOf}
+use Rattle.port.specs.Calls.{replyPort}
+use Rattle.port.specs.Parts.{withRequests, endedHead, lentNumber}
+use Rattle.port.proofs.Canonical.{loaded-saved}
+use Rattle.port.proofs.Roundtrip.{saved-loaded}
+use Rattle.port.proofs.Laws.Calls.{long-enough}
+use Rattle.port.proofs.Laws.Kept.{Octets}
+use Rattle.port.proofs.Laws.Loaded.{session}
+use Rattle.port.proofs.Laws.Placed.{length-saved, request-there, request-put, head-put, reason-put}
+use Rattle.port.proofs.Laws.Scans.{requests-long, plans-long}
+
+-- a session that was stored at the front is the one that the bytes hold
+pub stored-session :
+    (xs : List ℕ) (t : IsoChannelState) → 8488 ≤ length xs → length (t .requests) ≡ 64 → length (t .plans) ≡ 1024
+    → sessionOf (sets xs 0 (saved t)) ≡ t
+stored-session xs t long r p =
+    let fits : 0 + length (saved t) ≤ length xs = omega (arith, length-saved xs t long r p) in
+    ap sessionOf (sets-eq (saved t) xs 0 fits) ∙ saved-loaded t r p (drop (0 + length (saved t)) xs)
+
+-- one request's outcome, where a session was stored
+pub outcome-put :
+    (xs : List ℕ) (t : IsoChannelState) → 8488 ≤ length xs → length (t .requests) ≡ 64 → length (t .plans) ≡ 1024 → (i : ℕ) (o : IsoOutcome) → i < 64
+    → sets (sets xs 0 (saved t)) (40 + 20 * i) (requestBytes (withOutcome o (requestOf (drop (40 + 20 * i) (sets xs 0 (saved t))))))
+    ≡ sets xs 0 (saved (withRequests (set (t .requests) i (withOutcome o (getD (t .requests) i blankRequest))) t))
+outcome-put xs t long r p i o h =
+    let now : List ℕ = sets xs 0 (saved t) in
+    let read : requestOf (drop (40 + 20 * i) now) ≡ getD (t .requests) i blankRequest =
+    request-there now i blankRequest h ∙ ap (λ (s : IsoChannelState). getD (s .requests) i blankRequest) (stored-session xs t long r p) in
+    ap (λ (q : IsoRequest). sets now (40 + 20 * i) (requestBytes (withOutcome o q))) read
+    ∙ request-put xs t long r p i (withOutcome o (getD (t .requests) i blankRequest)) h
+
+-- ---- bytes of the layout
+
+module _ (xs : List ℕ) (octets : Octets xs) (z : layoutNumber xs ≡ 0) where
+  pub long : 8488 ≤ length xs
+  long = long-enough xs refl z
+
+  pub same-bytes : xs ≡ sets xs 0 (saved (sessionOf xs))
+  same-bytes = sym (loaded-saved xs octets z)
+
+  pub head-here :
+      (h : IsoHead)
+      → sets xs 15 (headBytes h)
+      ≡ sets xs 0 (saved (session (sessionOf xs .cfg) h (sessionOf xs .fatal) (sessionOf xs .requests) (sessionOf xs .plans)))
+  head-here h =
+      ap (λ (m : List ℕ). sets m 15 (headBytes h)) same-bytes ∙ head-put xs (sessionOf xs) long (requests-long xs) (plans-long xs) h
+
+  pub reason-here :
+      (f : IsoFatal)
+      → sets xs 34 (taggedBytes (fatalTagged f))
+      ≡ sets xs 0 (saved (session (sessionOf xs .cfg) (sessionOf xs .head) f (sessionOf xs .requests) (sessionOf xs .plans)))
+  reason-here f =
+      ap (λ (m : List ℕ). sets m 34 (taggedBytes (fatalTagged f))) same-bytes ∙ reason-put xs (sessionOf xs) long (requests-long xs) (plans-long xs) f
+
+  pub outcome-here :
+      (i : ℕ) (o : IsoOutcome) → i < 64
+      → sets xs (40 + 20 * i) (requestBytes (withOutcome o (requestOf (drop (40 + 20 * i) xs))))
+      ≡ sets xs 0 (saved (withRequests (set (sessionOf xs .requests) i (withOutcome o (getD (sessionOf xs .requests) i blankRequest))) (sessionOf xs)))
+  outcome-here i o h =
+      ap (λ (m : List ℕ). sets m (40 + 20 * i) (requestBytes (withOutcome o (requestOf (drop (40 + 20 * i) m))))) same-bytes
+      ∙ outcome-put xs (sessionOf xs) long (requests-long xs) (plans-long xs) i o h
+
+  -- a call that leaves the session as it was
+  pub stays :
+      (call : IsoReply) {r : IsoReply} {p : PortReply} → call ≡ r → r .session ≡ sessionOf xs → p ≡ replyPort r
+      → (p ≡ replyPort call) × (xs ≡ sets xs 0 (saved (call .session)))
+  stays call e s p =
+      (p ∙ sym (ap replyPort e), same-bytes ∙ ap (λ (t : IsoChannelState). sets xs 0 (saved t)) (sym s ∙ sym (ap (λ (r : IsoReply). r .session) e)))
+
+-- a call that leaves another session
+pub becomes :
+    (xs : List ℕ) (call : IsoReply) {r : IsoReply} {p : PortReply} {after : List ℕ} → call ≡ r → p ≡ replyPort r → after ≡ sets xs 0 (saved (r .session))
+    → (p ≡ replyPort call) × (after ≡ sets xs 0 (saved (call .session)))
+becomes xs call e p b = (p ∙ sym (ap replyPort e), b ∙ sym (ap (λ (r : IsoReply). sets xs 0 (saved (r .session))) e))
+
+-- ---- the outcome of one request after the other: one turn
+
+module _ (xs now next : List ℕ) (o : IsoOutcome) (i to : ℕ) (long : 8488 ≤ length xs)
+    (held : now ≡ sets xs 0 (saved (withRequests (sessionOf now .requests) (sessionOf xs)))) (less : i < to) (few : to ≤ 64)
+    (put : next ≡ sets now (40 + 20 * i) (requestBytes (withOutcome o (requestOf (drop (40 + 20 * i) now))))) where
+  abbrev one : List IsoRequest
+  one = set (sessionOf now .requests) i (withOutcome o (getD (sessionOf now .requests) i blankRequest))
+
+  stored-one : next ≡ sets xs 0 (saved (withRequests one (sessionOf xs)))
+  stored-one =
+      put
+      ∙ ap (λ (m : List ℕ). sets m (40 + 20 * i) (requestBytes (withOutcome o (requestOf (drop (40 + 20 * i) m))))) held
+      ∙ outcome-put xs (withRequests (sessionOf now .requests) (sessionOf xs)) long (requests-long now) (plans-long xs) i o (omega arith)
+
+  one-there : sessionOf next .requests ≡ one
+  one-there =
+      ap (λ (m : List ℕ). sessionOf m .requests) stored-one
+      ∙ ap (λ (s : IsoChannelState). s .requests)
+      (stored-session xs (withRequests one (sessionOf xs)) long
+      (length-set (sessionOf now .requests) i (withOutcome o (getD (sessionOf now .requests) i blankRequest)) ∙ requests-long now) (plans-long xs))
+
+  pub turn-held : next ≡ sets xs 0 (saved (withRequests (sessionOf next .requests) (sessionOf xs)))
+  turn-held = stored-one ∙ ap (λ (l : List IsoRequest). sets xs 0 (saved (withRequests l (sessionOf xs)))) (sym one-there)
+
+  pub turn-left :
+      sets (sessionOf next .requests) (i + 1) (map (withOutcome o) (slice (i + 1) to (sessionOf next .requests)))
+      ≡ sets (sessionOf now .requests) i (map (withOutcome o) (slice i to (sessionOf now .requests)))
+  turn-left =
+      ap (λ (l : List IsoRequest). sets l (i + 1) (map (withOutcome o) (slice (i + 1) to l))) one-there
+      ∙ sym (amend-next (withOutcome o) i to (sessionOf now .requests) blankRequest less (omega (arith, requests-long now)))
+
+-- ---- the end of a session: requests, head and reason, one after the other
+
+pub end-put :
+    (xs : List ℕ) (o : IsoOutcome) → 8488 ≤ length xs → {h e : IsoHead} {t : Tagged} {a b c : List ℕ}
+    → h ≡ sessionOf xs .head
+    → a
+    ≡ sets xs 0
+    (saved (withRequests (sets (sessionOf xs .requests) (h .done) (map (withOutcome o) (slice (h .done) (h .count) (sessionOf xs .requests)))) (sessionOf xs)))
+    → e ≡ endedHead h
+    → b ≡ sets a 15 (headBytes e)
+    → t ≡ fatalTagged Nothing
+    → c ≡ sets b 34 (taggedBytes t)
+    → c ≡ sets xs 0 (saved (ended o (sessionOf xs)))
+end-put xs o enough eh ea ee eb et ec =
+    let s : IsoChannelState = sessionOf xs in
+    let failed : List IsoRequest = endedRequests o s in
+    let many : length failed ≡ 64 = length-sets (s .requests) (s .head .done) (map (withOutcome o) (slice (s .head .done) (s .head .count) (s .requests))) ∙ requests-long xs in
+    let first : IsoChannelState = withRequests failed s in
+    let second : IsoChannelState = session (s .cfg) (endedHead (s .head)) (s .fatal) failed (s .plans) in
+    let a-is =
+    ea
+    ∙ ap (λ (k : IsoHead). sets xs 0 (saved (withRequests (sets (s .requests) (k .done) (map (withOutcome o) (slice (k .done) (k .count) (s .requests)))) s))) eh in
+    let b-is = eb ∙ ap₂ (λ (m : List ℕ) (k : IsoHead). sets m 15 (headBytes k)) a-is (ee ∙ ap endedHead eh) ∙ head-put xs first enough many (plans-long xs) (endedHead (s .head)) in
+    ec ∙ ap₂ (λ (m : List ℕ) (k : Tagged). sets m 34 (taggedBytes k)) b-is et ∙ reason-put xs second enough many (plans-long xs) Nothing
+
+-- ---- a call that is lent the ring: refused with a number, or past both tests
+
+module _ (s : IsoChannelState) (words : ℕ) {n : ℕ} (is : n ≡ lentNumber s words) where
+  pub lent-refused :
+      {A : Type 0} (answer : ℕ → A) (r : A) → (n ≡ 0 → ⊥)
+      → cond (ltb words (ringWords (s .cfg))) (answer 17) (cond (isBadRecord s) (answer 18) r) ≡ answer n
+  lent-refused {A} answer r z = go (ltb words (ringWords (s .cfg))) (isBadRecord s) is
+    where
+      go : (a b : Bool) → n ≡ cond a 17 (cond b 18 0) → cond a (answer 17) (cond b (answer 18) r) ≡ answer n
+      go true b e = ap answer (sym e)
+      go false true e = ap answer (sym e)
+      go false false e = absurd (z e)
+
+  pub lent-passed : n ≡ 0 → (ltb words (ringWords (s .cfg)) ≡ false) × (isBadRecord s ≡ false)
+  lent-passed z = go (ltb words (ringWords (s .cfg))) (isBadRecord s) refl refl (sym is ∙ z)
+    where
+      go : (a b : Bool) → ltb words (ringWords (s .cfg)) ≡ a → isBadRecord s ≡ b → _≡_ {A = ℕ} (cond a 17 (cond b 18 0)) 0
+          → (ltb words (ringWords (s .cfg)) ≡ false) × (isBadRecord s ≡ false)
+      go true b p q e = absurd (omega arith)
+      go false true p q e = absurd (omega arith)
+      go false false p q e = (p, q)

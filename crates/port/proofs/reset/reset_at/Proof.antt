@@ -1,0 +1,114 @@
+-- Each way out is the definition at the tests that led there; only the last one writes, and writes the head.
+use mathlib.Core.Path.{_≡_, refl, _∙_, sym, ap}
+use mathlib.Core.Bool.{Bool, not, _||_}
+use native.Mathlib.Omega.{arith}
+use lib.Dec.{eqb}
+use lib.Seq.{sets}
+use borrow.Author.Needs.{needs}
+use Rattle.session.specs.declared.types.IsoHead.{IsoHead}
+use Rattle.session.specs.Session.{hasReason}
+use Rattle.session.specs.Poll.{resetReply}
+use Rattle.session.proofs.Laws.Replies.{reset-bad, reset-full, reset-done}
+use Rattle.port.specs.Layout.{sessionOf, saved}
+use Rattle.port.proofs.Laws.Calls.{long-enough}
+use Rattle.port.proofs.Laws.Kept.{Octets}
+use Rattle.port.proofs.Laws.Loaded.{session}
+use Rattle.port.proofs.Laws.Scans.{head-there, reason-there}
+use Rattle.port.proofs.Laws.Steps.{head-here, stays, becomes}
+use Rattle.port.proofs.reset.reset_at.Statement.{statement}
+use Rattle.port.proofs.reset.reset_at.Tie as tie
+
+octets : (c : tie.After-slice-known) → Octets (c .before .args .bytes .now)
+octets c i = omega (arith, c .slice-known .given i)
+
+abbrev cursor-first : IsoHead → IsoHead
+cursor-first h =
+    record {
+      «next_request_id» = h .«next_request_id»;
+      live = h .live;
+      «td_last» = 0;
+      «start_full_frame» = h .«start_full_frame»;
+      done = h .done;
+      count = h .count;
+    }
+
+-- the test of the code is the definition's
+some : (c : tie.After-has-reason) → (not (eqb (c .before .before .before .before .head-at .result .count) 0) || c .has-reason .result) ≡ (not (eqb (sessionOf (c .before .before .before .before .before .before .before .before .before .before .args .bytes .now) .head .count) 0) || hasReason (sessionOf (c .before .before .before .before .before .before .before .before .before .before .args .bytes .now) .fatal))
+some c =
+    let xs = c .before .before .before .before .before .before .before .before .before .before .args .bytes .now in
+    ap (λ (b : Bool). not (eqb (c .before .before .before .before .head-at .result .count) 0) || b) (c .has-reason .ensures ∙ ap hasReason (c .before .before .reason-at .ensures ∙ reason-there xs))
+    ∙ ap (λ (h : IsoHead). not (eqb (h .count) 0) || hasReason (sessionOf xs .fatal)) (c .before .before .before .before .head-at .ensures ∙ head-there xs)
+
+scan-at-requires : tie.Need-scan-at-requires
+scan-at-requires c κs = long-enough (c .before .before .args .bytes .now) refl (c .before .before .pre)
+
+reply-refused-requires : tie.Need-reply-refused-requires
+reply-refused-requires c κs = search needs
+
+same-length : tie.Need-same-length
+same-length c = search needs
+
+returns : tie.Need-returns
+returns c =
+    let xs = c .before .before .before .before .before .args .bytes .now in
+    stays xs (octets (c .before .before .before .before)) (c .before .before .before .before .before .pre) (resetReply (sessionOf xs))
+    (reset-bad (sessionOf xs) (sym (c .before .before .scan-at .ensures .bad) ∙ c .before .if1 .taken)) refl (c .reply-refused .ensures)
+
+head-at-requires : tie.Need-head-at-requires
+head-at-requires c κs = long-enough (c .before .before .before .before .before .args .bytes .now) refl (c .before .before .before .before .before .pre)
+
+reason-at-requires : tie.Need-reason-at-requires
+reason-at-requires c κs = long-enough (c .before .before .before .before .before .before .before .args .bytes .now) refl (c .before .before .before .before .before .before .before .pre)
+
+has-reason-requires : tie.Need-has-reason-requires
+has-reason-requires c κs = search needs
+
+reply-refused-requires-2 : tie.Need-reply-refused-requires-2
+reply-refused-requires-2 c κs = search needs
+
+same-length-2 : tie.Need-same-length-2
+same-length-2 c = search needs
+
+returns-2 : tie.Need-returns-2
+returns-2 c =
+    let xs = c .before .before .before .before .before .before .before .before .before .before .before .before .args .bytes .now in
+    stays xs (octets (c .before .before .before .before .before .before .before .before .before .before .before)) (c .before .before .before .before .before .before .before .before .before .before .before .before .pre) (resetReply (sessionOf xs))
+    (reset-full (sessionOf xs) (sym (c .before .before .before .before .before .before .before .before .before .scan-at .ensures .bad) ∙ c .before .before .before .before .before .before .before .before .if1 .left) (ap not (sym (some (c .before .before)) ∙ c .before .if2 .taken))) refl (c .reply-refused2 .ensures)
+
+put-head-requires : tie.Need-put-head-requires
+put-head-requires c κs = long-enough (c .before .before .before .before .before .before .before .before .before .before .before .before .args .bytes .now) refl (c .before .before .before .before .before .before .before .before .before .before .before .before .pre)
+
+reply-port-requires : tie.Need-reply-port-requires
+reply-port-requires c κs = search needs
+
+same-length-3 : tie.Need-same-length-3
+same-length-3 c = search needs
+
+returns-3 : tie.Need-returns-3
+returns-3 c =
+    let xs = c .before .before .before .before .before .before .before .before .before .before .before .before .before .before .before .before .args .bytes .now in
+    let s = sessionOf xs in
+    becomes xs (resetReply s)
+    (reset-done s (sym (c .before .before .before .before .before .before .before .before .before .before .before .before .before .scan-at .ensures .bad) ∙ c .before .before .before .before .before .before .before .before .before .before .before .before .if1 .left) (ap not (sym (some (c .before .before .before .before .before .before)) ∙ c .before .before .before .before .before .if2 .left))) (c .reply-port .ensures)
+    (c .before .before .before .put-head .ensures
+    ∙ head-here xs (octets (c .before .before .before .before .before .before .before .before .before .before .before .before .before .before .before)) (c .before .before .before .before .before .before .before .before .before .before .before .before .before .before .before .before .pre) (cursor-first (c .before .before .before .before .before .before .before .before .before .before .head-at .result))
+    ∙ ap (λ (h : IsoHead). sets xs 0 (saved (session (s .cfg) (cursor-first h) (s .fatal) (s .requests) (s .plans)))) (c .before .before .before .before .before .before .before .before .before .before .head-at .ensures ∙ head-there xs))
+
+pub reset-at-spec : {M : Type 1} → statement M
+reset-at-spec =
+    tie.close
+    (tie.spec
+    scan-at-requires
+    reply-refused-requires
+    same-length
+    returns
+    head-at-requires
+    reason-at-requires
+    has-reason-requires
+    reply-refused-requires-2
+    same-length-2
+    returns-2
+    put-head-requires
+    reply-port-requires
+    same-length-3
+    returns-3)

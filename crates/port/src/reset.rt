@@ -1,0 +1,33 @@
+// Reset on a session's bytes where they stand: document 01, "Reset". Only the cursor is written.
+ghost use mathlib.Core.Path.{_≡_};
+ghost use lib.Seq.{sets};
+ghost use Rattle.session.specs.Poll.{resetReply};
+ghost use Rattle.port.specs.Layout.{layoutNumber, sessionOf, saved};
+ghost use Rattle.port.specs.Calls.{replyPort};
+use crate::answers::PortReply;
+use crate::answers::reply_port;
+use crate::answers::reply_refused;
+use crate::load::head_at;
+use crate::load::reason_at;
+use crate::save::put_head;
+use crate::scan::scan_at;
+use session::IsoAnswer;
+use session::has_reason;
+
+pub(crate) fn reset_at(bytes: &mut [u8]) -> PortReply
+    requires { ⌜ layoutNumber (now bytes) ≡ 0 ⌝ }
+    ensures { λ r. ⌜ (r ≡ replyPort (resetReply (sessionOf (now (bytes .entry))))) × (now (bytes .exit) ≡ sets (now (bytes .entry)) 0 (saved (resetReply (sessionOf (now (bytes .entry))) .session))) ⌝ }
+{
+    let scan = scan_at(bytes);
+    if scan.bad {
+        return reply_refused(18);
+    }
+    let mut head = head_at(bytes);
+    let fatal = reason_at(bytes);
+    if !(head.count == 0) | has_reason(fatal) {
+        return reply_refused(16);
+    }
+    head.td_last = 0;
+    put_head(bytes, head);
+    reply_port(IsoAnswer::Done, false, false)
+}
