@@ -8,7 +8,7 @@ use Rattle.session.specs.declared.reply.IsoReply.{IsoReply}
 use Rattle.session.specs.declared.types.IsoRequest.{IsoRequest}
 use Rattle.session.specs.declared.types.IsoPacketPlan.{IsoPacketPlan}
 use Rattle.session.specs.declared.types.IsoChannelState.{IsoChannelState}
-use Rattle.port.specs.declared.reclaim.Looked.{Looked}
+use Rattle.port.specs.declared.poll.PollSaid.{PollSaid}
 use Rattle.port.specs.Layout.{sessionOf, saved}
 
 abbrev pub requestsOf : List ℕ → List IsoRequest
@@ -24,7 +24,7 @@ abbrev pub withPlans : IsoChannelState → List IsoPacketPlan → IsoChannelStat
 withPlans s plans = record { cfg = s .cfg; head = s .head; fatal = s .fatal; requests = s .requests; plans = plans }
 
 -- the bytes `ys` hold what the action `x` leaves of the session in `xs`, and `r` is what it says
-pub record Acted (xs ys : List ℕ) (r : Looked) (x : IsoReply) : Type 0 where
+pub record Acted (xs ys : List ℕ) (r : PollSaid) (x : IsoReply) : Type 0 where
   pub taken : r .taken ≡ x .taken
   pub halt : r .halt ≡ x .halt
   pub bytes : ys ≡ sets xs 0 (saved (x .session))

@@ -1,21 +1,34 @@
 // Polling and recovery on a session's bytes where they stand: document 01, "Poll" and "Recovery". Both are lent the ring: 17 and 18 come first.
 ghost use mathlib.Core.Path.{_≡_};
+ghost use mathlib.Core.Bool.{false};
 ghost use Prim.Native.Nat.{_≤_};
 ghost use lib.ListN.{length};
 ghost use lib.Seq.{sets};
-ghost use Rattle.session.specs.Poll.{polled, polledRing, recovered, recoveredRing};
+ghost use Rattle.session.specs.Session.{ringWords};
+ghost use Rattle.session.specs.Record.{isBadRecord};
+ghost use Rattle.session.specs.Poll.{pollWay, withReason, polledBy, polledRingBy, polled, polledRing, recovered, recoveredRing};
 ghost use Rattle.port.specs.Layout.{layoutNumber, sessionOf, saved};
 ghost use Rattle.port.specs.Calls.{replyPort};
 ghost use Rattle.port.specs.Parts.{lentNumber};
 use crate::answers::PortReply;
 use crate::answers::reply_port;
 use crate::answers::reply_refused;
+use crate::drain::drain_at;
 use crate::end::end_at;
+use crate::entries::put_tagged;
 use crate::load::config_at;
+use crate::load::head_at;
+use crate::load::reason_at;
 use crate::scan::scan_at;
+use crate::tags::fatal_tagged;
 use session::IsoAnswer;
+use session::IsoEvent;
+use session::IsoFatal;
+use session::IsoHaltReason;
 use session::IsoOutcome;
+use session::PollWay;
 use session::ring_words;
+use session::way_of;
 
 // The number with which a call is refused that is lent a ring of so many words; 0 where it is not.
 pub(crate) fn lent_refusal(bytes: &[u8], words: usize) -> u16
@@ -43,4 +56,62 @@ pub(crate) fn recover_at(bytes: &mut [u8], ring: &mut [u32]) -> PortReply
     }
     end_at(bytes, IsoOutcome::Disconnected, ring);
     reply_port(IsoAnswer::Done, false, false)
+}
+
+// What a poll says: whether it took the event, and whether the channel is to halt.
+pub(crate) struct PollSaid {
+    pub taken: bool,
+    pub halt: bool,
+}
+
+// The reason to end, which the halt is then awaited with.
+fn halt_at(bytes: &mut [u8], reason: IsoHaltReason)
+    requires { ⌜ layoutNumber (now bytes) ≡ 0 ⌝ }
+    ensures { λ _. ⌜ now (bytes .exit) ≡ sets (now (bytes .entry)) 0 (saved (withReason reason (sessionOf (now (bytes .entry))))) ⌝ }
+{
+    put_tagged(bytes, 34, fatal_tagged(IsoFatal::Reason(reason)));
+}
+
+// Takes the event and acts by its way, on a good record and with a ring that is long enough.
+pub(crate) fn poll_at(bytes: &mut [u8], event: IsoEvent, ring: &mut [u32]) -> PollSaid
+    requires { ⌜ (layoutNumber (now bytes) ≡ 0) × (isBadRecord (sessionOf (now bytes)) ≡ false) × (ringWords (sessionOf (now bytes) .cfg) ≤ length (now ring)) ⌝ }
+    ensures { λ r. ⌜ (r .taken ≡ polledBy (pollWay (sessionOf (now (bytes .entry))) event) (sessionOf (now (bytes .entry))) (now (ring .entry)) .taken) × (r .halt ≡ polledBy (pollWay (sessionOf (now (bytes .entry))) event) (sessionOf (now (bytes .entry))) (now (ring .entry)) .halt) × (now (bytes .exit) ≡ sets (now (bytes .entry)) 0 (saved (polledBy (pollWay (sessionOf (now (bytes .entry))) event) (sessionOf (now (bytes .entry))) (now (ring .entry)) .session))) × (now (ring .exit) ≡ polledRingBy (pollWay (sessionOf (now (bytes .entry))) event) (sessionOf (now (bytes .entry))) (now (ring .entry))) ⌝ }
+{
+    let head = head_at(bytes);
+    let fatal = reason_at(bytes);
+    let way = way_of(head, fatal, event);
+    match way {
+        PollWay::Nothing => said(false, false),
+        PollWay::End(outcome) => {
+            end_at(bytes, outcome, ring);
+            said(true, false)
+        }
+        PollWay::Halt(reason) => {
+            halt_at(bytes, reason);
+            said(true, true)
+        }
+        PollWay::Wait => said(true, false),
+        PollWay::Settle(bit) => {
+            drain_at(bytes, bit, ring);
+            said(true, false)
+        }
+    }
+}
+
+fn said(taken: bool, halt: bool) -> PollSaid
+    ensures { λ r. ⌜ (r .taken ≡ taken) × (r .halt ≡ halt) ⌝ }
+{
+    PollSaid { taken, halt }
+}
+
+pub(crate) fn poll_on(bytes: &mut [u8], event: IsoEvent, ring: &mut [u32]) -> PortReply
+    requires { ⌜ layoutNumber (now bytes) ≡ 0 ⌝ }
+    ensures { λ r. ⌜ (r ≡ replyPort (polled (sessionOf (now (bytes .entry))) event (now (ring .entry)))) × (now (bytes .exit) ≡ sets (now (bytes .entry)) 0 (saved (polled (sessionOf (now (bytes .entry))) event (now (ring .entry)) .session))) × (now (ring .exit) ≡ polledRing (sessionOf (now (bytes .entry))) event (now (ring .entry))) ⌝ }
+{
+    let refusal = lent_refusal(bytes, ring.len());
+    if refusal != 0 {
+        return reply_refused(refusal);
+    }
+    let answer = poll_at(bytes, event, ring);
+    reply_port(IsoAnswer::Done, answer.taken, answer.halt)
 }

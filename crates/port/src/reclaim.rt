@@ -7,8 +7,6 @@ ghost use lib.ListN.{length, getD};
 ghost use lib.Seq.{slice, sets};
 ghost use Rattle.session.specs.Session.{blankRequest, ringWords};
 ghost use Rattle.session.specs.Record.{isBadRecord};
-ghost use Rattle.session.specs.Poll.{pollWay, polledBy, polledRingBy};
-ghost use Rattle.session.specs.Cancel.{placeOf};
 ghost use Rattle.session.specs.Reclaim.{resultWord, looked, lookedRing, plansBegin, plansEnd, closedUp, oneLess, removed, handedAnswer, handedResults, reclaimReply, lookedAgain, lookedResults, reclaimed, reclaimedRing, reclaimedResults};
 ghost use Rattle.port.specs.Layout.{layoutNumber, sessionOf, saved};
 ghost use Rattle.port.specs.Calls.{reclaimedPort};
@@ -16,6 +14,7 @@ ghost use Rattle.port.specs.Places.{requestsOf, plansOf, withRequests, w
 use crate::answers::PortReclaimed;
 use crate::answers::reclaim_port;
 use crate::answers::reclaim_refused;
+use crate::cancel::place_at;
 use crate::drain::packets_at;
 use crate::drain::packets_before;
 use crate::entries::plan_at;
@@ -24,10 +23,9 @@ use crate::entries::put_request;
 use crate::entries::request_at;
 use crate::load::config_at;
 use crate::load::head_at;
-use crate::load::load_session;
-use crate::numbers::u64_at;
+use crate::poll::PollSaid;
+use crate::poll::poll_at;
 use crate::save::put_head;
-use crate::save::save_session;
 use crate::scan::scan_at;
 use session::IsoEvent;
 use session::IsoHead;
@@ -36,28 +34,6 @@ use session::handed_answer;
 use session::is_done;
 use session::result_word;
 use session::ring_words;
-
-// Whether a look took the event, and whether it asks for a halt.
-pub(crate) struct Looked {
-    taken: bool,
-    halt: bool,
-}
-
-// The place of the first request with the number, or `count`.
-fn place_at(bytes: &[u8], count: u16, id: u64) -> u16
-    requires { ⌜ (8488 ≤ length (now bytes)) × (count ≤ 64) ⌝ }
-    ensures { λ r. ⌜ r ≡ placeOf id (slice 0 count (requestsOf (now (bytes .entry)))) ⌝ }
-{
-    let mut i: u16 = 0;
-    while i < count {
-        let number = u64_at(bytes, 40 + 20 * i as usize);
-        if number == id {
-            return i;
-        }
-        i += 1;
-    }
-    i
-}
 
 // The entries from `from` to `to` move down to `into`; so for requests and for plans.
 fn close_requests_at(bytes: &mut [u8], into: usize, from: usize, to: usize)
@@ -164,34 +140,20 @@ fn look_again_at(bytes: &mut [u8], id: u64, results: &mut [u64]) -> ReclaimAnswe
     ReclaimAnswer::Refused(15)
 }
 
-// Polls, by the session's value.
-fn poll_in(bytes: &mut [u8], event: IsoEvent, ring: &mut [u32]) -> Looked
-    requires { ⌜ (layoutNumber (now bytes) ≡ 0) × (isBadRecord (sessionOf (now bytes)) ≡ false) × (ringWords (sessionOf (now bytes) .cfg) ≤ length (now ring)) ⌝ }
-    ensures { λ r. ⌜ Acted (now (bytes .entry)) (now (bytes .exit)) r (polledBy (pollWay (sessionOf (now (bytes .entry))) event) (sessionOf (now (bytes .entry))) (now (ring .entry))) × (now (ring .exit) ≡ polledRingBy (pollWay (sessionOf (now (bytes .entry))) event) (sessionOf (now (bytes .entry))) (now (ring .entry))) ⌝ }
-{
-    let reply = load_session(bytes).poll_channel(event, ring);
-    let after = reply.session;
-    save_session(bytes, after);
-    Looked {
-        taken: reply.taken,
-        halt: reply.halt,
-    }
-}
-
 // Polls, unless the request is completed already.
-fn look_at(bytes: &mut [u8], id: u64, event: IsoEvent, ring: &mut [u32]) -> Looked
+fn look_at(bytes: &mut [u8], id: u64, event: IsoEvent, ring: &mut [u32]) -> PollSaid
     requires { ⌜ (layoutNumber (now bytes) ≡ 0) × (isBadRecord (sessionOf (now bytes)) ≡ false) × (ringWords (sessionOf (now bytes) .cfg) ≤ length (now ring)) ⌝ }
     ensures { λ r. ⌜ Acted (now (bytes .entry)) (now (bytes .exit)) r (looked id event (sessionOf (now (bytes .entry))) (now (ring .entry))) × (now (ring .exit) ≡ lookedRing id event (sessionOf (now (bytes .entry))) (now (ring .entry))) ⌝ }
 {
     let head = head_at(bytes);
     let at = place_at(bytes, head.count, id);
     if at < head.done {
-        return Looked {
+        return PollSaid {
             taken: false,
             halt: false,
         };
     }
-    poll_in(bytes, event, ring)
+    poll_at(bytes, event, ring)
 }
 
 // Hands out the completed request with the number: its outcome and, unless that is an error, a result for each packet.

@@ -5,36 +5,24 @@ use mathlib.Core.List.{List}
 use Prim.Native.Nat.{ℕ, _≤_}
 use lib.ListN.{length}
 use lib.Seq.{sets}
-use borrow.Author.Tests.{le-ltb}
 use Rattle.session.specs.declared.types.IsoChannelState.{IsoChannelState}
 use Rattle.session.specs.declared.reply.IsoEvent.{IsoEvent}
 use Rattle.session.specs.declared.reply.IsoReply.{IsoReply}
 use Rattle.session.specs.declared.reply.ReclaimAnswer.{ReclaimAnswer}
 use Rattle.session.specs.declared.reply.ReclaimAnswer.the-variants.{Refused}
 use Rattle.session.specs.declared.reply.Reclaimed.{Reclaimed}
-use Rattle.session.specs.Session.{ringWords}
 use Rattle.session.specs.Record.{isBadRecord}
-use Rattle.session.specs.Poll.{pollWay, polledBy, polledRingBy, refusedReply, polled, polledRing}
 use Rattle.session.specs.Reclaim.{looked, lookedRing, reclaimReply, lookedAgain, lookedResults, isShort, reclaimed, reclaimedRing, reclaimedResults}
 use Rattle.session.proofs.Laws.Record.{Sound, not-bad}
 use Rattle.session.proofs.Laws.Reclaims.{reclaim-done, looked-sound}
-use Rattle.session.proofs.Laws.Tests.{in-turn}
 use Rattle.port.specs.declared.answers.PortReclaimed.{PortReclaimed}
-use Rattle.port.specs.declared.reclaim.Looked.{Looked}
+use Rattle.port.specs.declared.poll.PollSaid.{PollSaid}
 use Rattle.port.specs.Tags.{flagTag}
 use Rattle.port.specs.Layout.{layoutNumber, sessionOf, saved}
 use Rattle.port.specs.Calls.{bytesBy, wordsBy, reclaimPort, reclaimRefused, reclaimedPort, reclaimBy}
 use Rattle.port.specs.Places.{Acted}
 use Rattle.port.proofs.Laws.Calls.{refused, done}
 use Rattle.port.proofs.Laws.Walks.{requests-many, plans-many, there, layout-there, saved-over}
-
--- a poll past its refusals
-module _ (s : IsoChannelState) (e : IsoEvent) (ring : List ℕ) (long : ringWords (s .cfg) ≤ length ring) (good : isBadRecord s ≡ false) where
-  pub past-refusals : polled s e ring ≡ polledBy (pollWay s e) s ring
-  past-refusals = in-turn (refusedReply 17 s) (refusedReply 18 s) (polledBy (pollWay s e) s ring) (le-ltb (length ring) (ringWords (s .cfg)) long) good
-
-  pub ring-past-refusals : polledRing s e ring ≡ polledRingBy (pollWay s e) s ring
-  ring-past-refusals = in-turn ring ring (polledRingBy (pollWay s e) s ring) (le-ltb (length ring) (ringWords (s .cfg)) long) good
 
 module _ (xs ring results : List ℕ) (id : ℕ) (e : IsoEvent) where
   abbrev s : IsoChannelState
@@ -61,7 +49,7 @@ module _ (xs ring results : List ℕ) (id : ℕ) (e : IsoEvent) where
     told .2,
   )
 
-  module _ (long : 8488 ≤ length xs) (g : Sound s) {look : Looked} {b : List ℕ} (act : Acted xs b look (looked id e s ring)) where
+  module _ (long : 8488 ≤ length xs) (g : Sound s) {look : PollSaid} {b : List ℕ} (act : Acted xs b look (looked id e s ring)) where
     abbrev t : IsoChannelState
     t = looked id e s ring .session
 

@@ -17,14 +17,19 @@ use Rattle.session.specs.declared.types.IsoRequest.{IsoRequest}
 use Rattle.session.specs.declared.types.IsoChannelState.{IsoChannelState}
 use Rattle.session.specs.Session.{blankRequest, ringWords}
 use Rattle.session.specs.Record.{isBadRecord}
-use Rattle.session.specs.Poll.{refusedReply}
+use Rattle.session.specs.declared.reply.IsoAnswer.{IsoAnswer}
+use Rattle.session.specs.declared.reply.IsoAnswer.the-variants.{Done}
+use Rattle.session.specs.declared.reply.PollWay.{PollWay}
+use Rattle.session.specs.declared.reply.PollWay.the-variants as way
+use Rattle.session.specs.Numbers.{answerNumber}
+use Rattle.session.specs.Poll.{polledBy, polledRingBy}
 use Rattle.session.specs.End.{withOutcome, endedRequests, ended}
 use Rattle.session.proofs.Laws.Lists.{amend-next}
 use Rattle.port.specs.declared.answers.PortReply.{PortReply}
 use Rattle.port.specs.declared.tags.Tagged.{Tagged}
-use Rattle.port.specs.Tags.{taggedBytes, fatalTagged}
+use Rattle.port.specs.Tags.{flagTag, taggedBytes, fatalTagged}
 use Rattle.port.specs.Layout.{headBytes, requestBytes, requestOf, layoutNumber, saved, sessionOf}
-use Rattle.port.specs.Calls.{replyPort}
+use Rattle.port.specs.Calls.{portReply, replyPort}
 use Rattle.port.specs.Parts.{withRequests, endedHead, lentNumber}
 use Rattle.port.proofs.Canonical.{loaded-saved}
 use Rattle.port.proofs.Roundtrip.{saved-loaded}
@@ -175,3 +180,38 @@ module _ (s : IsoChannelState) (words : ℕ) {n : ℕ} (is : n ≡ lentNumber s 
       go true b p q e = absurd (omega arith)
       go false true p q e = absurd (omega arith)
       go false false p q e = (p, q)
+
+-- ---- a poll by its way
+
+module _ (xs ring : List ℕ) {w v : PollWay} (way-is : v ≡ w) where
+  -- what an arm of the code leaves is what the way leaves
+  pub acted :
+      {taken halt : Bool} {after words : List ℕ} → taken ≡ polledBy v (sessionOf xs) ring .taken → halt ≡ polledBy v (sessionOf xs) ring .halt
+      → after ≡ sets xs 0 (saved (polledBy v (sessionOf xs) ring .session))
+      → words ≡ polledRingBy v (sessionOf xs) ring
+      → (taken ≡ polledBy w (sessionOf xs) ring .taken) × (halt ≡ polledBy w (sessionOf xs) ring .halt)
+      × (after ≡ sets xs 0 (saved (polledBy w (sessionOf xs) ring .session))) × (words ≡ polledRingBy w (sessionOf xs) ring)
+  acted t h a r = (
+    t ∙ ap (λ (k : PollWay). polledBy k (sessionOf xs) ring .taken) way-is,
+    h ∙ ap (λ (k : PollWay). polledBy k (sessionOf xs) ring .halt) way-is,
+    a ∙ ap (λ (k : PollWay). sets xs 0 (saved (polledBy k (sessionOf xs) ring .session))) way-is,
+    r ∙ ap (λ (k : PollWay). polledRingBy k (sessionOf xs) ring) way-is,
+  )
+
+-- a poll that was not refused answers 0
+module _ (s : IsoChannelState) (ring : List ℕ) where
+  done-always : (w : PollWay) → polledBy w s ring .answer ≡ Done
+  done-always way.Nothing = refl
+  done-always (way.End o) = refl
+  done-always (way.Halt r) = refl
+  done-always way.Wait = refl
+  done-always (way.Settle bit) = refl
+
+  pub reply-said :
+      (w : PollWay) {taken halt : Bool} {p : PortReply} → p ≡ portReply 0 (flagTag taken) (flagTag halt) → taken ≡ polledBy w s ring .taken
+      → halt ≡ polledBy w s ring .halt
+      → p ≡ replyPort (polledBy w s ring)
+  reply-said w e t h =
+      e
+      ∙ ap₂ (λ (a b : Bool). portReply 0 (flagTag a) (flagTag b)) t h
+      ∙ ap (λ (a : IsoAnswer). portReply (answerNumber a) (flagTag (polledBy w s ring .taken)) (flagTag (polledBy w s ring .halt))) (sym (done-always w))

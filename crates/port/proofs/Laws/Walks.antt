@@ -9,7 +9,7 @@ use Rattle.session.specs.declared.types.IsoRequest.{IsoRequest}
 use Rattle.session.specs.declared.types.IsoPacketPlan.{IsoPacketPlan}
 use Rattle.session.specs.declared.types.IsoChannelState.{IsoChannelState}
 use Rattle.session.specs.Session.{blankRequest, blankPlan}
-use Rattle.port.specs.Bytes.{byteOf, u16Of, u64Of}
+use Rattle.port.specs.Bytes.{byteOf, u16Of}
 use Rattle.port.specs.Tags.{directionOf}
 use Rattle.port.specs.Layout.{configOf, headOf, requestBytes, requestOf, planBytes, planOf, layoutNumber, sessionOf, saved}
 use Rattle.port.specs.Places.{requestsOf, plansOf, withRequests, withPlans}
@@ -82,10 +82,6 @@ config-there xs = refl
 pub direction-there : (xs : List ℕ) → directionOf (byteOf (drop 6 xs)) ≡ sessionOf xs .cfg .direction
 unfolding sessionOf configOf
 direction-there xs = refl
-
-pub number-there : (xs : List ℕ) (i : ℕ) → i < 64 → u64Of (drop (40 + 20 * i) xs) ≡ getD (requestsOf xs) i blankRequest .id
-unfolding requestOf
-number-there xs i h = ap (λ (r : IsoRequest). r .id) (request-there xs i blankRequest h)
 
 pub packets-there : (xs : List ℕ) (i : ℕ) → i < 64 → u16Of (drop (52 + 20 * i) xs) ≡ getD (requestsOf xs) i blankRequest .packets
 unfolding requestOf

@@ -55,8 +55,8 @@ returns c =
       stays .1,
     )
 
-poll-in-requires : tie.Need-poll-in-requires
-poll-in-requires c κs = c .before .before .before .before .before .before .before .before .before .before .pre
+poll-at-requires : tie.Need-poll-at-requires
+poll-at-requires c κs = c .before .before .before .before .before .before .before .before .before .before .pre
 
 same-length-2 : tie.Need-same-length-2
 same-length-2 c = search needs
@@ -69,12 +69,12 @@ returns-2 c =
     let a = c .before .before .before .before .before .before .before .before .before .before .before .before .before .before .before .args in
     let s = sessionOf (a .bytes .now) in
     let past : s .head .done ≤ c .before .before .before .before .before .before .before .before .before .place-at .result = omega (arith, c .before .before .before .before .before .before .before .if1 .left, ap (λ (h : IsoHead). h .done) (head-is (c .before .before .before .before .before .before .before .before .before .before .before))) in
-    let act = c .before .before .before .before .poll-in .ensures in
-    let polls = looked-polled (a .id) s (place-is (c .before .before .before .before .before .before .before .before .before)) (a .event) (a .ring .now) past refl refl (act .1) in (
+    let said = c .before .before .before .before .poll-at .ensures in
+    let polls = looked-polled (a .id) s (place-is (c .before .before .before .before .before .before .before .before .before)) (a .event) (a .ring .now) past refl refl (said .3) in (
       record {
-        taken = act .0 .taken ∙ ap (λ (r : IsoReply). r .taken) (polls .0);
-        halt = act .0 .halt ∙ ap (λ (r : IsoReply). r .halt) (polls .0);
-        bytes = act .0 .bytes ∙ ap (λ (r : IsoReply). sets (a .bytes .now) 0 (saved (r .session))) (polls .0);
+        taken = said .0 ∙ ap (λ (r : IsoReply). r .taken) (polls .0);
+        halt = said .1 ∙ ap (λ (r : IsoReply). r .halt) (polls .0);
+        bytes = said .2 ∙ ap (λ (r : IsoReply). sets (a .bytes .now) 0 (saved (r .session))) (polls .0);
       },
       polls .1,
     )
@@ -87,7 +87,7 @@ look-at-spec =
     place-at-requires
     same-length
     returns
-    poll-in-requires
+    poll-at-requires
     same-length-2
     same-length-3
     returns-2)

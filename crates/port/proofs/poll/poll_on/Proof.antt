@@ -1,0 +1,83 @@
+-- Refused with a number, or polled: each way out is the definition at the tests that led there.
+use mathlib.Core.Path.{_≡_, refl, _∙_, sym}
+use Prim.Native.Nat.{ℕ}
+use native.Mathlib.Omega.{arith}
+use lib.ListN.{length}
+use borrow.Author.Needs.{needs}
+use borrow.Author.Tests.{ltb-false}
+use Rattle.session.specs.Session.{ringWords}
+use Rattle.session.specs.Poll.{refusedReply, pollWay, polledBy, polledRingBy, polled}
+use Rattle.session.proofs.Laws.Replies.{lent-done}
+use Rattle.port.specs.Layout.{sessionOf}
+use Rattle.port.proofs.Laws.Calls.{long-enough}
+use Rattle.port.proofs.Laws.Kept.{Octets}
+use Rattle.port.proofs.Laws.Steps.{stays, becomes, lent-refused, lent-passed, reply-said}
+use Rattle.port.proofs.poll.poll_on.Statement.{statement}
+use Rattle.port.proofs.poll.poll_on.Tie as tie
+
+octets : (c : tie.After-slice-known) → Octets (c .before .args .bytes .now)
+octets c i = omega (arith, c .slice-known .given i)
+
+lent-refusal-requires : tie.Need-lent-refusal-requires
+lent-refusal-requires c κs = long-enough (c .before .before .before .args .bytes .now) refl (c .before .before .before .pre)
+
+reply-refused-requires : tie.Need-reply-refused-requires
+reply-refused-requires c κs = search needs
+
+same-length : tie.Need-same-length
+same-length c = search needs
+
+returns : tie.Need-returns
+returns c =
+    let s = sessionOf (c .before .before .before .before .before .before .args .bytes .now) in
+    let ring = c .before .before .before .before .before .before .args .ring .now in
+    let way = pollWay s (c .before .before .before .before .before .before .args .event) in
+    let both =
+    stays (c .before .before .before .before .before .before .args .bytes .now) (octets (c .before .before .before .before .before)) (c .before .before .before .before .before .before .pre) (polled s (c .before .before .before .before .before .before .args .event) ring)
+    (lent-refused s (length ring) (c .before .before .lent-refusal .ensures) (λ (n : ℕ). refusedReply n s) (polledBy way s ring) (c .before .if1 .taken)) refl (c .reply-refused .ensures) in (
+      both .0,
+      both .1,
+      sym (lent-refused s (length ring) (c .before .before .lent-refusal .ensures) (λ (n : ℕ). ring) (polledRingBy way s ring) (c .before .if1 .taken)),
+    )
+
+poll-at-requires : tie.Need-poll-at-requires
+poll-at-requires c κs =
+    let s = sessionOf (c .before .before .before .before .before .before .before .args .bytes .now) in
+    let ring = c .before .before .before .before .before .before .before .args .ring .now in
+    let passed = lent-passed s (length ring) (c .before .before .before .lent-refusal .ensures) (c .before .before .if1 .left) in
+    (c .before .before .before .before .before .before .before .pre, passed .1, ltb-false (length ring) (ringWords (s .cfg)) (passed .0))
+
+reply-port-requires : tie.Need-reply-port-requires
+reply-port-requires c κs = search needs
+
+same-length-2 : tie.Need-same-length-2
+same-length-2 c = search needs
+
+same-length-3 : tie.Need-same-length-3
+same-length-3 c = search needs
+
+returns-2 : tie.Need-returns-2
+returns-2 c =
+    let s = sessionOf (c .before .before .before .before .before .before .before .before .before .before .before .before .before .args .bytes .now) in
+    let ring = c .before .before .before .before .before .before .before .before .before .before .before .before .before .args .ring .now in
+    let way = pollWay s (c .before .before .before .before .before .before .before .before .before .before .before .before .before .args .event) in
+    let passed = lent-passed s (length ring) (c .before .before .before .before .before .before .before .before .before .lent-refusal .ensures) (c .before .before .before .before .before .before .before .before .if1 .left) in
+    let whole = lent-done s ring (polledBy way s ring) (polledRingBy way s ring) (passed .0) (passed .1) in
+    let both =
+    becomes (c .before .before .before .before .before .before .before .before .before .before .before .before .before .args .bytes .now) (polled s (c .before .before .before .before .before .before .before .before .before .before .before .before .before .args .event) ring) (whole .0)
+    (reply-said s ring way (c .reply-port .ensures) (c .before .before .before .before .before .poll-at .ensures .0) (c .before .before .before .before .before .poll-at .ensures .1)) (c .before .before .before .before .before .poll-at .ensures .2) in
+    (both .0, both .1, c .before .before .before .before .before .poll-at .ensures .3 ∙ sym (whole .1))
+
+pub poll-on-spec : {M : Type 1} → statement M
+poll-on-spec =
+    tie.close
+    (tie.spec
+    lent-refusal-requires
+    reply-refused-requires
+    same-length
+    returns
+    poll-at-requires
+    reply-port-requires
+    same-length-2
+    same-length-3
+    returns-2)
