@@ -1,6 +1,7 @@
 pub mod Answers
 pub mod Back
 pub mod Calls
+pub mod Closing
 pub mod Entries
 pub mod Head
 pub mod Kept
@@ -8,6 +9,7 @@ pub mod Loaded
 pub mod Numbers
 pub mod Placed
 pub mod Planning
+pub mod Reclaiming
 pub mod Requests
 pub mod Runs
 pub mod Saved

@@ -1,4 +1,4 @@
-// The session's calls by bytes: load, call, save. Bytes that are no session are refused, and nothing is altered.
+// The session's calls by bytes, on the session where it stands. Bytes that are no session are refused, and nothing is altered.
 ghost use mathlib.Core.Path.{_≡_};
 ghost use lib.ListN.{length};
 ghost use Rattle.session.specs.Poll.{polled, polledRing, recovered, recoveredRing, resetReply};
@@ -8,16 +8,14 @@ ghost use Rattle.session.specs.declared.types.IsoChannelState.{IsoChannelState}
 ghost use Rattle.port.specs.Calls.{replyBy, bytesBy, wordsBy, checkBy, eventOf, reclaimBy};
 use crate::answers::PortReclaimed;
 use crate::answers::PortReply;
-use crate::answers::reclaim_port;
 use crate::answers::reclaim_refused;
 use crate::answers::reply_refused;
 use crate::cancel::cancel_at;
 use crate::load::layout_refusal;
-use crate::load::load_session;
 use crate::poll::poll_on;
 use crate::poll::recover_at;
+use crate::reclaim::reclaim_at;
 use crate::reset::reset_at;
-use crate::save::save_session;
 use crate::scan::scan_at;
 use session::IsoEvent;
 
@@ -114,9 +112,5 @@ pub extern "C" fn dwc2_iso_reclaim(
         return reclaim_refused(refusal);
     }
     let event = event_of(reported, unplugged, hcint);
-    let reply = load_session(session).reclaim(id, event, ring, results);
-    let after = reply.session;
-    save_session(session, after);
-    let answer = reply.answer;
-    reclaim_port(answer, reply.taken, reply.halt)
+    reclaim_at(session, id, event, ring, results)
 }

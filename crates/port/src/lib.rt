@@ -9,6 +9,7 @@ mod load;
 mod numbers;
 mod planning;
 mod poll;
+mod reclaim;
 mod requests;
 mod reset;
 mod ring_sums;

@@ -16,9 +16,9 @@ use Rattle.session.specs.Settle.{settledPlan, oldest, oldestFrom, oldestTo, mov
 use Rattle.session.proofs.Laws.Lists.{slice-next, slice-after-set, slice-pushed, slice-sets, amend-by}
 use Rattle.session.proofs.Laws.Sums.{packets-append}
 use Rattle.session.proofs.Laws.Record.{Sound}
-use Rattle.session.proofs.Laws.Settled.{oldest-in, builtBy, settled-by}
+use Rattle.session.proofs.Laws.Settled.{oldest-in, settled-by}
 use Rattle.port.specs.Layout.{headBytes, requestBytes, requestOf, sessionOf, saved}
-use Rattle.port.specs.Places.{requestsOf, plansOf, withPlans}
+use Rattle.port.specs.Places.{plansOf, withPlans}
 use Rattle.port.proofs.Laws.Entries.{request}
 use Rattle.port.proofs.Laws.Loaded.{session}
 use Rattle.port.proofs.Laws.Placed.{request-there, request-put, head-put}

@@ -75,6 +75,10 @@ pub head-there : (xs : List ℕ) → headOf xs ≡ sessionOf xs .head
 unfolding sessionOf
 head-there xs = refl
 
+pub config-there : (xs : List ℕ) → configOf xs ≡ sessionOf xs .cfg
+unfolding sessionOf
+config-there xs = refl
+
 pub direction-there : (xs : List ℕ) → directionOf (byteOf (drop 6 xs)) ≡ sessionOf xs .cfg .direction
 unfolding sessionOf configOf
 direction-there xs = refl

@@ -1,7 +1,7 @@
 -- The invariant: the sum so far and the packets of the requests still to be counted are those of all. The measure is how many are left.
-use mathlib.Core.Path.{_≡_, _∙_, sym}
+use mathlib.Core.Path.{_≡_}
 use Prim.Native.Nat.{_+_, _-_, _*_, _≤_}
-use native.Mathlib.Nat.{zero-add, add-zero}
+use native.Mathlib.Nat.{zero-add}
 use native.Mathlib.Omega.{arith}
 use lib.Seq.{slice}
 use Rattle.session.specs.Session.{packetsOf}

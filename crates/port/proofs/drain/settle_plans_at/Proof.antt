@@ -12,7 +12,7 @@ use Rattle.session.specs.Session.{blankPlan}
 use Rattle.session.specs.Settle.{settledPlan, movedTotal}
 use Rattle.session.proofs.Laws.Lists.{slice-past, amend-past}
 use Rattle.session.specs.declared.types.IsoPacketPlan.{IsoPacketPlan}
-use Rattle.port.specs.Layout.{layoutNumber, sessionOf, saved}
+use Rattle.port.specs.Layout.{sessionOf, saved}
 use Rattle.port.specs.Places.{plansOf, withPlans}
 use Rattle.port.proofs.Canonical.{loaded-saved}
 use Rattle.port.proofs.Laws.Calls.{long-enough}

@@ -1,0 +1,128 @@
+-- Reclaiming in place: the answer, the bytes and the lent words at each exit, where the code looked, and looked again at what that left.
+use mathlib.Core.Path.{_≡_, refl, _∙_, ap, subst⁻¹}
+use mathlib.Core.Bool.{Bool, false}
+use mathlib.Core.List.{List}
+use Prim.Native.Nat.{ℕ, _≤_}
+use lib.ListN.{length}
+use lib.Seq.{sets}
+use Rattle.session.specs.declared.types.IsoChannelState.{IsoChannelState}
+use Rattle.session.specs.declared.reply.IsoEvent.{IsoEvent}
+use Rattle.session.specs.declared.reply.IsoReply.{IsoReply}
+use Rattle.session.specs.declared.reply.ReclaimAnswer.{ReclaimAnswer}
+use Rattle.session.specs.declared.reply.ReclaimAnswer.the-variants.{Refused}
+use Rattle.session.specs.declared.reply.Reclaimed.{Reclaimed}
+use Rattle.session.specs.Record.{isBadRecord}
+use Rattle.session.specs.Reclaim.{looked, lookedRing, reclaimReply, lookedAgain, lookedResults, isShort, reclaimed, reclaimedRing, reclaimedResults}
+use Rattle.session.proofs.Laws.Record.{Sound, not-bad}
+use Rattle.session.proofs.Laws.Reclaims.{reclaim-done, looked-sound}
+use Rattle.port.specs.declared.answers.PortReclaimed.{PortReclaimed}
+use Rattle.port.specs.declared.poll.PollSaid.{PollSaid}
+use Rattle.port.specs.Tags.{flagTag}
+use Rattle.port.specs.Layout.{layoutNumber, sessionOf, saved}
+use Rattle.port.specs.Calls.{bytesBy, wordsBy, reclaimPort, reclaimRefused, reclaimedPort, reclaimBy}
+use Rattle.port.specs.Places.{Acted}
+use Rattle.port.proofs.Laws.Calls.{refused, done}
+use Rattle.port.proofs.Laws.Walks.{requests-many, plans-many, there, layout-there, saved-over}
+
+module _ (xs ring results : List ℕ) (id : ℕ) (e : IsoEvent) where
+  abbrev s : IsoChannelState
+  s = sessionOf xs
+
+  -- what the whole call promises, of an answer, the bytes and the words afterwards
+  abbrev Told : PortReclaimed → List ℕ → List ℕ → List ℕ → Type 0
+  Told p ys words after =
+      (p ≡ reclaimedPort (reclaimed s id e ring (length results)))
+      × (ys ≡ sets xs 0 (saved (reclaimed s id e ring (length results) .session)))
+      × (words ≡ reclaimedRing s id e ring (length results))
+      × (after ≡ reclaimedResults s id e ring results)
+
+  pub refused-in-place :
+      {n : ℕ} {p : PortReclaimed} → xs ≡ sets xs 0 (saved s) → p ≡ reclaimRefused n
+      → (reclaimReply (Refused n) false false s ≡ reclaimed s id e ring (length results))
+      × (ring ≡ reclaimedRing s id e ring (length results))
+      × (results ≡ reclaimedResults s id e ring results)
+      → Told p xs ring results
+  refused-in-place same ep told = (
+    ep ∙ ap reclaimedPort (told .0),
+    same ∙ ap (λ (r : Reclaimed). sets xs 0 (saved (r .session))) (told .0),
+    told .1,
+    told .2,
+  )
+
+  module _ (long : 8488 ≤ length xs) (g : Sound s) {look : PollSaid} {b : List ℕ} (act : Acted xs b look (looked id e s ring)) where
+    abbrev t : IsoChannelState
+    t = looked id e s ring .session
+
+    sound-t : Sound t
+    sound-t = looked-sound id e s ring g
+
+    held : sessionOf b ≡ t
+    held = ap sessionOf (act .bytes) ∙ there xs t long (sound-t .requests-long) (sound-t .plans-long)
+
+    pub looked-layout : layoutNumber b ≡ 0
+    looked-layout = ap layoutNumber (act .bytes) ∙ layout-there xs t long (sound-t .requests-long) (sound-t .plans-long)
+
+    pub looked-good : isBadRecord (sessionOf b) ≡ false
+    looked-good = not-bad (sessionOf b) (subst⁻¹ Sound held sound-t)
+
+    pub done-in-place :
+        {a : ReclaimAnswer} {c words after : List ℕ} {p : PortReclaimed} → isShort s (length ring) (length results) ≡ false → isBadRecord s ≡ false
+        → words ≡ lookedRing id e s ring
+        → ((taken halt : Bool) → reclaimReply a taken halt (sessionOf c) ≡ lookedAgain id taken halt (sessionOf b))
+        → c ≡ sets b 0 (saved (sessionOf c))
+        → after ≡ lookedResults id (sessionOf b) results
+        → p ≡ reclaimPort a (flagTag (look .taken)) (flagTag (look .halt))
+        → Told p c words after
+    done-in-place {a} {c} h k ew again ec ea ep =
+        let x : IsoReply = looked id e s ring in
+        let r : reclaimReply a (look .taken) (look .halt) (sessionOf c) ≡ lookedAgain id (x .taken) (x .halt) (x .session) =
+        again (look .taken) (look .halt)
+        ∙ ap (lookedAgain id (look .taken) (look .halt)) held
+        ∙ ap (λ (y : Bool). lookedAgain id y (look .halt) t) (act .taken)
+        ∙ ap (λ (y : Bool). lookedAgain id (x .taken) y t) (act .halt) in
+        let told = reclaim-done s id e ring results {first-look = x} h k refl r ew (ea ∙ ap (λ (u : IsoChannelState). lookedResults id u results) held) in (
+          ep ∙ ap reclaimedPort (told .0),
+          ec
+              ∙ ap (λ (m : List ℕ). sets m 0 (saved (sessionOf c))) (act .bytes)
+              ∙ saved-over xs t (sessionOf c) long (sound-t .requests-long) (sound-t .plans-long) (requests-many c) (plans-many c)
+              ∙ ap (λ (y : Reclaimed). sets xs 0 (saved (y .session))) (told .0),
+          told .1,
+          told .2,
+        )
+
+-- ---- the call by bytes
+
+module _ (xs ring results : List ℕ) (id : ℕ) (e : IsoEvent) where
+  abbrev call : IsoChannelState → Reclaimed
+  call s = reclaimed s id e ring (length results)
+
+  abbrev pub Promised : PortReclaimed → List ℕ → List ℕ → List ℕ → Type 0
+  Promised p ys words after =
+      (p ≡ reclaimBy xs call)
+      × (ys ≡ bytesBy xs (λ (s : IsoChannelState). call s .session))
+      × (words ≡ wordsBy xs ring (λ (s : IsoChannelState). reclaimedRing s id e ring (length results)))
+      × (after ≡ wordsBy xs results (λ (s : IsoChannelState). reclaimedResults s id e ring results))
+
+  pub refused-by-bytes : {n : ℕ} {p : PortReclaimed} → n ≡ layoutNumber xs → (n ≡ 0 → ⊥) → p ≡ reclaimRefused n → Promised p xs ring results
+  refused-by-bytes l z ep = (
+    ep ∙ refused xs reclaimRefused (λ (s : IsoChannelState). reclaimedPort (call s)) l z,
+    refused xs (λ (n : ℕ). xs) (λ (s : IsoChannelState). sets xs 0 (saved (call s .session))) l z,
+    refused xs (λ (n : ℕ). ring) (λ (s : IsoChannelState). reclaimedRing s id e ring (length results)) l z,
+    refused xs (λ (n : ℕ). results) (λ (s : IsoChannelState). reclaimedResults s id e ring results) l z,
+  )
+
+  pub done-by-bytes :
+      {n : ℕ} {p : PortReclaimed} {ys words after : List ℕ} → n ≡ layoutNumber xs → n ≡ 0 → Told xs ring results id e p ys words after
+      → Promised p ys words after
+  done-by-bytes l z told =
+      let s : IsoChannelState = sessionOf xs in
+      let same : List ℕ → List ℕ = λ (words : List ℕ). words in (
+        told .0 ∙ done xs reclaimRefused call reclaimedPort {s = s} {r = call s} l z refl refl,
+        told .1 ∙ done xs (λ (n : ℕ). xs) call (λ (r : Reclaimed). sets xs 0 (saved (r .session))) {s = s} {r = call s} l z refl refl,
+        told .2
+            ∙ done xs (λ (n : ℕ). ring) (λ (t : IsoChannelState). reclaimedRing t id e ring (length results)) same {s = s}
+            {r = reclaimedRing s id e ring (length results)} l z refl refl,
+        told .3
+            ∙ done xs (λ (n : ℕ). results) (λ (t : IsoChannelState). reclaimedResults t id e ring results) same {s = s}
+            {r = reclaimedResults s id e ring results} l z refl refl,
+      )

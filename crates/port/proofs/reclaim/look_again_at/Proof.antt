@@ -1,0 +1,113 @@
+-- The number is completed, pending or unknown, by where it stands among the requests.
+use mathlib.Core.Path.{_≡_, refl, _∙_, sym, ap}
+use mathlib.Core.Bool.{false}
+use Prim.Native.Nat.{_≤_, _<_}
+use native.Mathlib.Omega.{arith}
+use lib.ListN.{length}
+use lib.Seq.{slice, sets}
+use borrow.Author.Needs.{needs}
+use Rattle.session.specs.declared.types.IsoHead.{IsoHead}
+use Rattle.session.specs.declared.types.IsoChannelState.{IsoChannelState}
+use Rattle.session.specs.Cancel.{placeOf, requestAt}
+use Rattle.session.specs.Reclaim.{removed}
+use Rattle.session.proofs.Laws.Record.{Sound, sound}
+use Rattle.session.proofs.Laws.Reclaims.{again-found, again-pending, again-unknown}
+use Rattle.session.proofs.Laws.Removed.{removed-sound}
+use Rattle.port.specs.Layout.{sessionOf, saved}
+use Rattle.port.specs.Places.{requestsOf}
+use Rattle.port.proofs.Canonical.{loaded-saved}
+use Rattle.port.proofs.Laws.Calls.{long-enough}
+use Rattle.port.proofs.Laws.Walks.{requests-many, plans-many, head-there, there}
+use Rattle.port.proofs.reclaim.look_again_at.Statement.{statement}
+use Rattle.port.proofs.reclaim.look_again_at.Tie as tie
+
+long : (c : tie.Start) → 8488 ≤ length (c .args .bytes .now)
+long c = long-enough (c .args .bytes .now) refl (c .pre .0)
+
+good : (c : tie.Start) → Sound (sessionOf (c .args .bytes .now))
+good c = let xs = c .args .bytes .now in sound (sessionOf xs) (requests-many xs) (plans-many xs) (c .pre .1)
+
+head-is : (c : tie.After-head-at) → c .head-at .result ≡ sessionOf (c .before .before .before .before .args .bytes .now) .head
+head-is c = c .head-at .ensures ∙ head-there (c .before .before .before .before .args .bytes .now)
+
+place-is : (c : tie.After-place-at) → c .place-at .result ≡ requestAt (c .before .before .before .before .before .before .args .id) (sessionOf (c .before .before .before .before .before .before .args .bytes .now))
+place-is c = c .place-at .ensures ∙ ap (λ (h : IsoHead). placeOf (c .before .before .before .before .before .before .args .id) (slice 0 (h .count) (requestsOf (c .before .before .before .before .before .before .args .bytes .now)))) (head-is (c .before .before))
+
+-- bytes that nothing is stored into
+same : (c : tie.After-slice-known) → c .before .args .bytes .now ≡ sets (c .before .args .bytes .now) 0 (saved (sessionOf (c .before .args .bytes .now)))
+same c = sym (loaded-saved (c .before .args .bytes .now) (λ i. omega (arith, c .slice-known .given i)) (c .before .pre .0))
+
+head-at-requires : tie.Need-head-at-requires
+head-at-requires c κs = long (c .before .before .before)
+
+place-at-requires : tie.Need-place-at-requires
+place-at-requires c κs = (long (c .before .before .before .before .before), omega (arith, ap (λ (h : IsoHead). h .count) (head-is (c .before)), good (c .before .before .before .before .before) .count-in))
+
+hand-out-at-requires : tie.Need-hand-out-at-requires
+hand-out-at-requires c κs = (c .before .before .before .before .before .before .before .before .before .before .pre .0, c .before .before .before .before .before .before .before .before .before .before .pre .1, omega (arith, c .before .before .if1 .taken, ap (λ (h : IsoHead). h .done) (head-is (c .before .before .before .before .before .before))), c .before .before .before .before .before .before .before .before .before .before .pre .2)
+
+same-length : tie.Need-same-length
+same-length c = search needs
+
+same-length-2 : tie.Need-same-length-2
+same-length-2 c = search needs
+
+returns : tie.Need-returns
+returns c =
+    let a = c .before .before .before .before .before .before .before .before .before .before .before .before .before .before .before .args in
+    let xs = a .bytes .now in
+    let s = sessionOf xs in
+    let at = c .before .before .before .before .before .before .before .before .before .place-at .result in
+    let out = c .before .before .before .before .hand-out-at .ensures in
+    let less : at < s .head .done = omega (arith, c .before .before .before .before .before .before .before .if1 .taken, ap (λ (h : IsoHead). h .done) (head-is (c .before .before .before .before .before .before .before .before .before .before .before))) in
+    let g : Sound (removed at s) = removed-sound at s (good (c .before .before .before .before .before .before .before .before .before .before .before .before .before .before .before)) less in
+    let held : sessionOf (c .before .before .before .before .hand-out-at .last .0) ≡ removed at s = ap sessionOf (out .1) ∙ there xs (removed at s) (long (c .before .before .before .before .before .before .before .before .before .before .before .before .before .before .before)) (g .requests-long) (g .plans-long) in (
+      λ taken halt. again-found (a .id) s (place-is (c .before .before .before .before .before .before .before .before .before)) taken halt (a .results .now) less (out .0) held refl (out .2) .0,
+      out .1 ∙ ap (λ (t : IsoChannelState). sets xs 0 (saved t)) (sym held),
+      again-found (a .id) s (place-is (c .before .before .before .before .before .before .before .before .before)) false false (a .results .now) less (out .0) held refl (out .2) .1,
+    )
+
+same-length-3 : tie.Need-same-length-3
+same-length-3 c = search needs
+
+returns-2 : tie.Need-returns-2
+returns-2 c =
+    let a = c .before .before .before .before .before .before .before .before .before .before .args in
+    let s = sessionOf (a .bytes .now) in
+    let eh = head-is (c .before .before .before .before .before .before) in
+    let past : s .head .done ≤ c .before .before .before .before .place-at .result = omega (arith, c .before .before .if1 .left, ap (λ (h : IsoHead). h .done) eh) in
+    let less : c .before .before .before .before .place-at .result < s .head .count = omega (arith, c .if2 .taken, ap (λ (h : IsoHead). h .count) eh) in (
+      λ taken halt. again-pending (a .id) s (place-is (c .before .before .before .before)) taken halt (a .results .now) past less refl .0,
+      same (c .before .before .before .before .before .before .before .before .before),
+      again-pending (a .id) s (place-is (c .before .before .before .before)) false false (a .results .now) past less refl .1,
+    )
+
+same-length-4 : tie.Need-same-length-4
+same-length-4 c = search needs
+
+returns-3 : tie.Need-returns-3
+returns-3 c =
+    let a = c .before .before .before .before .before .before .before .before .before .before .args in
+    let s = sessionOf (a .bytes .now) in
+    let eh = head-is (c .before .before .before .before .before .before) in
+    let past : s .head .done ≤ c .before .before .before .before .place-at .result = omega (arith, c .before .before .if1 .left, ap (λ (h : IsoHead). h .done) eh) in
+    let over : s .head .count ≤ c .before .before .before .before .place-at .result = omega (arith, c .if2 .left, ap (λ (h : IsoHead). h .count) eh) in (
+      λ taken halt. again-unknown (a .id) s (place-is (c .before .before .before .before)) taken halt (a .results .now) past over refl .0,
+      same (c .before .before .before .before .before .before .before .before .before),
+      again-unknown (a .id) s (place-is (c .before .before .before .before)) false false (a .results .now) past over refl .1,
+    )
+
+pub look-again-at-spec : {M : Type 1} → statement M
+look-again-at-spec =
+    tie.close
+    (tie.spec
+    head-at-requires
+    place-at-requires
+    hand-out-at-requires
+    same-length
+    same-length-2
+    returns
+    same-length-3
+    returns-2
+    same-length-4
+    returns-3)

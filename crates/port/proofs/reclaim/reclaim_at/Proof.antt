@@ -1,0 +1,136 @@
+-- Refused with 17 or 18 and nothing is stored, or looked and looked again.
+use mathlib.Core.Path.{_≡_, refl, _∙_, sym, ap}
+use mathlib.Core.Bool.{Bool, false, _||_}
+use Prim.Native.Nat.{ℕ, _≤_}
+use native.Mathlib.Omega.{arith}
+use lib.Dec.{ltb}
+use lib.ListN.{length}
+use lib.Seq.{sets}
+use borrow.Author.Needs.{needs}
+use borrow.Author.Tests.{ltb-false}
+use Rattle.words.proofs.Laws.Tests.{neither}
+use Rattle.session.specs.Session.{ringWords}
+use Rattle.session.specs.Record.{isBadRecord}
+use Rattle.session.specs.Reclaim.{isShort}
+use Rattle.session.proofs.Laws.Record.{Sound, sound}
+use Rattle.session.proofs.Laws.Reclaims.{reclaim-short, reclaim-bad}
+use Rattle.port.specs.Layout.{sessionOf, saved}
+use Rattle.port.proofs.Canonical.{loaded-saved}
+use Rattle.port.proofs.Laws.Calls.{long-enough}
+use Rattle.port.proofs.Laws.Walks.{requests-many, plans-many, config-there}
+use Rattle.port.proofs.Laws.Reclaiming.{refused-in-place, looked-layout, looked-good, done-in-place}
+use Rattle.port.proofs.reclaim.reclaim_at.Statement.{statement}
+use Rattle.port.proofs.reclaim.reclaim_at.Tie as tie
+
+long : (c : tie.Start) → 8488 ≤ length (c .args .bytes .now)
+long c = long-enough (c .args .bytes .now) refl (c .pre)
+
+good : (c : tie.Start) → isBadRecord (sessionOf (c .args .bytes .now)) ≡ false → Sound (sessionOf (c .args .bytes .now))
+good c e = let xs = c .args .bytes .now in sound (sessionOf xs) (requests-many xs) (plans-many xs) e
+
+-- bytes that nothing is stored into
+same : (c : tie.After-slice-known) → c .before .args .bytes .now ≡ sets (c .before .args .bytes .now) 0 (saved (sessionOf (c .before .args .bytes .now)))
+same c = sym (loaded-saved (c .before .args .bytes .now) (λ i. omega (arith, c .slice-known .given i)) (c .before .pre))
+
+-- the test of 17, by the words that the code counted
+test-short :
+    (c : tie.After-ring-words) {b : Bool} → (ltb (length (c .before .before .before .before .before .before .args .ring .now)) (c .ring-words .result) || ltb (length (c .before .before .before .before .before .before .args .results .now)) 255) ≡ b
+    → isShort (sessionOf (c .before .before .before .before .before .before .args .bytes .now)) (length (c .before .before .before .before .before .before .args .ring .now)) (length (c .before .before .before .before .before .before .args .results .now)) ≡ b
+test-short c e =
+    let words = c .ring-words .ensures .0 ∙ ap ringWords (c .before .config-at .ensures ∙ config-there (c .before .before .before .before .before .before .args .bytes .now)) in
+    ap (λ (n : ℕ). ltb (length (c .before .before .before .before .before .before .args .ring .now)) n || ltb (length (c .before .before .before .before .before .before .args .results .now)) 255) (sym words) ∙ e
+
+config-at-requires : tie.Need-config-at-requires
+config-at-requires c κs = long (c .before .before .before .before)
+
+ring-words-requires : tie.Need-ring-words-requires
+ring-words-requires c κs = search needs
+
+reclaim-refused-requires : tie.Need-reclaim-refused-requires
+reclaim-refused-requires c κs = search needs
+
+same-length : tie.Need-same-length
+same-length c = search needs
+
+returns : tie.Need-returns
+returns c =
+    let a = c .before .before .before .before .before .before .before .before .args in
+    let told = reclaim-short (sessionOf (a .bytes .now)) (a .id) (a .event) (a .ring .now) (a .results .now) (test-short (c .before .before) (c .before .if1 .taken)) refl in
+    refused-in-place (a .bytes .now) (a .ring .now) (a .results .now) (a .id) (a .event) (same (c .before .before .before .before .before .before .before)) (c .reclaim-refused .ensures) told
+
+scan-at-requires : tie.Need-scan-at-requires
+scan-at-requires c κs = long (c .before .before .before .before .before .before .before .before)
+
+reclaim-refused-requires-2 : tie.Need-reclaim-refused-requires-2
+reclaim-refused-requires-2 c κs = search needs
+
+same-length-2 : tie.Need-same-length-2
+same-length-2 c = search needs
+
+returns-2 : tie.Need-returns-2
+returns-2 c =
+    let a = c .before .before .before .before .before .before .before .before .before .before .before .args in
+    let bad = sym (c .before .before .scan-at .ensures .bad) ∙ c .before .if2 .taken in
+    let told = reclaim-bad (sessionOf (a .bytes .now)) (a .id) (a .event) (a .ring .now) (a .results .now) (test-short (c .before .before .before .before .before) (c .before .before .before .before .if1 .left)) bad refl in
+    refused-in-place (a .bytes .now) (a .ring .now) (a .results .now) (a .id) (a .event) (same (c .before .before .before .before .before .before .before .before .before .before)) (c .reclaim-refused2 .ensures) told
+
+look-at-requires : tie.Need-look-at-requires
+look-at-requires c κs =
+    let a = c .before .before .before .before .before .before .before .before .before .before .before .before .args in
+    let s = sessionOf (a .bytes .now) in
+    let enough = neither (ltb (length (a .ring .now)) (ringWords (s .cfg))) (ltb (length (a .results .now)) 255) (test-short (c .before .before .before .before .before .before) (c .before .before .before .before .before .if1 .left)) in
+    (c .before .before .before .before .before .before .before .before .before .before .before .before .pre, sym (c .before .before .before .scan-at .ensures .bad) ∙ c .before .before .if2 .left, ltb-false (length (a .ring .now)) (ringWords (s .cfg)) (enough .0))
+
+look-again-at-requires : tie.Need-look-again-at-requires
+look-again-at-requires c κs =
+    let a = c .before .before .before .before .before .before .before .before .before .before .before .before .before .before .before .before .before .before .before .args in
+    let xs = a .bytes .now in
+    let s = sessionOf xs in
+    let enough = neither (ltb (length (a .ring .now)) (ringWords (s .cfg))) (ltb (length (a .results .now)) 255) (test-short (c .before .before .before .before .before .before .before .before .before .before .before .before .before) (c .before .before .before .before .before .before .before .before .before .before .before .before .if1 .left)) in
+    let g = good (c .before .before .before .before .before .before .before .before .before .before .before .before .before .before .before .before .before .before .before) (sym (c .before .before .before .before .before .before .before .before .before .before .scan-at .ensures .bad) ∙ c .before .before .before .before .before .before .before .before .before .if2 .left) in
+    let act = c .before .before .before .before .before .before .look-at .ensures .0 in (
+      looked-layout xs (a .ring .now) (a .results .now) (a .id) (a .event) (long (c .before .before .before .before .before .before .before .before .before .before .before .before .before .before .before .before .before .before .before)) g act,
+      looked-good xs (a .ring .now) (a .results .now) (a .id) (a .event) (long (c .before .before .before .before .before .before .before .before .before .before .before .before .before .before .before .before .before .before .before)) g act,
+      ltb-false (length (a .results .now)) 255 (enough .1),
+    )
+
+reclaim-port-requires : tie.Need-reclaim-port-requires
+reclaim-port-requires c κs = search needs
+
+same-length-3 : tie.Need-same-length-3
+same-length-3 c = search needs
+
+same-length-4 : tie.Need-same-length-4
+same-length-4 c = search needs
+
+same-length-5 : tie.Need-same-length-5
+same-length-5 c = search needs
+
+returns-3 : tie.Need-returns-3
+returns-3 c =
+    let a = c .before .before .before .before .before .before .before .before .before .before .before .before .before .before .before .before .before .before .before .before .before .before .before .before .before .args in
+    let fine = sym (c .before .before .before .before .before .before .before .before .before .before .before .before .before .before .before .before .scan-at .ensures .bad) ∙ c .before .before .before .before .before .before .before .before .before .before .before .before .before .before .before .if2 .left in
+    let again = c .before .before .before .before .before .look-again-at .ensures in
+    done-in-place (a .bytes .now) (a .ring .now) (a .results .now) (a .id) (a .event) (long (c .before .before .before .before .before .before .before .before .before .before .before .before .before .before .before .before .before .before .before .before .before .before .before .before .before)) (good (c .before .before .before .before .before .before .before .before .before .before .before .before .before .before .before .before .before .before .before .before .before .before .before .before .before) fine) (c .before .before .before .before .before .before .before .before .before .before .before .before .look-at .ensures .0)
+    (test-short (c .before .before .before .before .before .before .before .before .before .before .before .before .before .before .before .before .before .before .before) (c .before .before .before .before .before .before .before .before .before .before .before .before .before .before .before .before .before .before .if1 .left)) fine (c .before .before .before .before .before .before .before .before .before .before .before .before .look-at .ensures .1) (again .0) (again .1) (again .2) (c .reclaim-port .ensures)
+
+pub reclaim-at-spec : {M : Type 1} → statement M
+reclaim-at-spec =
+    tie.close
+    (tie.spec
+    config-at-requires
+    ring-words-requires
+    reclaim-refused-requires
+    same-length
+    returns
+    scan-at-requires
+    reclaim-refused-requires-2
+    same-length-2
+    returns-2
+    look-at-requires
+    look-again-at-requires
+    reclaim-port-requires
+    same-length-3
+    same-length-4
+    same-length-5
+    returns-3)

@@ -1,0 +1,181 @@
+// Reclaiming on the session's bytes: document 01, "Reclaim". A completed request is handed out once; the tables close up behind it where they stand.
+ghost use mathlib.Core.Path.{_≡_};
+ghost use mathlib.Core.Bool.{Bool, false, cond};
+ghost use mathlib.Core.List.{map};
+ghost use Prim.Native.Nat.{_+_, _≤_, _<_};
+ghost use lib.ListN.{length, getD};
+ghost use lib.Seq.{slice, sets};
+ghost use Rattle.session.specs.Session.{blankRequest, ringWords};
+ghost use Rattle.session.specs.Record.{isBadRecord};
+ghost use Rattle.session.specs.Reclaim.{resultWord, looked, lookedRing, plansBegin, plansEnd, closedUp, oneLess, removed, handedAnswer, handedResults, reclaimReply, lookedAgain, lookedResults, reclaimed, reclaimedRing, reclaimedResults};
+ghost use Rattle.port.specs.Layout.{layoutNumber, sessionOf, saved};
+ghost use Rattle.port.specs.Calls.{reclaimedPort};
+ghost use Rattle.port.specs.Places.{requestsOf, plansOf, withRequests, withPlans, Acted};
+use crate::answers::PortReclaimed;
+use crate::answers::reclaim_port;
+use crate::answers::reclaim_refused;
+use crate::cancel::place_at;
+use crate::drain::packets_at;
+use crate::drain::packets_before;
+use crate::entries::plan_at;
+use crate::entries::put_plan;
+use crate::entries::put_request;
+use crate::entries::request_at;
+use crate::load::config_at;
+use crate::load::head_at;
+use crate::poll::PollSaid;
+use crate::poll::poll_at;
+use crate::save::put_head;
+use crate::scan::scan_at;
+use session::IsoEvent;
+use session::IsoHead;
+use session::ReclaimAnswer;
+use session::handed_answer;
+use session::is_done;
+use session::result_word;
+use session::ring_words;
+
+// The entries from `from` to `to` move down to `into`; so for requests and for plans.
+fn close_requests_at(bytes: &mut [u8], into: usize, from: usize, to: usize)
+    requires { ⌜ (layoutNumber (now bytes) ≡ 0) × (into ≤ from) × (to ≤ 64) ⌝ }
+    ensures { λ _. ⌜ now (bytes .exit) ≡ sets (now (bytes .entry)) 0 (saved (withRequests (sessionOf (now (bytes .entry))) (closedUp into from to (requestsOf (now (bytes .entry)))))) ⌝ }
+{
+    let mut at = into;
+    let mut i = from;
+    while i < to {
+        let request = request_at(bytes, 40 + 20 * i);
+        put_request(bytes, 40 + 20 * at, request);
+        at += 1;
+        i += 1;
+    }
+}
+
+fn close_plans_at(bytes: &mut [u8], into: usize, from: usize, to: usize)
+    requires { ⌜ (layoutNumber (now bytes) ≡ 0) × (into ≤ from) × (to ≤ 1024) ⌝ }
+    ensures { λ _. ⌜ now (bytes .exit) ≡ sets (now (bytes .entry)) 0 (saved (withPlans (sessionOf (now (bytes .entry))) (closedUp into from to (plansOf (now (bytes .entry)))))) ⌝ }
+{
+    let mut at = into;
+    let mut i = from;
+    while i < to {
+        let plan = plan_at(bytes, 1_320 + 7 * i);
+        put_plan(bytes, 1_320 + 7 * at, plan);
+        at += 1;
+        i += 1;
+    }
+}
+
+fn one_less(head: IsoHead) -> IsoHead
+    requires { ⌜ (0 < head .done) × (0 < head .count) ⌝ }
+    ensures { λ r. ⌜ r ≡ oneLess head ⌝ }
+{
+    IsoHead {
+        next_request_id: head.next_request_id,
+        live: head.live,
+        td_last: head.td_last,
+        start_full_frame: head.start_full_frame,
+        done: head.done - 1,
+        count: head.count - 1,
+    }
+}
+
+// Takes out the request at `at` and its plans, which are those from `from` to `to`.
+fn remove_at(bytes: &mut [u8], at: u16, from: usize, to: usize)
+    requires { ⌜ (layoutNumber (now bytes) ≡ 0) × (isBadRecord (sessionOf (now bytes)) ≡ false) × (at < sessionOf (now bytes) .head .done) × (from ≡ plansBegin at (sessionOf (now bytes))) × (to ≡ plansEnd at (sessionOf (now bytes))) ⌝ }
+    ensures { λ _. ⌜ now (bytes .exit) ≡ sets (now (bytes .entry)) 0 (saved (removed at (sessionOf (now (bytes .entry))))) ⌝ }
+{
+    let head = head_at(bytes);
+    let count = head.count;
+    let place = at as usize;
+    let all = packets_before(bytes, count);
+    close_requests_at(bytes, place, place + 1, count as usize);
+    close_plans_at(bytes, from, to, all);
+    put_head(bytes, one_less(head));
+}
+
+// The results of the plans from `from` to `to`, unless their request ended in an error; those behind them stay.
+fn hand_results_at(bytes: &[u8], done: bool, from: usize, to: usize, results: &mut [u64])
+    requires { ⌜ (8488 ≤ length (now bytes)) × (from ≤ to) × (to ≤ 1024) × (to ≤ from + length (now results)) ⌝ }
+    ensures { λ _. ⌜ now (results .exit) ≡ cond done (sets (now (results .entry)) 0 (map resultWord (slice from to (plansOf (now (bytes .entry)))))) (now (results .entry)) ⌝ }
+{
+    if !done {
+        return;
+    }
+    let mut at: usize = 0;
+    let mut i = from;
+    while i < to {
+        results[at] = result_word(plan_at(bytes, 1_320 + 7 * i));
+        at += 1;
+        i += 1;
+    }
+}
+
+// Hands out the completed request at `at`: what it answers, its results, and the session without it.
+fn hand_out_at(bytes: &mut [u8], at: u16, results: &mut [u64]) -> ReclaimAnswer
+    requires { ⌜ (layoutNumber (now bytes) ≡ 0) × (isBadRecord (sessionOf (now bytes)) ≡ false) × (at < sessionOf (now bytes) .head .done) × (255 ≤ length (now results)) ⌝ }
+    ensures { λ r. ⌜ (r ≡ handedAnswer (getD (requestsOf (now (bytes .entry))) at blankRequest)) × (now (bytes .exit) ≡ sets (now (bytes .entry)) 0 (saved (removed at (sessionOf (now (bytes .entry)))))) × (now (results .exit) ≡ handedResults at (sessionOf (now (bytes .entry))) (now (results .entry))) ⌝ }
+{
+    let place = at as usize;
+    let request = request_at(bytes, 40 + 20 * place);
+    let outcome = request.outcome;
+    let from = packets_before(bytes, at);
+    let to = from + packets_at(bytes, place);
+    hand_results_at(bytes, is_done(outcome), from, to, results);
+    remove_at(bytes, at, from, to);
+    handed_answer(request)
+}
+
+// Hands the request out where it is completed. What it answers goes with whether the look took the event and asks for a halt.
+fn look_again_at(bytes: &mut [u8], id: u64, results: &mut [u64]) -> ReclaimAnswer
+    requires { ⌜ (layoutNumber (now bytes) ≡ 0) × (isBadRecord (sessionOf (now bytes)) ≡ false) × (255 ≤ length (now results)) ⌝ }
+    ensures { λ r. ⌜ ((taken halt : Bool) → reclaimReply r taken halt (sessionOf (now (bytes .exit))) ≡ lookedAgain id taken halt (sessionOf (now (bytes .entry)))) × (now (bytes .exit) ≡ sets (now (bytes .entry)) 0 (saved (sessionOf (now (bytes .exit))))) × (now (results .exit) ≡ lookedResults id (sessionOf (now (bytes .entry))) (now (results .entry))) ⌝ }
+{
+    let head = head_at(bytes);
+    let at = place_at(bytes, head.count, id);
+    if at < head.done {
+        return hand_out_at(bytes, at, results);
+    }
+    if at < head.count {
+        return ReclaimAnswer::NotYet;
+    }
+    ReclaimAnswer::Refused(15)
+}
+
+// Polls, unless the request is completed already.
+fn look_at(bytes: &mut [u8], id: u64, event: IsoEvent, ring: &mut [u32]) -> PollSaid
+    requires { ⌜ (layoutNumber (now bytes) ≡ 0) × (isBadRecord (sessionOf (now bytes)) ≡ false) × (ringWords (sessionOf (now bytes) .cfg) ≤ length (now ring)) ⌝ }
+    ensures { λ r. ⌜ Acted (now (bytes .entry)) (now (bytes .exit)) r (looked id event (sessionOf (now (bytes .entry))) (now (ring .entry))) × (now (ring .exit) ≡ lookedRing id event (sessionOf (now (bytes .entry))) (now (ring .entry))) ⌝ }
+{
+    let head = head_at(bytes);
+    let at = place_at(bytes, head.count, id);
+    if at < head.done {
+        return PollSaid {
+            taken: false,
+            halt: false,
+        };
+    }
+    poll_at(bytes, event, ring)
+}
+
+// Hands out the completed request with the number: its outcome and, unless that is an error, a result for each packet.
+pub(crate) fn reclaim_at(
+    bytes: &mut [u8],
+    id: u64,
+    event: IsoEvent,
+    ring: &mut [u32],
+    results: &mut [u64],
+) -> PortReclaimed
+    requires { ⌜ layoutNumber (now bytes) ≡ 0 ⌝ }
+    ensures { λ r. ⌜ (r ≡ reclaimedPort (reclaimed (sessionOf (now (bytes .entry))) id event (now (ring .entry)) (length (now (results .entry))))) × (now (bytes .exit) ≡ sets (now (bytes .entry)) 0 (saved (reclaimed (sessionOf (now (bytes .entry))) id event (now (ring .entry)) (length (now (results .entry))) .session))) × (now (ring .exit) ≡ reclaimedRing (sessionOf (now (bytes .entry))) id event (now (ring .entry)) (length (now (results .entry)))) × (now (results .exit) ≡ reclaimedResults (sessionOf (now (bytes .entry))) id event (now (ring .entry)) (now (results .entry))) ⌝ }
+{
+    let words = ring_words(config_at(bytes));
+    if (ring.len() < words) | (results.len() < 255) {
+        return reclaim_refused(17);
+    }
+    let scan = scan_at(bytes);
+    if scan.bad {
+        return reclaim_refused(18);
+    }
+    let look = look_at(bytes, id, event, ring);
+    let answer = look_again_at(bytes, id, results);
+    reclaim_port(answer, look.taken, look.halt)
+}
