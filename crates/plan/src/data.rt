@@ -7,6 +7,7 @@ ghost use Rattle.plan.specs.Planning.{laidOut};
 ghost use Rattle.plan.specs.DataStages.{isIn, isLow, epTypeOf, oddOf, sizeOf, dataHcchar, dataStage, blankStage, blankPlan, withStage, dataAnswer, dataStages, plannedData, dataPlan, dataArray};
 use crate::refusals::is_bad;
 use crate::refusals::is_planned;
+use crate::split::chunk_of;
 use crate::split::packet_count;
 use crate::split::split_dma_lengths;
 use crate::stage::build_stage_descs;
@@ -46,8 +47,7 @@ fn data_answer(request: DataRequest, words: usize) -> PlanAnswer
         return PlanAnswer::BadEndpoint;
     }
     let m = size_of(request);
-    let split = split_dma_lengths(request.len, m);
-    if split.count > 1_024 {
+    if request.len > 1_024 * chunk_of(m) as u64 {
         return PlanAnswer::TooManyDescriptors;
     }
     let direction = request.direction;

@@ -6,7 +6,7 @@ ghost use Prim.Native.Nat.{_+_, _-_, _*_, _≤_, _<_};
 ghost use lib.ListN.{length, set};
 ghost use lib.Seq.{sets};
 ghost use Rattle.words.specs.Field.{get};
-ghost use Rattle.words.specs.Words.{packetSize, directionIn, isSet};
+ghost use Rattle.words.specs.Words.{packetSize, directionIn, byteCount, isSet};
 ghost use Rattle.plan.specs.Planning.{chainWords, roleWords, stageWords, laidStage};
 ghost use Rattle.plan.specs.StageLength.{StageFits, ChainFits, linkOf, linkMoved, chainMoved, isForged, stageMoved, stageAnswer, stageLength};
 use crate::split::chunk_of;
@@ -151,12 +151,23 @@ fn chain_moved(array: &[u32], mps: u16, base: u32, descs: u32, len: u32) -> u32
     let mut rest = len;
     let mut total: u32 = 0;
     while left > 1 {
-        total += link_moved(chunk, mps, array[2 * at]);
+        total += chunk_moved(chunk, array[2 * at]);
         at += 1;
         left -= 1;
         rest -= chunk;
     }
     total + link_moved(rest, mps, array[2 * at])
+}
+
+// What a descriptor that is not the last moved: its chunk is whole packets, so that the count was not rounded up.
+fn chunk_moved(chunk: u32, status: u32) -> u32
+    ensures { λ r. ⌜ (r ≡ chunk - get byteCount status) × (r ≤ chunk) ⌝ }
+{
+    let left = DmaDescriptor { status, paddr: 0 }.remaining();
+    if chunk <= left {
+        return 0;
+    }
+    chunk - left
 }
 
 // What one descriptor moved: never more than was asked for, though the count was rounded up.

@@ -1,6 +1,6 @@
 // The ring sums by numbers, for C. Each answers as crate `ring` does for what the numbers name, and 18 where one names nothing.
 ghost use mathlib.Core.Path.{_≡_};
-ghost use mathlib.Core.Bool.{true, false, _||_};
+ghost use mathlib.Core.Bool.{_||_};
 ghost use Rattle.words.specs.Numbers.{pidNumber};
 ghost use Rattle.ring.specs.Gcd.{gcd as Gcd·gcd};
 ghost use Rattle.ring.specs.RingSums.{ringSize, packetLimit, capacity, startingFrame, frameSlot, gridSlot, schinfo, pidOf, nextNumber, serviceFrames, frameTable};
@@ -36,21 +36,6 @@ fn number_unless(bad: bool, value: u32) -> PortNumber
         }
     } else {
         PortNumber { refusal: 0, value }
-    }
-}
-
-fn number(value: u32) -> PortNumber
-    ensures { λ r. ⌜ r ≡ numberUnless false value ⌝ }
-{
-    PortNumber { refusal: 0, value }
-}
-
-fn no_number() -> PortNumber
-    ensures { λ r. ⌜ r ≡ numberUnless true 0 ⌝ }
-{
-    PortNumber {
-        refusal: 18,
-        value: 0,
     }
 }
 
@@ -117,10 +102,10 @@ pub extern "C" fn dwc2_iso_starting_frame(raw_frame: u32, speed: u8) -> PortNumb
 pub extern "C" fn dwc2_frame_to_desc_idx(speed: u8, full_frame: u32) -> PortNumber
     ensures { λ r. ⌜ r ≡ numberUnless (isBadSpeed speed) (frameSlot (speedOf speed) «full_frame») ⌝ }
 {
-    if is_bad_speed(speed) {
-        return no_number();
-    }
-    number(ring::frame_to_desc_idx(speed_of(speed), full_frame) as u32)
+    number_unless(
+        is_bad_speed(speed),
+        ring::frame_to_desc_idx(speed_of(speed), full_frame) as u32,
+    )
 }
 
 #[no_mangle]
@@ -162,10 +147,10 @@ fn pid_number(pid: Dwc2Pid) -> u32
 pub extern "C" fn dwc2_iso_pid(speed: u8, direction: u8, mult: u8) -> PortNumber
     ensures { λ r. ⌜ r ≡ numberUnless (isBadSpeed speed || isBadDirection direction) (pidNumber (pidOf (speedOf speed) (directionOf direction) mult)) ⌝ }
 {
-    if is_bad_speed(speed) | is_bad_direction(direction) {
-        return no_number();
-    }
-    number(pid_number(ring::iso_pid(speed_of(speed), direction_of(direction), mult)))
+    number_unless(
+        is_bad_speed(speed) | is_bad_direction(direction),
+        pid_number(ring::iso_pid(speed_of(speed), direction_of(direction), mult)),
+    )
 }
 
 #[no_mangle]

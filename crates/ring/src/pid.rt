@@ -22,10 +22,9 @@ pub fn iso_pid(speed: Speed, direction: Direction, mult: u8) -> Dwc2Pid
 fn pid_in(mult: u8) -> Dwc2Pid
     ensures { λ r. ⌜ r ≡ pidIn mult ⌝ }
 {
-    if mult < 2 {
-        return Dwc2Pid::Data0;
-    }
     match mult {
+        0 => Dwc2Pid::Data0,
+        1 => Dwc2Pid::Data0,
         2 => Dwc2Pid::Data1,
         _ => Dwc2Pid::Data2,
     }

@@ -1,9 +1,9 @@
 -- The laws of a chain of descriptors: one descriptor and the rest of the chain, stored and counted back, and what a stage that a planner
 -- makes leans on. Assumes nothing.
-use mathlib.Core.Path.{_≡_, refl, sym, ap, ap₂}
+use mathlib.Core.Path.{_≡_, refl, _∙_, sym, ap, ap₂}
 use mathlib.Core.Bool.{Bool, true, false, not}
 use mathlib.Core.List.{List, [], _∷_, _++_, append-nil, append-assoc}
-use Prim.Native.Nat.{ℕ, zero, suc, _+_, _-_, _*_, _≤_, _<_}
+use Prim.Native.Nat.{ℕ, zero, suc, _+_, _-_, _*_, _≤_, _<_, min}
 use native.Mathlib.Nat.{zero-add, add-assoc, suc-mul}
 use native.Mathlib.Omega.{arith}
 use lib.Dec.{eqb, ltb}
@@ -11,7 +11,7 @@ use lib.ListN.{length, take, drop, set, getD, length-drop}
 use lib.Seq.{sets, sets-eq, take-length, drop-length, drop-drop}
 use borrow.Author.Tests.{ltb-false, eqb-true, not-false}
 use Rattle.words.specs.Field.{get}
-use Rattle.words.specs.Words.{packets, initialLen, chainStatus, isSet, packetSize, directionIn}
+use Rattle.words.specs.Words.{packets, initialLen, chainStatus, isSet, packetSize, directionIn, byteCount}
 use Rattle.words.specs.declared.descriptor.DmaDescriptor.{DmaDescriptor}
 use Rattle.plan.specs.declared.types.Dwc2TransferStage.{Dwc2TransferStage}
 use Rattle.plan.specs.declared.types.Dwc2StageRole.{Dwc2StageRole}
@@ -22,7 +22,7 @@ use Rattle.plan.specs.Planning.{chunkOf, chainWords, roleWords, stageWor
 use Rattle.plan.specs.StageLength.{ChainFits, linkOf, linkMoved, chainMoved, isForged, stageAnswer}
 use Rattle.words.proofs.Laws.Tests.{neither}
 use Rattle.plan.proofs.Laws.Refusals.{none-holds}
-use Rattle.plan.proofs.Laws.Split.{packets-some, parts-within}
+use Rattle.plan.proofs.Laws.Split.{packets-some, parts-within, rounded-within, rounded-more}
 
 -- ---- lists
 
@@ -83,6 +83,18 @@ pub store-last : (m : ℕ) (isIn : Bool) (left rest buf at : ℕ) (l l′ : List
     → l′ ≡ set (set l at (d .status)) (at + 1) (d .paddr) → l′ ≡ sets l at (chainWords m isIn left rest buf)
 store-last m isIn left rest buf at l l′ d h f g =
     rw (g, f, chain-last m isIn left rest buf h) (sym (sets-two l at (chainStatus (initialLen rest m isIn) true) buf []))
+
+-- a chunk is whole packets: a descriptor that takes one is not rounded up
+pub full-moved : (m k status : ℕ) → m ≤ 65_536 → k ≡ chunkOf m → k - get byteCount status ≡ linkMoved k m status
+full-moved m k status small e =
+    let above : chunkOf m ≤ initialLen (chunkOf m) m true = rounded-more (chunkOf m) m true in
+    let below : initialLen (chunkOf m) m true ≤ chunkOf m = rounded-within m small (chunkOf m) (omega arith) in
+    let whole : initialLen (chunkOf m) m true ≡ chunkOf m = omega arith in
+    let same : chunkOf m - get byteCount status ≡ min (chunkOf m) (chunkOf m - get byteCount status) = omega arith in
+    ap (λ (x : ℕ). x - get byteCount status) e
+    ∙ same
+    ∙ ap (λ (x : ℕ). min (chunkOf m) (x - get byteCount status)) (sym whole)
+    ∙ ap (λ (x : ℕ). linkMoved x m status) (sym e)
 
 -- a descriptor is counted: what is left of the chain, counted on top of it, gives the whole
 pub count-more : (m : ℕ) (array : List ℕ) (left at rest k total r : ℕ) → 1 < left → k ≡ chunkOf m → r ≡ linkMoved k m (getD array (2 * at) 0)

@@ -3,10 +3,10 @@
 use mathlib.Core.Path.{_≡_, refl, _∙_, sym, ap, ap₂, subst⁻¹}
 use mathlib.Core.Bool.{Bool, true, false, not, cond}
 use mathlib.Core.List.{List, [], _∷_, _++_}
-use mathlib.Core.Logic.{⊎-elim}
+use mathlib.Core.Logic.{_⊎_, inl, inr, ⊎-elim}
 use Prim.Native.Nat.{ℕ, zero, suc, _+_, _-_, _*_, _/_, _%_, _≤_, _<_, _∣_, max}
 use native.Mathlib.Nat.{zero-add, zero-mul, one-mul, suc-mul, add-mul, mul-assoc, add-assoc, mul-le-mul-right, add-div-right, mul-add-div-right, div-mul-le-self}
-use native.Mathlib.Nat.{lt-div-mul-add, eq-or-lt-of-le, le-div-iff-mul-le, div-lt-iff-lt-mul, div-eq-of-lt, div-mul-cancel, dvd-mul-left, mod-lt, add-mod}
+use native.Mathlib.Nat.{eq-zero-or-pos, lt-div-mul-add, eq-or-lt-of-le, le-div-iff-mul-le, div-lt-iff-lt-mul, div-eq-of-lt, div-mul-cancel, dvd-mul-left, mod-lt, add-mod}
 use native.Mathlib.Omega.{arith}
 use lib.Arith.{digits-div}
 use lib.Dec.{eqb}
@@ -108,6 +108,22 @@ pub parts-pos : (len c : ℕ) → 0 < len → 0 < c → packets len c ≡ (len -
 parts-pos len c h pos =
     let e : max 1 c ≡ c = omega arith in
     packets-pos len c h ∙ ap (λ (x : ℕ). (len - 1) / x + 1) e
+
+-- More than n parts is a length beyond n parts, and the other way round.
+pub many-parts : (n len c : ℕ) → 0 < c → n * c < len → n < packets len c
+many-parts n len c h more =
+    let some : 0 < len = omega arith in
+    let before : n * c ≤ len - 1 = omega arith in
+    omega (arith, parts-pos len c some h, le-div-iff-mul-le {x = n} {y = len - 1} h .1 before)
+
+pub few-parts : (n len c : ℕ) → 0 < c → 0 < n → len ≤ n * c → packets len c ≤ n
+few-parts n len c h some-parts less = by-length (eq-zero-or-pos len)
+  where
+    by-length : (len ≡ 0) ⊎ (0 < len) → packets len c ≤ n
+    by-length (inl e) = let one : packets len c ≡ 1 = ap (λ (b : ℕ). packets b c) e ∙ empty-is-one-packet c in omega arith
+    by-length (inr some) =
+        let within : len - 1 < n * c = omega arith in
+        omega (arith, parts-pos len c some h, div-lt-iff-lt-mul {x = len - 1} {y = n} h .1 within)
 
 -- The parts before the last are less than a length above 0.
 pub parts-below : (len c : ℕ) → 0 < len → (packets len c - 1) * c < len

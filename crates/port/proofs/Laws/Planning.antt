@@ -22,13 +22,12 @@ use Rattle.port.specs.declared.planning.PortControlPlan.{PortControlPlan
 use Rattle.port.specs.declared.planning.PortControlRequest.{PortControlRequest}
 use Rattle.port.specs.declared.planning.PortDataPlan.{PortDataPlan}
 use Rattle.port.specs.declared.planning.PortDataRequest.{PortDataRequest}
-use Rattle.port.specs.declared.ring_sums.PortNumber.{PortNumber}
 use Rattle.port.specs.declared.stages.PortStage.{PortStage}
 use Rattle.port.specs.Planning.{roleNumber, roleOf, isBadRole, stageNumbers, stageOf, lengthNumber, stageMovedNumber}
 use Rattle.port.specs.Planning.{dataRequestOf, isBadData, dataNumbers, unnamedData, dataPlanNumbers, dataArrayAfter}
 use Rattle.port.specs.Planning.{setupNumbers, unnamedSetup}
 use Rattle.port.specs.Planning.{controlRequestOf, controlNumbers, unnamedControl, controlPlanNumbers, controlArrayAfter}
-use Rattle.port.specs.Sums.{isBadDirection, numberUnless}
+use Rattle.port.specs.Sums.{isBadDirection}
 use Rattle.port.specs.Tags.{flagTag}
 
 -- the first where the test holds, the second where it does not
@@ -37,10 +36,6 @@ first-of a b e h p = p ∙ ap (λ (t : Bool). cond t a b) (sym h ∙ e)
 
 pub second-of : {A : Type 0} (a b : A) {t bad : Bool} {x : A} → t ≡ bad → t ≡ false → x ≡ b → x ≡ cond bad a b
 second-of a b e h p = p ∙ ap (λ (t : Bool). cond t a b) (sym h ∙ e)
-
--- a number by the test that was made for it
-pub by-test : (v : ℕ) {t u bad : Bool} {x : PortNumber} → t ≡ bad → t ≡ u → x ≡ numberUnless u v → x ≡ numberUnless bad v
-by-test v e h p = p ∙ ap (λ (t : Bool). numberUnless t v) (sym h ∙ e)
 
 pub four :
     {A B : Type 0} (f : A → B) (xs : List A) (d : A) → length xs ≡ 4

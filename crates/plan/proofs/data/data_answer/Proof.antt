@@ -1,16 +1,16 @@
 -- `data_answer` tests in document 01's order: each return is the definition at the tests that led there.
 use mathlib.Core.Path.{_≡_, _∙_, sym, ap, ap₂, subst}
 use mathlib.Core.Bool.{true, false}
-use Prim.Native.Nat.{ℕ, _≤_, _<_}
+use Prim.Native.Nat.{ℕ, _*_, _≤_, _<_}
 use native.Mathlib.Omega.{arith}
 use lib.Dec.{ltb}
 use borrow.Author.Needs.{needs}
 use borrow.Author.Tests.{lt-ltb, le-ltb}
 use Rattle.words.specs.Words.{initialLen, isBeyond}
-use Rattle.plan.specs.declared.split.DmaSplit.{DmaSplit}
-use Rattle.plan.specs.Planning.{splitOf}
+use Rattle.plan.specs.Planning.{chunkOf, splitOf}
 use Rattle.plan.specs.Refusals.{isShort, isBad}
 use Rattle.plan.specs.DataStages.{isIn, sizeOf}
+use Rattle.plan.proofs.Laws.Split.{chunk-pos, many-parts, few-parts}
 use Rattle.plan.proofs.Laws.Data.{few-fit}
 use Rattle.plan.proofs.data.data_answer.Statement.{statement}
 use Rattle.plan.proofs.data.data_answer.Tie as tie
@@ -37,40 +37,40 @@ size-of-requires c κs = search needs
 
 past2 :
     (c : tie.Else2)
-    → let a = c .before .before .before .args in
-    isBad (a .request .endpoint) (a .request .device) (a .request .«max_packet_size») ≡ false
+    → isBad (c .before .before .before .args .request .endpoint) (c .before .before .before .args .request .device) (c .before .before .before .args .request .«max_packet_size») ≡ false
 past2 c = sym (c .before .is-bad .ensures) ∙ c .if2 .left
 
-split-dma-lengths-requires : tie.Need-split-dma-lengths-requires
-split-dma-lengths-requires c κs = search needs
+size-small : (c : tie.After-size-of) → sizeOf (c .before .before .before .before .args .request) ≤ 65_536
+size-small c = omega (arith, c .size-of .ensures)
 
--- the split is that of the size raised to 1
-split-is :
-    (c : tie.After-split-dma-lengths)
-    → let a = c .before .before .before .before .before .args in
-    c .split-dma-lengths .result .count ≡ splitOf (a .request .len) (sizeOf (a .request)) .count
-split-is c =
-    ap (λ (s : DmaSplit). s .count) (c .split-dma-lengths .ensures)
-    ∙ ap (λ (m : ℕ). splitOf (c .before .before .before .before .before .args .request .len) m .count) (c .before .size-of .ensures)
+chunk-of-requires : tie.Need-chunk-of-requires
+chunk-of-requires c κs = search needs
+
+cast-if3 : tie.Need-cast-if3
+cast-if3 c = search needs
+
+mul-if3 : tie.Need-mul-if3
+mul-if3 c = search needs
+
+-- the chunk is that of the size raised to 1
+chunk-is : (c : tie.After-chunk-of) → c .chunk-of .result ≡ chunkOf (sizeOf (c .before .before .before .before .before .args .request))
+chunk-is c = c .chunk-of .ensures ∙ ap chunkOf (c .before .size-of .ensures)
 
 returns-3 : tie.Need-returns-3
 returns-3 c =
-    let a = c .before .before .before .before .before .before .before .args in
-    let r = a .request in
-    let e1 : isShort (a .words) ≡ false = past1 (c .before .before .before .before .before .before) in
+    let r = c .before .before .before .before .before .before .before .args .request in
+    let e1 : isShort (c .before .before .before .before .before .before .before .args .words) ≡ false = past1 (c .before .before .before .before .before .before) in
     let e2 : isBad (r .endpoint) (r .device) (r .«max_packet_size») ≡ false = past2 (c .before .before .before .before) in
     let e3 : ltb 1024 (splitOf (r .len) (sizeOf r) .count) ≡ true =
-    lt-ltb 1024 _ (subst (λ (n : ℕ). 1024 < n) (split-is (c .before .before)) (c .if3 .taken)) in
+    lt-ltb 1024 _ (many-parts 1024 (r .len) (chunkOf (sizeOf r)) (chunk-pos (sizeOf r) (size-small (c .before .before .before))) (subst (λ (k : ℕ). 1024 * k < r .len) (chunk-is (c .before .before)) (c .if3 .taken))) in
     simp (e1, e2, e3)
 
 few :
     (c : tie.Else3)
-    → let a = c .before .before .before .before .before .before .before .args in
-    splitOf (a .request .len) (sizeOf (a .request)) .count ≤ 1024
-few c = subst (λ (n : ℕ). n ≤ 1024) (split-is (c .before .before)) (c .if3 .left)
-
-size-small : (c : tie.After-size-of) → sizeOf (c .before .before .before .before .args .request) ≤ 65_536
-size-small c = omega (arith, c .size-of .ensures)
+    → splitOf (c .before .before .before .before .before .before .before .args .request .len) (sizeOf (c .before .before .before .before .before .before .before .args .request)) .count ≤ 1024
+few c =
+    let r = c .before .before .before .before .before .before .before .args .request in
+    few-parts 1024 (r .len) (chunkOf (sizeOf r)) (chunk-pos (sizeOf r) (size-small (c .before .before .before))) (omega arith) (subst (λ (k : ℕ). r .len ≤ 1024 * k) (chunk-is (c .before .before)) (c .if3 .left))
 
 cast-initial-len : tie.Need-cast-initial-len
 cast-initial-len c =
@@ -101,29 +101,24 @@ beyond-is c =
     let r = c .before .before .before .before .before .before .before .before .before .before .before .args .request in
     c .is-beyond .ensures
     ∙ ap (isBeyond (r .base))
-    (c .before .initial-len .ensures
-    ∙ ap₂ (initialLen (r .len)) (c .before .before .before .before .before .before .before .size-of .ensures) (c .before .before .is-in .ensures))
+    (c .before .initial-len .ensures ∙ ap₂ (initialLen (r .len)) (c .before .before .before .before .before .before .before .size-of .ensures) (c .before .before .is-in .ensures))
 
 returns-4 : tie.Need-returns-4
 returns-4 c =
-    let a = c .before .before .before .before .before .before .before .before .before .before .before .before .args in
-    let r = a .request in
-    let e1 : isShort (a .words) ≡ false =
+    let r = c .before .before .before .before .before .before .before .before .before .before .before .before .args .request in
+    let e1 : isShort (c .before .before .before .before .before .before .before .before .before .before .before .before .args .words) ≡ false =
     past1 (c .before .before .before .before .before .before .before .before .before .before .before) in
-    let e2 : isBad (r .endpoint) (r .device) (r .«max_packet_size») ≡ false =
-    past2 (c .before .before .before .before .before .before .before .before .before) in
+    let e2 : isBad (r .endpoint) (r .device) (r .«max_packet_size») ≡ false = past2 (c .before .before .before .before .before .before .before .before .before) in
     let e3 : ltb 1024 (splitOf (r .len) (sizeOf r) .count) ≡ false = le-ltb 1024 _ (few (c .before .before .before .before .before)) in
     let e4 : isBeyond (r .base) (initialLen (r .len) (sizeOf r) (isIn (r .direction))) ≡ true = sym (beyond-is (c .before)) ∙ c .if4 .taken in
     simp (e1, e2, e3, e4)
 
 returns-5 : tie.Need-returns-5
 returns-5 c =
-    let a = c .before .before .before .before .before .before .before .before .before .before .before .before .args in
-    let r = a .request in
-    let e1 : isShort (a .words) ≡ false =
+    let r = c .before .before .before .before .before .before .before .before .before .before .before .before .args .request in
+    let e1 : isShort (c .before .before .before .before .before .before .before .before .before .before .before .before .args .words) ≡ false =
     past1 (c .before .before .before .before .before .before .before .before .before .before .before) in
-    let e2 : isBad (r .endpoint) (r .device) (r .«max_packet_size») ≡ false =
-    past2 (c .before .before .before .before .before .before .before .before .before) in
+    let e2 : isBad (r .endpoint) (r .device) (r .«max_packet_size») ≡ false = past2 (c .before .before .before .before .before .before .before .before .before) in
     let e3 : ltb 1024 (splitOf (r .len) (sizeOf r) .count) ≡ false = le-ltb 1024 _ (few (c .before .before .before .before .before)) in
     let e4 : isBeyond (r .base) (initialLen (r .len) (sizeOf r) (isIn (r .direction))) ≡ false = sym (beyond-is (c .before)) ∙ c .if4 .left in
     simp (e1, e2, e3, e4)
@@ -136,7 +131,9 @@ data-answer-spec =
     is-bad-requires
     returns-2
     size-of-requires
-    split-dma-lengths-requires
+    chunk-of-requires
+    cast-if3
+    mul-if3
     returns-3
     cast-initial-len
     is-in-requires

@@ -8,7 +8,7 @@ use lib.ListN.{length}
 use borrow.Author.Needs.{needs}
 use Rattle.plan.specs.Planning.{chunkOf}
 use Rattle.plan.specs.StageLength.{chainMoved}
-use Rattle.plan.proofs.Laws.Chains.{full-more, count-more, count-last}
+use Rattle.plan.proofs.Laws.Chains.{full-more, full-moved, count-more, count-last}
 use Rattle.plan.proofs.stage.chain_moved.Statement.{statement}
 use Rattle.plan.proofs.stage.chain_moved.Tie as tie
 
@@ -25,31 +25,25 @@ chunk-of-requires c κs = search needs
 
 loop-holds : tie.Need-loop-holds Inv-loop μ-loop
 loop-holds c =
-    let a = c .before .before .args in (
-      c .before .before .pre .some,
-      omega arith,
-      c .before .before .pre .full,
-      omega arith,
-      zero-add (chainMoved (a .mps) (a .array .now) (a .descs) (a .base) (a .len)),
-    )
+    let a = c .before .before .args in
+    (c .before .before .pre .some, omega arith, c .before .before .pre .full, omega arith, zero-add (chainMoved (a .mps) (a .array .now) (a .descs) (a .base) (a .len)))
 
-mul-link-moved : tie.Need-mul-link-moved Inv-loop μ-loop
-mul-link-moved c = omega arith
+mul-chunk-moved : tie.Need-mul-chunk-moved Inv-loop μ-loop
+mul-chunk-moved c = omega arith
 
-mul-link-moved-2 : tie.Need-mul-link-moved-2 Inv-loop μ-loop
-mul-link-moved-2 c = omega arith
+mul-chunk-moved-2 : tie.Need-mul-chunk-moved-2 Inv-loop μ-loop
+mul-chunk-moved-2 c = omega arith
 
-shared-slice-read-link-moved : tie.Need-shared-slice-read-link-moved Inv-loop μ-loop
-shared-slice-read-link-moved c = omega arith
+shared-slice-read-chunk-moved : tie.Need-shared-slice-read-chunk-moved Inv-loop μ-loop
+shared-slice-read-chunk-moved c = omega arith
 
-link-moved-requires : tie.Need-link-moved-requires Inv-loop μ-loop
-link-moved-requires c κs = search needs
+chunk-moved-requires : tie.Need-chunk-moved-requires Inv-loop μ-loop
+chunk-moved-requires c κs = search needs
 
 -- where more than the last is left, a whole chunk is
 whole :
-    (c : tie.In-loop Inv-loop μ-loop) → let a = c .before .before .before .before .args in
-    (c .before .before .chunk-of .result ≤ c .before .loop .rest)
-    × ((c .before .loop .left - 1 - 1) * chunkOf (a .mps) ≤ c .before .loop .rest - chunkOf (a .mps))
+    (c : tie.In-loop Inv-loop μ-loop) → (c .before .before .chunk-of .result ≤ c .before .loop .rest)
+    × ((c .before .loop .left - 1 - 1) * chunkOf (c .before .before .before .before .args .mps) ≤ c .before .loop .rest - chunkOf (c .before .before .before .before .args .mps))
 whole c =
     let a = c .before .before .before .before .args in
     let now = c .before .loop in
@@ -81,22 +75,22 @@ loop-again c =
       omega arith,
       rw (k .ensures) (w .1),
       omega arith,
-      count-more (a .mps) (a .array .now) (now .left) (now .at) (now .rest) (k .result) (now .total) (c .link-moved .result)
-          (c .before .before .loop-test .taken) (k .ensures) (c .link-moved .ensures .0)
+      count-more (a .mps) (a .array .now) (now .left) (now .at) (now .rest) (k .result) (now .total) (c .chunk-moved .result)
+          (c .before .before .loop-test .taken) (k .ensures) (c .chunk-moved .ensures .0 ∙ full-moved (a .mps) (k .result) _ (omega arith) (k .ensures))
           ∙ now .inv .4,
     )
 
-mul-link-moved-3 : tie.Need-mul-link-moved-3 Inv-loop μ-loop
-mul-link-moved-3 c = omega arith
+mul-link-moved : tie.Need-mul-link-moved Inv-loop μ-loop
+mul-link-moved c = omega arith
 
-mul-link-moved-4 : tie.Need-mul-link-moved-4 Inv-loop μ-loop
-mul-link-moved-4 c = omega arith
+mul-link-moved-2 : tie.Need-mul-link-moved-2 Inv-loop μ-loop
+mul-link-moved-2 c = omega arith
 
-shared-slice-read-link-moved-2 : tie.Need-shared-slice-read-link-moved-2 Inv-loop μ-loop
-shared-slice-read-link-moved-2 c = omega arith
+shared-slice-read-link-moved : tie.Need-shared-slice-read-link-moved Inv-loop μ-loop
+shared-slice-read-link-moved c = omega arith
 
-link-moved-requires-2 : tie.Need-link-moved-requires-2 Inv-loop μ-loop
-link-moved-requires-2 c κs = search needs
+link-moved-requires : tie.Need-link-moved-requires Inv-loop μ-loop
+link-moved-requires c κs = search needs
 
 add-result : tie.Need-add-result Inv-loop μ-loop
 add-result c = omega arith
@@ -105,8 +99,7 @@ returns : tie.Need-returns Inv-loop μ-loop
 returns c =
     let a = c .before .before .before .before .before .before .args in
     let now = c .before .before .before .loop in
-    count-last (a .mps) (a .array .now) (now .left) (now .at) (now .rest) (now .total) (c .link-moved2 .result) (omega arith) (c .link-moved2 .ensures .0)
-    ∙ now .inv .4
+    count-last (a .mps) (a .array .now) (now .left) (now .at) (now .rest) (now .total) (c .link-moved .result) (omega arith) (c .link-moved .ensures .0) ∙ now .inv .4
 
 pub chain-moved-spec : {M : Type 1} → statement M
 chain-moved-spec =
@@ -116,19 +109,19 @@ chain-moved-spec =
     μ-loop
     chunk-of-requires
     loop-holds
-    mul-link-moved
-    mul-link-moved-2
-    shared-slice-read-link-moved
-    link-moved-requires
+    mul-chunk-moved
+    mul-chunk-moved-2
+    shared-slice-read-chunk-moved
+    chunk-moved-requires
     add-total
     add-at
     sub-left
     sub-rest
     loop-less
     loop-again
-    mul-link-moved-3
-    mul-link-moved-4
-    shared-slice-read-link-moved-2
-    link-moved-requires-2
+    mul-link-moved
+    mul-link-moved-2
+    shared-slice-read-link-moved
+    link-moved-requires
     add-result
     returns)
