@@ -1,16 +1,11 @@
--- A session with one part of it changed, the numbers of one that has ended, and the refusals of a call that is lent the ring.
+-- The numbers of a session that has ended, and the refusals of a call that is lent the ring.
 use mathlib.Core.Bool.{false, cond}
-use mathlib.Core.List.{List}
 use Prim.Native.Nat.{ℕ}
 use lib.Dec.{ltb}
 use Rattle.session.specs.Session.{ringWords}
 use Rattle.session.specs.Record.{isBadRecord}
 use Rattle.session.specs.declared.types.IsoHead.{IsoHead}
-use Rattle.session.specs.declared.types.IsoRequest.{IsoRequest}
 use Rattle.session.specs.declared.types.IsoChannelState.{IsoChannelState}
-
-abbrev pub withRequests : List IsoRequest → IsoChannelState → IsoChannelState
-withRequests requests s = record { cfg = s .cfg; head = s .head; fatal = s .fatal; requests = requests; plans = s .plans }
 
 -- "cursor and start zero, .. no live channel", nothing pending
 abbrev pub endedHead : IsoHead → IsoHead

@@ -10,7 +10,8 @@ ghost use Rattle.session.specs.Session.{ringWords};
 ghost use Rattle.session.specs.Record.{isBadRecord};
 ghost use Rattle.session.specs.End.{withOutcome, ended, endedRing};
 ghost use Rattle.port.specs.Layout.{requestBytes, requestOf, layoutNumber, sessionOf, saved};
-ghost use Rattle.port.specs.Parts.{withRequests, endedHead};
+ghost use Rattle.port.specs.Parts.{endedHead};
+ghost use Rattle.port.specs.Places.{requestsOf, withRequests};
 use crate::entries::put_request;
 use crate::entries::put_tagged;
 use crate::entries::request_at;
@@ -37,7 +38,7 @@ pub(crate) fn put_outcome(bytes: &mut [u8], at: usize, outcome: IsoOutcome)
 // The outcome of the requests from `from` to `to`.
 fn fail_at(bytes: &mut [u8], from: u16, to: u16, outcome: IsoOutcome)
     requires { ⌜ (8488 ≤ length (now bytes)) × (now bytes ≡ sets (now bytes) 0 (saved (sessionOf (now bytes)))) × (from ≤ to) × (to ≤ 64) ⌝ }
-    ensures { λ _. ⌜ now (bytes .exit) ≡ sets (now (bytes .entry)) 0 (saved (withRequests (sets (sessionOf (now (bytes .entry)) .requests) from (map (withOutcome outcome) (slice from to (sessionOf (now (bytes .entry)) .requests)))) (sessionOf (now (bytes .entry))))) ⌝ }
+    ensures { λ _. ⌜ now (bytes .exit) ≡ sets (now (bytes .entry)) 0 (saved (withRequests (sessionOf (now (bytes .entry))) (sets (requestsOf (now (bytes .entry))) from (map (withOutcome outcome) (slice from to (requestsOf (now (bytes .entry)))))))) ⌝ }
 {
     let mut i = from;
     while i < to {

@@ -1,6 +1,5 @@
 // The record check on a session's bytes where they stand: document 01, "Refusal numbers", 18. Only the entries in use are read, each
 // once; what a submission asks of the tables is found on the same walk.
-ghost use mathlib.Core.Path.{_≡_};
 ghost use Prim.Native.Nat.{_≤_};
 ghost use lib.ListN.{length};
 ghost use Rattle.session.specs.Scan.{Scanned};

@@ -2,7 +2,7 @@
 use mathlib.Core.Path.{_≡_, refl, _∙_, sym, ap, ap₂}
 use mathlib.Core.Bool.{Bool, true, false, not, _||_, _&&_}
 use mathlib.Core.List.{List}
-use Prim.Native.Nat.{ℕ, _-_, _≤_, _<_}
+use Prim.Native.Nat.{ℕ, _-_, _≤_}
 use native.Mathlib.Omega.{arith}
 use lib.Dec.{leb, ltb}
 use lib.ListN.{length, getD, drop}
@@ -15,7 +15,7 @@ use Rattle.session.specs.declared.types.IsoFatal.{IsoFatal}
 use Rattle.session.specs.declared.types.IsoHead.{IsoHead}
 use Rattle.session.specs.declared.types.IsoChannelState.{IsoChannelState}
 use Rattle.session.specs.declared.record.RecordScan.{RecordScan}
-use Rattle.session.specs.Session.{blankPlan, slots, room, packetsOf, allPackets, pendingPackets, hasReason}
+use Rattle.session.specs.Session.{blankPlan, slots, room, allPackets, pendingPackets, hasReason}
 use Rattle.session.specs.Record.{isBadConfig, isBadCounts, anyBadRequest, isBadSums, anyBadPlan, isBadState, isBadRecord}
 use Rattle.session.specs.Way.{isHeld}
 use Rattle.session.specs.Scan.{Scanned}

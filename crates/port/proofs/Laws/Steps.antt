@@ -6,8 +6,8 @@ use mathlib.Core.List.{List, map}
 use Prim.Native.Nat.{ℕ, _+_, _*_, _≤_, _<_}
 use native.Mathlib.Omega.{arith}
 use lib.Dec.{ltb}
-use lib.ListN.{length, getD, drop, set, length-set}
-use lib.Seq.{slice, sets, sets-eq, length-sets}
+use lib.ListN.{length, getD, drop, set}
+use lib.Seq.{slice, sets, length-sets}
 use Rattle.session.specs.declared.reply.IsoReply.{IsoReply}
 use Rattle.session.specs.declared.types.IsoFatal.{IsoFatal}
 use Rattle.session.specs.declared.types.IsoFatal.the-variants.{Nothing}
@@ -30,34 +30,15 @@ use Rattle.port.specs.declared.tags.Tagged.{Tagged}
 use Rattle.port.specs.Tags.{flagTag, taggedBytes, fatalTagged}
 use Rattle.port.specs.Layout.{headBytes, requestBytes, requestOf, layoutNumber, saved, sessionOf}
 use Rattle.port.specs.Calls.{portReply, replyPort}
-use Rattle.port.specs.Parts.{withRequests, endedHead, lentNumber}
+use Rattle.port.specs.Parts.{endedHead, lentNumber}
+use Rattle.port.specs.Places.{requestsOf, withRequests}
 use Rattle.port.proofs.Canonical.{loaded-saved}
-use Rattle.port.proofs.Roundtrip.{saved-loaded}
 use Rattle.port.proofs.Laws.Calls.{long-enough}
 use Rattle.port.proofs.Laws.Kept.{Octets}
 use Rattle.port.proofs.Laws.Loaded.{session}
-use Rattle.port.proofs.Laws.Placed.{length-saved, request-there, request-put, head-put, reason-put}
+use Rattle.port.proofs.Laws.Placed.{request-there, request-put, head-put, reason-put}
 use Rattle.port.proofs.Laws.Scans.{requests-long, plans-long}
-
--- a session that was stored at the front is the one that the bytes hold
-pub stored-session :
-    (xs : List ℕ) (t : IsoChannelState) → 8488 ≤ length xs → length (t .requests) ≡ 64 → length (t .plans) ≡ 1024
-    → sessionOf (sets xs 0 (saved t)) ≡ t
-stored-session xs t long r p =
-    let fits : 0 + length (saved t) ≤ length xs = omega (arith, length-saved xs t long r p) in
-    ap sessionOf (sets-eq (saved t) xs 0 fits) ∙ saved-loaded t r p (drop (0 + length (saved t)) xs)
-
--- one request's outcome, where a session was stored
-pub outcome-put :
-    (xs : List ℕ) (t : IsoChannelState) → 8488 ≤ length xs → length (t .requests) ≡ 64 → length (t .plans) ≡ 1024 → (i : ℕ) (o : IsoOutcome) → i < 64
-    → sets (sets xs 0 (saved t)) (40 + 20 * i) (requestBytes (withOutcome o (requestOf (drop (40 + 20 * i) (sets xs 0 (saved t))))))
-    ≡ sets xs 0 (saved (withRequests (set (t .requests) i (withOutcome o (getD (t .requests) i blankRequest))) t))
-outcome-put xs t long r p i o h =
-    let now : List ℕ = sets xs 0 (saved t) in
-    let read : requestOf (drop (40 + 20 * i) now) ≡ getD (t .requests) i blankRequest =
-    request-there now i blankRequest h ∙ ap (λ (s : IsoChannelState). getD (s .requests) i blankRequest) (stored-session xs t long r p) in
-    ap (λ (q : IsoRequest). sets now (40 + 20 * i) (requestBytes (withOutcome o q))) read
-    ∙ request-put xs t long r p i (withOutcome o (getD (t .requests) i blankRequest)) h
+use Rattle.port.proofs.Laws.Walks.{request-turn}
 
 -- ---- bytes of the layout
 
@@ -85,10 +66,12 @@ module _ (xs : List ℕ) (octets : Octets xs) (z : layoutNumber xs ≡ 0) where
   pub outcome-here :
       (i : ℕ) (o : IsoOutcome) → i < 64
       → sets xs (40 + 20 * i) (requestBytes (withOutcome o (requestOf (drop (40 + 20 * i) xs))))
-      ≡ sets xs 0 (saved (withRequests (set (sessionOf xs .requests) i (withOutcome o (getD (sessionOf xs .requests) i blankRequest))) (sessionOf xs)))
+      ≡ sets xs 0 (saved (withRequests (sessionOf xs) (set (requestsOf xs) i (withOutcome o (getD (requestsOf xs) i blankRequest)))))
   outcome-here i o h =
-      ap (λ (m : List ℕ). sets m (40 + 20 * i) (requestBytes (withOutcome o (requestOf (drop (40 + 20 * i) m))))) same-bytes
-      ∙ outcome-put xs (sessionOf xs) long (requests-long xs) (plans-long xs) i o h
+      let r : IsoRequest = withOutcome o (getD (requestsOf xs) i blankRequest) in
+      ap (λ (q : IsoRequest). sets xs (40 + 20 * i) (requestBytes (withOutcome o q))) (request-there xs i blankRequest h)
+      ∙ ap (λ (m : List ℕ). sets m (40 + 20 * i) (requestBytes r)) same-bytes
+      ∙ request-put xs (sessionOf xs) long (requests-long xs) (plans-long xs) i r h
 
   -- a call that leaves the session as it was
   pub stays :
@@ -106,33 +89,24 @@ becomes xs call e p b = (p ∙ sym (ap replyPort e), b ∙ sym (ap (λ (r : IsoR
 -- ---- the outcome of one request after the other: one turn
 
 module _ (xs now next : List ℕ) (o : IsoOutcome) (i to : ℕ) (long : 8488 ≤ length xs)
-    (held : now ≡ sets xs 0 (saved (withRequests (sessionOf now .requests) (sessionOf xs)))) (less : i < to) (few : to ≤ 64)
+    (held : now ≡ sets xs 0 (saved (withRequests (sessionOf xs) (requestsOf now)))) (less : i < to) (few : to ≤ 64)
     (put : next ≡ sets now (40 + 20 * i) (requestBytes (withOutcome o (requestOf (drop (40 + 20 * i) now))))) where
-  abbrev one : List IsoRequest
-  one = set (sessionOf now .requests) i (withOutcome o (getD (sessionOf now .requests) i blankRequest))
+  turn :
+      (requestsOf next ≡ set (requestsOf now) i (withOutcome o (getD (requestsOf now) i blankRequest)))
+      × (next ≡ sets xs 0 (saved (withRequests (sessionOf xs) (requestsOf next))))
+  turn =
+      request-turn xs (sessionOf xs) long (plans-long xs) i (withOutcome o (getD (requestsOf now) i blankRequest)) (omega arith) held
+      (put ∙ ap (λ (q : IsoRequest). sets now (40 + 20 * i) (requestBytes (withOutcome o q))) (request-there now i blankRequest (omega arith)))
 
-  stored-one : next ≡ sets xs 0 (saved (withRequests one (sessionOf xs)))
-  stored-one =
-      put
-      ∙ ap (λ (m : List ℕ). sets m (40 + 20 * i) (requestBytes (withOutcome o (requestOf (drop (40 + 20 * i) m))))) held
-      ∙ outcome-put xs (withRequests (sessionOf now .requests) (sessionOf xs)) long (requests-long now) (plans-long xs) i o (omega arith)
-
-  one-there : sessionOf next .requests ≡ one
-  one-there =
-      ap (λ (m : List ℕ). sessionOf m .requests) stored-one
-      ∙ ap (λ (s : IsoChannelState). s .requests)
-      (stored-session xs (withRequests one (sessionOf xs)) long
-      (length-set (sessionOf now .requests) i (withOutcome o (getD (sessionOf now .requests) i blankRequest)) ∙ requests-long now) (plans-long xs))
-
-  pub turn-held : next ≡ sets xs 0 (saved (withRequests (sessionOf next .requests) (sessionOf xs)))
-  turn-held = stored-one ∙ ap (λ (l : List IsoRequest). sets xs 0 (saved (withRequests l (sessionOf xs)))) (sym one-there)
+  pub turn-held : next ≡ sets xs 0 (saved (withRequests (sessionOf xs) (requestsOf next)))
+  turn-held = turn .1
 
   pub turn-left :
-      sets (sessionOf next .requests) (i + 1) (map (withOutcome o) (slice (i + 1) to (sessionOf next .requests)))
-      ≡ sets (sessionOf now .requests) i (map (withOutcome o) (slice i to (sessionOf now .requests)))
+      sets (requestsOf next) (i + 1) (map (withOutcome o) (slice (i + 1) to (requestsOf next)))
+      ≡ sets (requestsOf now) i (map (withOutcome o) (slice i to (requestsOf now)))
   turn-left =
-      ap (λ (l : List IsoRequest). sets l (i + 1) (map (withOutcome o) (slice (i + 1) to l))) one-there
-      ∙ sym (amend-next (withOutcome o) i to (sessionOf now .requests) blankRequest less (omega (arith, requests-long now)))
+      ap (λ (l : List IsoRequest). sets l (i + 1) (map (withOutcome o) (slice (i + 1) to l))) (turn .0)
+      ∙ sym (amend-next (withOutcome o) i to (requestsOf now) blankRequest less (omega (arith, requests-long now)))
 
 -- ---- the end of a session: requests, head and reason, one after the other
 
@@ -141,7 +115,7 @@ pub end-put :
     → h ≡ sessionOf xs .head
     → a
     ≡ sets xs 0
-    (saved (withRequests (sets (sessionOf xs .requests) (h .done) (map (withOutcome o) (slice (h .done) (h .count) (sessionOf xs .requests)))) (sessionOf xs)))
+    (saved (withRequests (sessionOf xs) (sets (requestsOf xs) (h .done) (map (withOutcome o) (slice (h .done) (h .count) (requestsOf xs))))))
     → e ≡ endedHead h
     → b ≡ sets a 15 (headBytes e)
     → t ≡ fatalTagged Nothing
@@ -151,11 +125,11 @@ end-put xs o enough eh ea ee eb et ec =
     let s : IsoChannelState = sessionOf xs in
     let failed : List IsoRequest = endedRequests o s in
     let many : length failed ≡ 64 = length-sets (s .requests) (s .head .done) (map (withOutcome o) (slice (s .head .done) (s .head .count) (s .requests))) ∙ requests-long xs in
-    let first : IsoChannelState = withRequests failed s in
+    let first : IsoChannelState = withRequests s failed in
     let second : IsoChannelState = session (s .cfg) (endedHead (s .head)) (s .fatal) failed (s .plans) in
     let a-is =
     ea
-    ∙ ap (λ (k : IsoHead). sets xs 0 (saved (withRequests (sets (s .requests) (k .done) (map (withOutcome o) (slice (k .done) (k .count) (s .requests)))) s))) eh in
+    ∙ ap (λ (k : IsoHead). sets xs 0 (saved (withRequests s (sets (s .requests) (k .done) (map (withOutcome o) (slice (k .done) (k .count) (s .requests))))))) eh in
     let b-is = eb ∙ ap₂ (λ (m : List ℕ) (k : IsoHead). sets m 15 (headBytes k)) a-is (ee ∙ ap endedHead eh) ∙ head-put xs first enough many (plans-long xs) (endedHead (s .head)) in
     ec ∙ ap₂ (λ (m : List ℕ) (k : Tagged). sets m 34 (taggedBytes k)) b-is et ∙ reason-put xs second enough many (plans-long xs) Nothing
 

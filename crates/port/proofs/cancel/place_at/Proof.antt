@@ -1,7 +1,6 @@
 -- The invariant: the requests passed, with those before the first one with the number of what is left, are those before the first of all. The
 -- measure is how many requests are left.
 use mathlib.Core.Path.{_≡_, refl, _∙_, sym, ap}
-use mathlib.Core.Bool.{false, true}
 use Prim.Native.Nat.{ℕ, _+_, _-_, _*_, _≤_}
 use native.Mathlib.Omega.{arith}
 use lib.Dec.{eqb}

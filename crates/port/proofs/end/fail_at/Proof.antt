@@ -2,7 +2,7 @@
 -- is how many requests are left.
 use mathlib.Core.Path.{_≡_, refl, _∙_, sym, ap}
 use mathlib.Core.List.{List, map}
-use Prim.Native.Nat.{_+_, _-_, _*_, _≤_}
+use Prim.Native.Nat.{_-_, _≤_}
 use native.Mathlib.Omega.{arith}
 use lib.ListN.{length}
 use lib.Seq.{slice, sets}
@@ -10,7 +10,7 @@ use Rattle.session.specs.declared.types.IsoRequest.{IsoRequest}
 use Rattle.session.specs.End.{withOutcome}
 use Rattle.session.proofs.Laws.Lists.{amend-past}
 use Rattle.port.specs.Layout.{saved, sessionOf}
-use Rattle.port.specs.Parts.{withRequests}
+use Rattle.port.specs.Places.{requestsOf, withRequests}
 use Rattle.port.proofs.Laws.Steps.{turn-held, turn-left}
 use Rattle.port.proofs.end.fail_at.Statement.{statement}
 use Rattle.port.proofs.end.fail_at.Tie as tie
@@ -18,9 +18,9 @@ use Rattle.port.proofs.end.fail_at.Tie as tie
 abbrev Inv-loop : tie.InvT-loop
 Inv-loop bytes₀ from to outcome i₀ bytes i =
     (i ≤ to) × (length bytes ≡ length bytes₀)
-    × (bytes ≡ sets bytes₀ 0 (saved (withRequests (sessionOf bytes .requests) (sessionOf bytes₀))))
-    × (sets (sessionOf bytes .requests) i (map (withOutcome outcome) (slice i to (sessionOf bytes .requests)))
-    ≡ sets (sessionOf bytes₀ .requests) from (map (withOutcome outcome) (slice from to (sessionOf bytes₀ .requests))))
+    × (bytes ≡ sets bytes₀ 0 (saved (withRequests (sessionOf bytes₀) (requestsOf bytes))))
+    × (sets (requestsOf bytes) i (map (withOutcome outcome) (slice i to (requestsOf bytes)))
+    ≡ sets (requestsOf bytes₀) from (map (withOutcome outcome) (slice from to (requestsOf bytes₀))))
 
 abbrev μ-loop : tie.MeasureT-loop
 μ-loop bytes₀ from to outcome i₀ bytes i = to - i
@@ -66,8 +66,8 @@ returns c =
     let a = c .before .before .before .args in
     let now = c .before .loop in
     now .inv .2
-    ∙ ap (λ (l : List IsoRequest). sets (a .bytes .now) 0 (saved (withRequests l (sessionOf (a .bytes .now)))))
-    (sym (amend-past (withOutcome (a .outcome)) (now .i) (a .to) (sessionOf (now .bytes) .requests) (omega arith)) ∙ now .inv .3)
+    ∙ ap (λ (l : List IsoRequest). sets (a .bytes .now) 0 (saved (withRequests (sessionOf (a .bytes .now)) l)))
+    (sym (amend-past (withOutcome (a .outcome)) (now .i) (a .to) (requestsOf (now .bytes)) (omega arith)) ∙ now .inv .3)
 
 pub fail-at-spec : {M : Type 1} → statement M
 fail-at-spec =

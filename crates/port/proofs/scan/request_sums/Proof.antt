@@ -1,7 +1,7 @@
 -- The invariant: what is still to walk holds a bad request exactly if the whole does, and its packets and those counted are all of them. The measure
 -- is how many requests are left.
 use mathlib.Core.Path.{_≡_, refl, _∙_, sym, ap}
-use mathlib.Core.Bool.{false, cond}
+use mathlib.Core.Bool.{cond}
 use Prim.Native.Nat.{ℕ, _+_, _-_, _*_, _≤_, _<_}
 use native.Mathlib.Nat.{zero-add}
 use native.Mathlib.Omega.{arith}
