@@ -13,11 +13,17 @@ pub struct DmaSplit {
 
 const NBYTES_LIMIT: u32 = 131_071;
 
-// The packets of a transfer. An empty transfer is one packet: counted as none, the toggle would stay one behind.
+// The packets of a transfer. An empty transfer is one packet: counted as none, the toggle would stay one behind. One test finds that
+// the length is above 0 and its last byte's number takes 32 bits, which are divided faster than 64.
 pub fn packet_count(len: u64, max_packet_size: u16) -> u64
     ensures { λ r. ⌜ r ≡ packets len «max_packet_size» ⌝ }
 {
-    whole_parts(len, at_least_one(max_packet_size) as u64)
+    let m = at_least_one(max_packet_size);
+    let last = std::num::wrapping_sub_u64(len, 1);
+    if last < 4_294_967_296 {
+        return (last as u32 / m) as u64 + 1;
+    }
+    whole_parts(len, m as u64)
 }
 
 // A count of bytes is 17 bits wide, and an IN count is rounded up to whole packets: a chunk of whole packets, with a packet less

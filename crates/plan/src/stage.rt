@@ -3,14 +3,14 @@ ghost use mathlib.Core.Path.{_≡_};
 ghost use Rattle.plan.specs.declared.types.PlanAnswer.the-variants.{Planned};
 ghost use Rattle.plan.specs.declared.types.Dwc2StageRole.the-variants.{Data};
 ghost use Prim.Native.Nat.{_+_, _-_, _*_, _≤_, _<_};
+ghost use lib.Dec.{eqb};
 ghost use lib.ListN.{length, set};
 ghost use lib.Seq.{sets};
 ghost use Rattle.words.specs.Field.{get};
-ghost use Rattle.words.specs.Words.{packetSize, directionIn, byteCount, isSet};
+ghost use Rattle.words.specs.Words.{packets, packetSize, directionIn, byteCount, isSet};
 ghost use Rattle.plan.specs.Planning.{chainWords, roleWords, stageWords, laidStage};
 ghost use Rattle.plan.specs.StageLength.{StageFits, ChainFits, linkOf, linkMoved, chainMoved, isForged, stageMoved, stageAnswer, stageLength};
 use crate::split::chunk_of;
-use crate::split::split_dma_lengths;
 use crate::types::Dwc2StageRole;
 use crate::types::Dwc2TransferStage;
 use crate::types::PlanAnswer;
@@ -117,11 +117,27 @@ fn is_forged(stage: Dwc2TransferStage) -> bool
     ensures { λ r. ⌜ r ≡ isForged stage ⌝ }
 {
     let mps = mps_of(stage.hcchar);
-    let split = split_dma_lengths(stage.len as u64, mps);
+    let chunk = chunk_of(mps);
     (mps == 0)
         | (stage.descs > 256)
         | (stage.desc_base as u64 + stage.descs as u64 > 1_024)
-        | !(stage.descs as u64 == split.count)
+        | !is_count(stage.len, chunk, stage.descs)
+}
+
+// Whether a length falls into so many parts: the last of them begins within it and ends no earlier. This spares a division.
+fn is_count(len: u32, part: u32, count: u32) -> bool
+    requires { ⌜ 0 < part ⌝ }
+    ensures { λ r. ⌜ r ≡ eqb count (packets len part) ⌝ }
+{
+    if len == 0 {
+        return count == 1;
+    }
+    if count == 0 {
+        return false;
+    }
+    let before = (count as u64 - 1) * part as u64;
+    let behind = before + part as u64;
+    (before < len as u64) & !(behind < len as u64)
 }
 
 fn stage_moved(stage: Dwc2TransferStage, array: &[u32]) -> u32

@@ -1,7 +1,7 @@
 -- Packets, chunks and the toggle, for every length and packet size. A length above 0 falls into one part more than there are whole parts
 -- before its last byte: from that one law follow the sums of the parts and the bounds of the last.
 use mathlib.Core.Path.{_≡_, refl, _∙_, sym, ap, ap₂, subst⁻¹}
-use mathlib.Core.Bool.{Bool, true, false, not, cond}
+use mathlib.Core.Bool.{Bool, true, false, not, _&&_, cond}
 use mathlib.Core.List.{List, [], _∷_, _++_}
 use mathlib.Core.Logic.{_⊎_, inl, inr, ⊎-elim}
 use Prim.Native.Nat.{ℕ, zero, suc, _+_, _-_, _*_, _/_, _%_, _≤_, _<_, _∣_, max}
@@ -9,9 +9,10 @@ use native.Mathlib.Nat.{zero-add, zero-mul, one-mul, suc-mul, add-mul, mul-assoc
 use native.Mathlib.Nat.{eq-zero-or-pos, lt-div-mul-add, eq-or-lt-of-le, le-div-iff-mul-le, div-lt-iff-lt-mul, div-eq-of-lt, div-mul-cancel, dvd-mul-left, mod-lt, add-mod}
 use native.Mathlib.Omega.{arith}
 use lib.Arith.{digits-div}
-use lib.Dec.{eqb}
+use lib.Dec.{eqb, ltb}
 use lib.ListN.{length, getD, replicate, length-append, length-replicate, getD-replicate, List·getD-append}
 use lib.Seq.{getD-at}
+use borrow.Author.Tests.{ltb-true, ltb-false, eq-eqb, ne-eqb}
 use Rattle.words.specs.Words.{packets, initialLen}
 use Rattle.plan.specs.Planning.{chunkOf, splitOf, lengths, sum, advanced}
 
@@ -153,6 +154,31 @@ sum-append (x ∷ xs) ys = ap (λ (n : ℕ). x + n) (sum-append xs ys) ∙ sym (
 sum-replicate : (n a : ℕ) → sum (replicate n a) ≡ n * a
 sum-replicate zero a = sym (zero-mul a)
 sum-replicate (suc n) a = ap (λ (s : ℕ). a + s) (sum-replicate n a) ∙ omega (arith, suc-mul n a)
+
+-- A length falls into n parts exactly if the last of n begins within it and ends no earlier.
+pub count-by :
+    (len c n : ℕ) → 0 < c → 0 < len → 0 < n → (ltb ((n - 1) * c) len && not (ltb ((n - 1) * c + c) len)) ≡ eqb n (packets len c)
+count-by len c n h some first = go (ltb ((n - 1) * c) len) (ltb ((n - 1) * c + c) len) refl refl
+  where
+    go : (s t : Bool) → ltb ((n - 1) * c) len ≡ s → ltb ((n - 1) * c + c) len ≡ t → (s && not t) ≡ eqb n (packets len c)
+    go false t e f =
+        sym (ne-eqb n (packets len c) λ same.
+        let begins : (n - 1) * c < len = subst⁻¹ (λ (k : ℕ). (k - 1) * c < len) same (parts-below len c some) in
+        absurd (omega (arith, ltb-false ((n - 1) * c) len e)))
+    go true true e f =
+        sym (ne-eqb n (packets len c) λ same.
+        let ends : len - (n - 1) * c ≤ c = subst⁻¹ (λ (k : ℕ). len - (k - 1) * c ≤ c) same (rest-within len c h) in
+        absurd (omega (arith, ltb-true ((n - 1) * c + c) len f)))
+    go true false e f =
+        let whole : n * c ≡ (n - 1) * c + c = parts (n - 1) (omega arith) in
+        let ends : len ≤ n * c = omega (arith, ltb-false ((n - 1) * c + c) len f) in
+        let least : n - 1 < packets len c = many-parts (n - 1) len c h (ltb-true ((n - 1) * c) len e) in
+        let most : packets len c ≤ n = few-parts n len c h first ends in
+        let same : n ≡ packets len c = omega arith in
+        sym (eq-eqb n (packets len c) same)
+      where
+        parts : (k : ℕ) → n ≡ suc k → n * c ≡ k * c + c
+        parts k e = ap (λ (x : ℕ). x * c) e ∙ suc-mul k c
 
 module _ (len m : ℕ) where
   -- The lengths come to the length of the transfer.
