@@ -1,103 +1,29 @@
 -- `submit` acts by its way: ring, numbers, answer and start are what their functions answer for it, and the tables gain the packets that the way
--- adds. The invariant: only the plans change, and those still to be put, put into the table as it is now, give the goal; `slot` is the next
--- packet's. The measure is how many packets are left.
-use mathlib.Core.Path.{_≡_, refl, _∙_, sym, ap, ap₂, subst⁻¹}
+-- adds. The invariant, and what the way says, stand in `Proof/Facts`.
+mod Facts
+use mathlib.Core.Path.{_≡_, refl, _∙_, sym, ap, ap₂}
 use mathlib.Core.Logic.{inl, inr, ⊎-elim}
-use Prim.Native.Nat.{ℕ, _+_, _-_, _%_, _≤_, _<_}
+use Prim.Native.Nat.{ℕ, _+_, _-_, _%_, _≤_}
 use native.Mathlib.Omega.{arith}
-use lib.Dec.{T}
-use lib.ListN.{length, getD, set, take, drop, length-map, length-set}
+use lib.ListN.{length, getD, set, take, length-set}
 use lib.Seq.{sets}
 use borrow.Author.Needs.{needs}
 use Rattle.ring.specs.RingSums.{slotAt}
 use Rattle.ring.proofs.Steps.{first-slot}
 use Rattle.session.specs.declared.types.IsoChannelState.{IsoChannelState}
 use Rattle.session.specs.declared.types.IsoRequest.{IsoRequest}
-use Rattle.session.specs.declared.transfer.SubmitWay.{SubmitWay}
 use Rattle.session.specs.declared.transfer.SubmitWay.the-variants.{Accept}
 use Rattle.session.specs.Session.{slots}
-use Rattle.session.specs.Scan.{whole, Walked, isGate}
-use Rattle.session.specs.Place.{stepOf, insertAt, insertOf, plansFrom}
-use Rattle.session.specs.Way.{submitWay}
+use Rattle.session.specs.Scan.{whole}
+use Rattle.session.specs.Place.{stepOf, plansFrom}
 use Rattle.ring.proofs.Stores.{some-slots, slot-more}
 use Rattle.session.proofs.Laws.Stores.{newPlan, plans-next, plans-past}
-use Rattle.session.proofs.Laws.Admitted.{Admitted, gate-admitted, Acceptable, acceptable, told-of}
-use Rattle.session.proofs.Laws.Submits.{some-added, Pushed, submitted-by, ring-left}
+use Rattle.session.proofs.Laws.Admitted.{Admitted, told-of}
+use Rattle.session.proofs.Laws.Submits.{Pushed, submitted-by, ring-left}
 use Rattle.session.proofs.Laws.Ways.{answer-by, ring-by}
+use Rattle.session.proofs.types.IsoChannelState.submit.Proof.Facts.{Inv-loop, μ-loop, long-plans, way-is, admitted, walked, insert-is, gate, all-added, sure, fits}
 use Rattle.session.proofs.types.IsoChannelState.submit.Statement.{statement}
 use Rattle.session.proofs.types.IsoChannelState.submit.Tie as tie
-
-abbrev Inv-loop : tie.InvT-loop
-Inv-loop transfer lengths ring self₀ cfg head way insert n slots step slot₀ to₀ i₀ self slot to i =
-    (i ≤ n) × (slot ≡ slotAt slots insert step i) × (to ≡ to₀ + i) × (length (self .plans) ≡ 1024)
-    × (self ≡ whole (self₀ .cfg) (self₀ .head) (self₀ .fatal) (self₀ .requests) (self .plans))
-    × (sets (self .plans) to (plansFrom slots insert step i (drop i (take n lengths)))
-    ≡ sets (self₀ .plans) to₀ (plansFrom slots insert step 0 (take n lengths)))
-
-abbrev μ-loop : tie.MeasureT-loop
-μ-loop transfer lengths ring self₀ cfg head way insert n slots step slot₀ to₀ i₀ self slot to i = n - i
-
--- the table of plans has its length
-long-plans : (c : tie.Start Inv-loop μ-loop) → length (c .args .t1 .plans) ≡ 1024
-long-plans c = sym (length-map (c .args .t1 .plans) _) ∙ c .good .0 .1 .1 .1 .1 .1 .1 .0 .1 .0 .1
-
--- the way, and what a submission says that passed every refusal
-way-is : (c : tie.After-submit-way Inv-loop μ-loop) → let a = c .before .before .before .before .before .before .before .args in
-    c .submit-way .result ≡ submitWay (a .t1) (a .transfer) (a .lengths .now) (a .ring .now)
-way-is c =
-    let a = c .before .before .before .before .before .before .before .args in
-    c .submit-way .ensures (a .t1 .requests) (a .t1 .plans) (c .before .before .scan .ensures)
-
-admitted : (c : tie.After-submit-way Inv-loop μ-loop) → let a = c .before .before .before .before .before .before .before .args in
-    T (isGate (c .submit-way .result)) → Admitted (a .t1) (a .transfer) (a .lengths .now) (a .ring .now)
-admitted c g =
-    let a = c .before .before .before .before .before .before .before .args in
-    gate-admitted (a .t1) (a .transfer) (a .lengths .now) (a .ring .now) (c .submit-way .result) (way-is c) g
-
-walked :
-    (c : tie.After-submit-way Inv-loop μ-loop) → T (isGate (c .submit-way .result))
-    → Walked (c .before .before .before .before .before .before .before .args .t1) (c .before .before .scan .result)
-walked c g = c .before .before .scan .ensures .found (admitted c g .entry .record-good)
-
-insert-is : (c : tie.After-insert-of Inv-loop μ-loop) → let a = c .before .before .before .before .before .before .before .before .before .args in
-    T (isGate (c .before .before .submit-way .result)) → c .insert-of .result ≡ insertOf (a .t1) (a .transfer) (a .ring .now)
-insert-is c g =
-    let a = c .before .before .before .before .before .before .before .before .before .args in
-    c .insert-of .ensures ∙ ap (λ (tail : ℕ). insertAt (a .t1 .cfg) (a .t1 .head) (a .transfer) tail (a .ring .now)) (walked (c .before .before) g .tail)
-
-gate : (way : SubmitWay) → way ≡ Accept → T (isGate way)
-gate way e = subst⁻¹ (λ (w : SubmitWay). T (isGate w)) e tt
-
--- where packets are added the submission is accepted, and the tables have room
-all-added :
-    (c : tie.After-added-packets Inv-loop μ-loop) → 0 < c .added-packets .result
-    → (c .before .before .before .before .before .before .before .submit-way .result ≡ Accept)
-    × (c .added-packets .result
-    ≡ length (c .before .before .before .before .before .before .before .before .before .before .before .before .before .before .args .lengths .now))
-all-added c h =
-    some-added (c .before .before .before .before .before .before .before .submit-way .result)
-    (length (c .before .before .before .before .before .before .before .before .before .before .before .before .before .before .args .lengths .now))
-    (c .added-packets .result) (c .added-packets .ensures) h
-
-sure : (c : tie.After-added-packets Inv-loop μ-loop) → let a =
-    c .before .before .before .before .before .before .before .before .before .before .before .before .before .before .args in
-    0 < c .added-packets .result → Acceptable (a .t1) (a .lengths .now)
-sure c h =
-    let a = c .before .before .before .before .before .before .before .before .before .before .before .before .before .before .args in
-    acceptable (a .t1) (a .transfer) (a .lengths .now) (a .ring .now) (admitted (c .before .before .before .before .before .before .before)
-    (gate (c .before .before .before .before .before .before .before .submit-way .result) (all-added c h .0)))
-
-fits :
-    (c : tie.After-added-packets Inv-loop μ-loop) → 0 < c .added-packets .result
-    → c .before .before .before .before .before .before .before .before .before .scan .result .all + c .added-packets .result ≤ 1024
-fits c h =
-    omega (
-      arith,
-      sure c h .packets,
-      all-added c h .1,
-      walked (c .before .before .before .before .before .before .before)
-          (gate (c .before .before .before .before .before .before .before .submit-way .result) (all-added c h .0)) .all,
-    )
 
 scan-requires : tie.Need-scan-requires Inv-loop μ-loop
 scan-requires c κs = search needs
