@@ -1,25 +1,26 @@
 -- `scan` tests in the definition's order: each return is the definition at the tests that led there. The invariants, and what each test says, stand
--- in `Proof/Facts`.
+-- in `Proof/Facts`, the walk over the plans in `Proof/Marks`.
 mod Facts
+mod Marks
 use mathlib.Core.Path.{_≡_, refl, _∙_, sym, ap, ap₂}
 use mathlib.Core.List.{List}
 use mathlib.Core.Bool.{Bool, true, false, not, _||_, _&&_}
-use mathlib.Core.Logic.{⊎-elim}
-use Prim.Native.Nat.{ℕ, _+_, _-_, _≤_, _<_}
+use Prim.Native.Nat.{ℕ, _+_, _-_, _<_}
 use native.Mathlib.Nat.{zero-add}
 use native.Mathlib.Omega.{arith}
 use lib.Dec.{leb, ltb}
-use lib.ListN.{length, getD, length-set}
+use lib.ListN.{getD}
 use lib.Seq.{slice}
 use borrow.Author.Needs.{needs}
 use Rattle.session.specs.Session.{blankRequest, blankPlan, packetsOf, allPackets, hasReason}
 use Rattle.session.specs.Record.{isBadConfig, isBadCounts, anyBadRequest, isBadSums, isBadRecord}
 use Rattle.session.specs.Way.{isHeld}
 use Rattle.session.proofs.Laws.Sums.{packets-next, pending-next}
-use Rattle.session.proofs.Laws.Scans.{request-here, request-next, plan-here, plan-next, plan-past, bad-found}
+use Rattle.session.proofs.Laws.Scans.{request-here, request-next, plan-past, bad-found}
 use Rattle.session.proofs.Laws.Record.{good-request}
-use Rattle.session.proofs.Laws.Held.{marks-first, marks-all, mark-set, mark-pending, mark-done}
-use Rattle.session.proofs.types.IsoChannelState.scan.Proof.Facts.{Inv-loop, μ-loop, Inv-loop2, μ-loop2, long-plans, past1, counts, within, past2, all-is, pending-is, pending-in, sums-are, past3, few-plans, isBadPlans, plans-equal, slot-below}
+use Rattle.session.proofs.Laws.Held.{marks-all}
+use Rattle.session.proofs.types.IsoChannelState.scan.Proof.Facts.{Inv-loop, μ-loop, Inv-loop2, μ-loop2, past1, counts, within, past2, all-is, pending-is, sums-are, past3, few-plans, isBadPlans, plans-equal}
+use Rattle.session.proofs.types.IsoChannelState.scan.Proof.Marks.{loop2-holds, cast-plan, mul-plan, element-copy-out-plan, is-bad-plan-requires, bad-scan-requires-4, returns-4, sub-if6, cast-held, array-write-held, add-j, loop2-less, loop2-again}
 use Rattle.session.proofs.types.IsoChannelState.scan.Statement.{statement}
 use Rattle.session.proofs.types.IsoChannelState.scan.Tie as tie
 
@@ -151,98 +152,6 @@ iso-ring-size-requires c κs = search needs
 
 iso-max-xfer-size-requires : tie.Need-iso-max-xfer-size-requires Inv-loop μ-loop Inv-loop2 μ-loop2
 iso-max-xfer-size-requires c κs = search needs
-
-loop2-holds : tie.Need-loop2-holds Inv-loop μ-loop Inv-loop2 μ-loop2
-loop2-holds c =
-    let now = c .before .before .before .before .before .before .before .loop in (
-      omega arith,
-      refl,
-      refl,
-      marks-first (now .all - now .pending) (now .all)
-          (c .before .before .before .before .before .before .before .before .before .before .before .before .before .before .args .t1 .plans),
-    )
-
-cast-plan : tie.Need-cast-plan Inv-loop μ-loop Inv-loop2 μ-loop2
-cast-plan c = search needs
-
-mul-plan : tie.Need-mul-plan Inv-loop μ-loop Inv-loop2 μ-loop2
-mul-plan c = omega (arith, few-plans (c .before .before .before .before))
-
-element-copy-out-plan : tie.Need-element-copy-out-plan Inv-loop μ-loop Inv-loop2 μ-loop2
-element-copy-out-plan c = omega (arith, few-plans (c .before .before .before .before))
-
-is-bad-plan-requires : tie.Need-is-bad-plan-requires Inv-loop μ-loop Inv-loop2 μ-loop2
-is-bad-plan-requires c κs = search needs
-
-bad-scan-requires-4 : tie.Need-bad-scan-requires-4 Inv-loop μ-loop Inv-loop2 μ-loop2
-bad-scan-requires-4 c κs = search needs
-
-returns-4 : tie.Need-returns-4 Inv-loop μ-loop Inv-loop2 μ-loop2
-returns-4 c =
-    let iso-max-xfer-size = c .before .before .before .before .before .before .iso-max-xfer-size in
-    let iso-ring-size = c .before .before .before .before .before .before .before .iso-ring-size in
-    let checked = c .before .before .before .before .before .before .before .before .before .before .before .before .before .before in
-    let start = checked .before .before .before .before .before .before in
-    let s = start .args .t1 in
-    let now = c .before .before .before .before .before .loop2 in
-    let limit = iso-max-xfer-size .result in
-    let size = iso-ring-size .result in
-    let all = c .before .before .before .before .before .before .before .before .before .before .before .before .before .loop .all in
-    let e1 : (isBadConfig (s .cfg) || isBadCounts s) ≡ false =
-    past1 checked in
-    let e2 : anyBadRequest (slice 0 (s .head .count) (s .requests)) ≡ false =
-    past2 (c .before .before .before .before .before .before .before .before .before .before .before) in
-    let e3 : isBadSums s ≡ false = past3 (c .before .before .before .before .before .before .before .before) in
-    let here = sym (c .before .before .is-bad-plan .ensures) ∙ c .before .if5 .taken in
-    let one =
-    now .inv .1
-    ∙ plan-here limit size (now .j) all (s .plans) (omega arith)
-    (omega (arith, few-plans (c .before .before .before .before .before .before .before .before), long-plans start)) here in
-    let e4 : isBadPlans s ≡ true =
-    sym (plans-equal (s .plans) (sym one) (iso-max-xfer-size .ensures) (iso-ring-size .ensures)
-    (all-is (c .before .before .before .before .before .before .before .before .before .before .before))) in
-    let bad : isBadRecord s ≡ true = simp (e1, e2, e3, e4) in
-    bad-found s (c .bad-scan4 .result) (c .bad-scan4 .ensures) bad
-
-sub-if6 : tie.Need-sub-if6 Inv-loop μ-loop Inv-loop2 μ-loop2
-sub-if6 c = omega (arith, pending-in (c .before .before .before .before .before .before .before .before .before .before))
-
-cast-held : tie.Need-cast-held Inv-loop μ-loop Inv-loop2 μ-loop2
-cast-held c = omega (arith, slot-below (c .before .before))
-
-array-write-held : tie.Need-array-write-held Inv-loop μ-loop Inv-loop2 μ-loop2
-array-write-held c = omega (arith, slot-below (c .before .before))
-
-add-j : tie.Need-add-j Inv-loop μ-loop Inv-loop2 μ-loop2
-add-j c = omega (arith, few-plans (c .before .before .before .before .before .before .before .before))
-
-loop2-less : tie.Need-loop2-less Inv-loop μ-loop Inv-loop2 μ-loop2
-loop2-less c = omega arith
-
-loop2-again : tie.Need-loop2-again Inv-loop μ-loop Inv-loop2 μ-loop2
-loop2-again c =
-    let walked = c .before .before .before .before .before .before .before .before .before .before .before .before .before in
-    let start = walked .before .before .before .before .before .before .before in
-    let s = start .args .t1 in
-    let now = c .before .before .before .before .before .loop2 in
-    let all = walked .loop .all in
-    let from = all - walked .loop .pending in
-    let slot = getD (s .plans) (now .j) blankPlan .«desc_index» in
-    let good = sym (c .before .before .is-bad-plan .ensures) ∙ c .before .if5 .left in
-    let fits : all ≤ length (s .plans) = omega (arith, few-plans (c .before .before .before .before .before .before .before .before), long-plans start) in (
-      omega arith,
-      now .inv .1
-          ∙ plan-next (c .before .before .before .before .before .before .iso-max-xfer-size .result)
-          (c .before .before .before .before .before .before .before .iso-ring-size .result) (now .j) all (s .plans) (omega arith) fits good,
-      ⊎-elim (λ w. ap length (w .2) ∙ simp length-set (now .inv .2)) (λ w. ap length (w .1) ∙ now .inv .2) (c .if6 .came),
-      λ k h. ⊎-elim
-          (λ w.
-          mark-pending (now .held) (c .if6 .held) (s .plans) from (now .j) all slot k (w .0 .taken) (omega arith) fits refl
-          (mark-set (now .held) (c .if6 .held) slot k h (now .inv .2) (w .2)))
-          (λ w. mark-done (now .held) (c .if6 .held) (s .plans) from (now .j) all k (w .0 .left) (w .1))
-          (c .if6 .came)
-          ∙ now .inv .3 k h,
-    )
 
 rest-requires : tie.Need-rest-requires Inv-loop μ-loop Inv-loop2 μ-loop2
 rest-requires c κs = search needs
