@@ -1,13 +1,11 @@
-// A session out of its bytes: whether they are one of the layout, and which.
+// A session's bytes: whether they are one of the layout, and what stands before the tables.
 ghost use mathlib.Core.Path.{_≡_};
 ghost use Prim.Native.Nat.{_+_, _≤_};
 ghost use lib.ListN.{length, drop};
 ghost use Rattle.port.specs.Tags.{taggedOf, fatalOf};
-ghost use Rattle.port.specs.Layout.{configOf, headOf, requestOf, planOf, tableOf, anyOf, isBadRequestBytes, isBadPlanBytes, isBadMark, isBadHead, layoutNumber, sessionOf};
+ghost use Rattle.port.specs.Layout.{configOf, headOf, anyOf, isBadRequestBytes, isBadPlanBytes, isBadMark, isBadHead, layoutNumber};
 use crate::entries::is_bad_plan_at;
 use crate::entries::is_bad_request_at;
-use crate::entries::plan_at;
-use crate::entries::request_at;
 use crate::entries::tagged_at;
 use crate::numbers::byte_at;
 use crate::numbers::u16_at;
@@ -18,14 +16,9 @@ use crate::tags::fatal_of;
 use crate::tags::is_bad_tagged;
 use crate::tags::mode_of;
 use crate::tags::speed_of;
-use session::IsoChannelState;
 use session::IsoConfig;
 use session::IsoFatal;
 use session::IsoHead;
-use session::IsoOutcome;
-use session::IsoPacketPlan;
-use session::IsoRequest;
-use session::TransferStatus;
 
 pub(crate) fn config_at(bytes: &[u8]) -> IsoConfig
     requires { ⌜ 8488 ≤ length (now bytes) ⌝ }
@@ -63,48 +56,6 @@ pub(crate) fn reason_at(bytes: &[u8]) -> IsoFatal
     ensures { λ r. ⌜ r ≡ fatalOf (taggedOf (drop 34 (now (bytes .entry)))) ⌝ }
 {
     fatal_of(tagged_at(bytes, 34))
-}
-
-fn requests_at(bytes: &[u8]) -> [IsoRequest; 64]
-    requires { ⌜ 8488 ≤ length (now bytes) ⌝ }
-    ensures { λ r. ⌜ r ≡ tableOf requestOf 20 64 (drop 40 (now (bytes .entry))) ⌝ }
-{
-    let blank = IsoRequest {
-        id: 0,
-        packets: 0,
-        actual_length: 0,
-        outcome: IsoOutcome::Done,
-    };
-    let mut table = [blank; 64];
-    let mut at: usize = 40;
-    let mut i: usize = 0;
-    while i < 64 {
-        table[i] = request_at(bytes, at);
-        at += 20;
-        i += 1;
-    }
-    table
-}
-
-fn plans_at(bytes: &[u8]) -> [IsoPacketPlan; 1024]
-    requires { ⌜ 8488 ≤ length (now bytes) ⌝ }
-    ensures { λ r. ⌜ r ≡ tableOf planOf 7 1024 (drop 1320 (now (bytes .entry))) ⌝ }
-{
-    let blank = IsoPacketPlan {
-        planned: 0,
-        desc_index: 0,
-        actual: 0,
-        status: TransferStatus::Completed,
-    };
-    let mut table = [blank; 1024];
-    let mut at: usize = 1_320;
-    let mut i: usize = 0;
-    while i < 1_024 {
-        table[i] = plan_at(bytes, at);
-        at += 7;
-        i += 1;
-    }
-    table
 }
 
 fn any_bad_request(bytes: &[u8]) -> bool
@@ -201,22 +152,4 @@ pub(crate) fn layout_refusal(bytes: &[u8]) -> u16
         return 18;
     }
     0
-}
-
-pub(crate) fn load_session(bytes: &[u8]) -> IsoChannelState
-    requires { ⌜ 8488 ≤ length (now bytes) ⌝ }
-    ensures { λ r. ⌜ r ≡ sessionOf (now (bytes .entry)) ⌝ }
-{
-    let cfg = config_at(bytes);
-    let head = head_at(bytes);
-    let fatal = fatal_of(tagged_at(bytes, 34));
-    let requests = requests_at(bytes);
-    let plans = plans_at(bytes);
-    IsoChannelState {
-        cfg,
-        head,
-        fatal,
-        requests,
-        plans,
-    }
 }

@@ -11,20 +11,21 @@ use Rattle.session.specs.declared.types.IsoPacketPlan.{IsoPacketPlan}
 use Rattle.session.specs.declared.types.IsoChannelState.{IsoChannelState}
 use Rattle.session.specs.Session.{blankRequest, allPackets, packetsOf}
 use Rattle.session.specs.Reclaim.{isDone, resultWord, plansBegin, plansEnd, closedUp, oneLess, removed, handedResults}
-use Rattle.session.proofs.Laws.Lists.{close-next}
+use Rattle.session.proofs.Laws.Lists.{amend-next}
 use Rattle.session.proofs.Laws.Handed.{removed-by}
 use Rattle.port.specs.Layout.{headBytes, layoutNumber, sessionOf, saved}
 use Rattle.port.specs.Places.{plansOf, withRequests, withPlans}
 use Rattle.port.proofs.Laws.Loaded.{session}
-use Rattle.port.proofs.Laws.Placed.{head-put}
-use Rattle.port.proofs.Laws.Walks.{requests-many, plans-many, there, layout-there, saved-over}
+use Rattle.port.proofs.Laws.Placed.{head-put, requests-many, plans-many}
+use Rattle.port.proofs.Laws.Walks.{there, layout-there, saved-over}
 
 -- one turn: the entry at `i` was stored at `into`
 pub close-turn :
     {A : Type 0} (into i t : ℕ) (l : List A) (d : A) {next : List A} {v : A} → into ≤ i → i < t → t ≤ length l → v ≡ getD l i d → next ≡ set l into v
     → sets next (into + 1) (slice (i + 1) t next) ≡ sets l into (slice i t l)
 close-turn {A} into i t l d h k n ev e =
-    ap (λ (m : List A). sets m (into + 1) (slice (i + 1) t m)) (e ∙ ap (set l into) ev) ∙ close-next into i t l d h k n
+    ap (λ (m : List A). sets m (into + 1) (slice (i + 1) t m)) (e ∙ ap (set l into) ev)
+    ∙ amend-next (λ (vs : List A). vs) into i t l d (getD l i d) h k n (λ rest. refl)
 
 -- ---- the whole: `b` holds the requests closed up, `c` the plans besides, `d` the head
 

@@ -15,7 +15,7 @@ use Rattle.port.specs.Bytes.{u16Bytes, u32Bytes, u64Bytes}
 use Rattle.port.specs.Tags.{taggedBytes, fatalTagged}
 use Rattle.port.specs.Layout.{markBytes, configBytes, headBytes, requestBytes, requestOf, planBytes, planOf, tableBytes, tableOf, saved, sessionOf}
 use Rattle.port.proofs.Laws.Entries.{length-request, length-plan}
-use Rattle.port.proofs.Laws.Tables.{length-bytes}
+use Rattle.port.proofs.Laws.Tables.{length-table, length-bytes}
 use Rattle.port.proofs.Laws.Loaded.{session}
 use Rattle.port.proofs.Laws.Saved.{front, length-front, length-requests}
 
@@ -37,6 +37,15 @@ plan-there xs i d h = ap planOf (sym (drop-drop (7 * i) 1320 xs)) ∙ table-ther
 pub request-there : (xs : List ℕ) (i : ℕ) (d : IsoRequest) → i < 64 → requestOf (drop (40 + 20 * i) xs) ≡ getD (sessionOf xs .requests) i d
 unfolding sessionOf
 request-there xs i d h = ap requestOf (sym (drop-drop (20 * i) 40 xs)) ∙ table-there requestOf 20 64 i (drop 40 xs) d h
+
+-- the tables of any bytes have their lengths
+pub requests-many : (xs : List ℕ) → length (sessionOf xs .requests) ≡ 64
+unfolding sessionOf
+requests-many xs = length-table requestOf 20 64 (drop 40 xs)
+
+pub plans-many : (xs : List ℕ) → length (sessionOf xs .plans) ≡ 1024
+unfolding sessionOf
+plans-many xs = length-table planOf 7 1024 (drop 1320 xs)
 
 -- ---- writing
 

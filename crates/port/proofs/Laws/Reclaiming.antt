@@ -22,7 +22,8 @@ use Rattle.port.specs.Layout.{layoutNumber, sessionOf, saved}
 use Rattle.port.specs.Calls.{bytesBy, wordsBy, reclaimPort, reclaimRefused, reclaimedPort, reclaimBy}
 use Rattle.port.specs.Places.{Acted}
 use Rattle.port.proofs.Laws.Calls.{refused, done}
-use Rattle.port.proofs.Laws.Walks.{requests-many, plans-many, there, layout-there, saved-over}
+use Rattle.port.proofs.Laws.Walks.{there, layout-there, saved-over}
+use Rattle.port.proofs.Laws.Placed.{requests-many, plans-many}
 
 module _ (xs ring results : List ℕ) (id : ℕ) (e : IsoEvent) where
   abbrev s : IsoChannelState

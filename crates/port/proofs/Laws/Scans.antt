@@ -44,14 +44,6 @@ module _ (xs : List ℕ) where
   unfolding sessionOf
   reason-there = refl
 
-  pub requests-long : length (sessionOf xs .requests) ≡ 64
-  unfolding sessionOf
-  requests-long = length-table requestOf 20 64 (drop 40 xs)
-
-  pub plans-long : length (sessionOf xs .plans) ≡ 1024
-  unfolding sessionOf
-  plans-long = length-table planOf 7 1024 (drop 1320 xs)
-
 -- ---- the ways out of the check
 
 module _ (s : IsoChannelState) where

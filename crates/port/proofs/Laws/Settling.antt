@@ -13,7 +13,7 @@ use Rattle.session.specs.declared.types.IsoPacketPlan.{IsoPacketPlan}
 use Rattle.session.specs.declared.types.IsoChannelState.{IsoChannelState}
 use Rattle.session.specs.Session.{blankRequest, blankPlan, packetsOf}
 use Rattle.session.specs.Settle.{settledPlan, oldest, oldestFrom, oldestTo, movedTotal, oneMore, slotsCleared, settledRequest, settledSession, settledRing}
-use Rattle.session.proofs.Laws.Lists.{slice-next, slice-after-set, slice-pushed, slice-sets, amend-by}
+use Rattle.session.proofs.Laws.Lists.{slice-next, slice-after-set, slice-pushed, slice-sets, amend-next}
 use Rattle.session.proofs.Laws.Sums.{packets-append}
 use Rattle.session.proofs.Laws.Record.{Sound}
 use Rattle.session.proofs.Laws.Settled.{oldest-in, settled-by}
@@ -21,15 +21,17 @@ use Rattle.port.specs.Layout.{headBytes, requestBytes, requestOf, sessio
 use Rattle.port.specs.Places.{plansOf, withPlans}
 use Rattle.port.proofs.Laws.Entries.{request}
 use Rattle.port.proofs.Laws.Loaded.{session}
-use Rattle.port.proofs.Laws.Placed.{request-there, request-put, head-put}
-use Rattle.port.proofs.Laws.Walks.{requests-many, plans-many, there}
+use Rattle.port.proofs.Laws.Placed.{request-there, request-put, head-put, requests-many, plans-many}
+use Rattle.port.proofs.Laws.Walks.{there}
 
 -- ---- one turn: the plan at `i` became `v`
 
 module _ (f : IsoPacketPlan → IsoPacketPlan) (i to : ℕ) (l : List IsoPacketPlan) {next : List IsoPacketPlan} {v : IsoPacketPlan}
     (h : i < to) (k : to ≤ length l) (e : next ≡ set l i v) (ev : v ≡ f (getD l i blankPlan)) where
   pub plans-turn : sets next (i + 1) (map f (slice (i + 1) to next)) ≡ sets l i (map f (slice i to l))
-  plans-turn = ap (λ (m : List IsoPacketPlan). sets m (i + 1) (map f (slice (i + 1) to m))) e ∙ amend-by f i to l blankPlan v h k ev
+  plans-turn =
+      ap (λ (m : List IsoPacketPlan). sets m (i + 1) (map f (slice (i + 1) to m))) e
+      ∙ amend-next (map f) i i to l blankPlan v (omega arith) h k (λ rest. ap (λ (x : IsoPacketPlan). x ∷ map f rest) (sym ev))
 
   pub sum-turn : (sum n : ℕ) → n ≡ v .actual → sum + n + movedTotal (map f (slice (i + 1) to next)) ≡ sum + movedTotal (map f (slice i to l))
   sum-turn sum n en =

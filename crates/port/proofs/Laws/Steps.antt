@@ -36,8 +36,7 @@ use Rattle.port.proofs.Canonical.{loaded-saved}
 use Rattle.port.proofs.Laws.Calls.{long-enough}
 use Rattle.port.proofs.Laws.Kept.{Octets}
 use Rattle.port.proofs.Laws.Loaded.{session}
-use Rattle.port.proofs.Laws.Placed.{request-there, request-put, head-put, reason-put}
-use Rattle.port.proofs.Laws.Scans.{requests-long, plans-long}
+use Rattle.port.proofs.Laws.Placed.{request-there, request-put, head-put, reason-put, requests-many, plans-many}
 use Rattle.port.proofs.Laws.Walks.{request-turn}
 
 -- ---- bytes of the layout
@@ -54,14 +53,14 @@ module _ (xs : List ℕ) (octets : Octets xs) (z : layoutNumber xs ≡ 0) where
       → sets xs 15 (headBytes h)
       ≡ sets xs 0 (saved (session (sessionOf xs .cfg) h (sessionOf xs .fatal) (sessionOf xs .requests) (sessionOf xs .plans)))
   head-here h =
-      ap (λ (m : List ℕ). sets m 15 (headBytes h)) same-bytes ∙ head-put xs (sessionOf xs) long (requests-long xs) (plans-long xs) h
+      ap (λ (m : List ℕ). sets m 15 (headBytes h)) same-bytes ∙ head-put xs (sessionOf xs) long (requests-many xs) (plans-many xs) h
 
   pub reason-here :
       (f : IsoFatal)
       → sets xs 34 (taggedBytes (fatalTagged f))
       ≡ sets xs 0 (saved (session (sessionOf xs .cfg) (sessionOf xs .head) f (sessionOf xs .requests) (sessionOf xs .plans)))
   reason-here f =
-      ap (λ (m : List ℕ). sets m 34 (taggedBytes (fatalTagged f))) same-bytes ∙ reason-put xs (sessionOf xs) long (requests-long xs) (plans-long xs) f
+      ap (λ (m : List ℕ). sets m 34 (taggedBytes (fatalTagged f))) same-bytes ∙ reason-put xs (sessionOf xs) long (requests-many xs) (plans-many xs) f
 
   pub outcome-here :
       (i : ℕ) (o : IsoOutcome) → i < 64
@@ -71,7 +70,7 @@ module _ (xs : List ℕ) (octets : Octets xs) (z : layoutNumber xs ≡ 0) where
       let r : IsoRequest = withOutcome o (getD (requestsOf xs) i blankRequest) in
       ap (λ (q : IsoRequest). sets xs (40 + 20 * i) (requestBytes (withOutcome o q))) (request-there xs i blankRequest h)
       ∙ ap (λ (m : List ℕ). sets m (40 + 20 * i) (requestBytes r)) same-bytes
-      ∙ request-put xs (sessionOf xs) long (requests-long xs) (plans-long xs) i r h
+      ∙ request-put xs (sessionOf xs) long (requests-many xs) (plans-many xs) i r h
 
   -- a call that leaves the session as it was
   pub stays :
@@ -95,7 +94,7 @@ module _ (xs now next : List ℕ) (o : IsoOutcome) (i to : ℕ) (long : 8488 ≤
       (requestsOf next ≡ set (requestsOf now) i (withOutcome o (getD (requestsOf now) i blankRequest)))
       × (next ≡ sets xs 0 (saved (withRequests (sessionOf xs) (requestsOf next))))
   turn =
-      request-turn xs (sessionOf xs) long (plans-long xs) i (withOutcome o (getD (requestsOf now) i blankRequest)) (omega arith) held
+      request-turn xs (sessionOf xs) long (plans-many xs) i (withOutcome o (getD (requestsOf now) i blankRequest)) (omega arith) held
       (put ∙ ap (λ (q : IsoRequest). sets now (40 + 20 * i) (requestBytes (withOutcome o q))) (request-there now i blankRequest (omega arith)))
 
   pub turn-held : next ≡ sets xs 0 (saved (withRequests (sessionOf xs) (requestsOf next)))
@@ -106,7 +105,8 @@ module _ (xs now next : List ℕ) (o : IsoOutcome) (i to : ℕ) (long : 8488 ≤
       ≡ sets (requestsOf now) i (map (withOutcome o) (slice i to (requestsOf now)))
   turn-left =
       ap (λ (l : List IsoRequest). sets l (i + 1) (map (withOutcome o) (slice (i + 1) to l))) (turn .0)
-      ∙ sym (amend-next (withOutcome o) i to (requestsOf now) blankRequest less (omega (arith, requests-long now)))
+      ∙ amend-next (map (withOutcome o)) i i to (requestsOf now) blankRequest (withOutcome o (getD (requestsOf now) i blankRequest)) (omega arith) less
+      (omega (arith, requests-many now)) (λ rest. refl)
 
 -- ---- the end of a session: requests, head and reason, one after the other
 
@@ -124,14 +124,14 @@ pub end-put :
 end-put xs o enough eh ea ee eb et ec =
     let s : IsoChannelState = sessionOf xs in
     let failed : List IsoRequest = endedRequests o s in
-    let many : length failed ≡ 64 = length-sets (s .requests) (s .head .done) (map (withOutcome o) (slice (s .head .done) (s .head .count) (s .requests))) ∙ requests-long xs in
+    let many : length failed ≡ 64 = length-sets (s .requests) (s .head .done) (map (withOutcome o) (slice (s .head .done) (s .head .count) (s .requests))) ∙ requests-many xs in
     let first : IsoChannelState = withRequests s failed in
     let second : IsoChannelState = session (s .cfg) (endedHead (s .head)) (s .fatal) failed (s .plans) in
     let a-is =
     ea
     ∙ ap (λ (k : IsoHead). sets xs 0 (saved (withRequests s (sets (s .requests) (k .done) (map (withOutcome o) (slice (k .done) (k .count) (s .requests))))))) eh in
-    let b-is = eb ∙ ap₂ (λ (m : List ℕ) (k : IsoHead). sets m 15 (headBytes k)) a-is (ee ∙ ap endedHead eh) ∙ head-put xs first enough many (plans-long xs) (endedHead (s .head)) in
-    ec ∙ ap₂ (λ (m : List ℕ) (k : Tagged). sets m 34 (taggedBytes k)) b-is et ∙ reason-put xs second enough many (plans-long xs) Nothing
+    let b-is = eb ∙ ap₂ (λ (m : List ℕ) (k : IsoHead). sets m 15 (headBytes k)) a-is (ee ∙ ap endedHead eh) ∙ head-put xs first enough many (plans-many xs) (endedHead (s .head)) in
+    ec ∙ ap₂ (λ (m : List ℕ) (k : Tagged). sets m 34 (taggedBytes k)) b-is et ∙ reason-put xs second enough many (plans-many xs) Nothing
 
 -- ---- a call that is lent the ring: refused with a number, or past both tests
 

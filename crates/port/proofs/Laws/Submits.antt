@@ -33,8 +33,7 @@ use Rattle.port.proofs.Laws.Entries.{length-plan}
 use Rattle.port.proofs.Laws.Loaded.{session, session-at}
 use Rattle.port.proofs.Laws.Calls.{long-enough}
 use Rattle.port.proofs.Laws.Kept.{Octets}
-use Rattle.port.proofs.Laws.Scans.{requests-long, plans-long}
-use Rattle.port.proofs.Laws.Placed.{plan-put, request-put, head-put}
+use Rattle.port.proofs.Laws.Placed.{plan-put, request-put, head-put, requests-many, plans-many}
 use Rattle.port.proofs.Canonical.{loaded-saved}
 
 -- ---- the plans of n packets
@@ -93,10 +92,10 @@ module _ (xs : List ℕ) (octets : Octets xs) (z : layoutNumber xs ≡ 0) (lengt
   long = long-enough xs refl z
 
   planned-long : length (plansWith s r lengths) ≡ 1024
-  planned-long = length-sets (s .plans) (r .to) (packets (r .added)) ∙ plans-long xs
+  planned-long = length-sets (s .plans) (r .to) (packets (r .added)) ∙ plans-many xs
 
   grown-long : length (requestsWith s (r .added)) ≡ 64
-  grown-long = cond-long (eqb (r .added) 0) (s .requests) (s .head .count) (newRequest (s .head .«next_request_id») (r .added)) ∙ requests-long xs
+  grown-long = cond-long (eqb (r .added) 0) (s .requests) (s .head .count) (newRequest (s .head .«next_request_id») (r .added)) ∙ requests-many xs
 
   pub none-put : r .added ≤ 0 → xs ≡ sets xs 0 (saved (grown s r lengths))
   none-put h =
@@ -118,11 +117,11 @@ module _ (xs : List ℕ) (octets : Octets xs) (z : layoutNumber xs ≡ 0) (lengt
       let put : one ≡ sets xs 0 (saved planned) =
       e
       ∙ ap (λ (m : List ℕ). sets m (1320 + 7 * r .to) (tableBytes planBytes (packets (r .added)))) (sym (loaded-saved xs octets z))
-      ∙ plans-put xs s long (requests-long xs) (plans-long xs) (packets (r .added)) (r .to) room in
+      ∙ plans-put xs s long (requests-many xs) (plans-many xs) (packets (r .added)) (r .to) room in
       f
       ∙ ap₂ (λ (m : List ℕ) (h : IsoHead). sets m (40 + 20 * h .count) (requestBytes q)) put eh
       ∙ ap (λ (x : IsoRequest). sets (sets xs 0 (saved planned)) (40 + 20 * s .head .count) (requestBytes x)) asked
-      ∙ request-put xs planned long (requests-long xs) planned-long (s .head .count) new (fit .requests)
+      ∙ request-put xs planned long (requests-many xs) planned-long (s .head .count) new (fit .requests)
       ∙ ap (λ (l : List IsoRequest). sets xs 0 (saved (session (s .cfg) (s .head) (s .fatal) l (plansWith s r lengths)))) (sym (pushed s (r .added) some))
 
   pub numbers-put :

@@ -6,22 +6,10 @@ use Prim.Native.Nat.{ℕ, zero, suc, _+_, _-_, _*_, _≤_, _<_}
 use native.Mathlib.Nat.{zero-add, suc-add, zero-mul, suc-mul}
 use native.Mathlib.Numerals.{add-one}
 use native.Mathlib.Omega.{arith}
-use lib.ListN.{length, getD, set, drop, length-append, drop-of-length-le}
-use lib.Seq.{sets, sets-eq, drop-drop, drop-cons, drop-at}
+use lib.ListN.{length, getD, drop, length-append, drop-of-length-le}
+use lib.Seq.{sets, drop-drop, drop-cons, drop-at}
 use Rattle.port.specs.Layout.{tableBytes, tableOf, anyOf}
 use Rattle.port.proofs.Laws.Runs.{sets-append}
-
-module _ {A : Type 0} where
-  -- a run as long as the list replaces it
-  pub sets-all : (l vs : List A) → length l ≡ length vs → sets l 0 vs ≡ vs
-  sets-all l vs h =
-      let far : length l ≤ 0 + length vs = omega arith in
-      let rest : drop (0 + length vs) l ≡ [] = drop-of-length-le l far in
-      sets-eq vs l 0 (omega arith) ∙ ap (λ (r : List A). vs ++ r) rest ∙ append-nil vs
-    where
-      append-nil : (xs : List A) → xs ++ [] ≡ xs
-      append-nil [] = refl
-      append-nil (x ∷ xs) = ap (λ (r : List A). x ∷ r) (append-nil xs)
 
 -- ---- reading
 
@@ -30,27 +18,6 @@ module _ {A : Type 0} (f : List ℕ → A) (w : ℕ) where
   unfolding tableOf
   length-table zero xs = refl
   length-table (suc n) xs = ap suc (length-table n (drop w xs))
-
-  pub read-first : (n : ℕ) (xs : List ℕ) (l : List A) → length l ≡ n → sets l 0 (tableOf f w n xs) ≡ tableOf f w n xs
-  read-first n xs l h = sets-all l (tableOf f w n xs) (h ∙ sym (length-table n xs))
-
-  table-next : (n at : ℕ) (xs : List ℕ) → tableOf f w (suc n) (drop at xs) ≡ f (drop at xs) ∷ tableOf f w n (drop (at + w) xs)
-  unfolding tableOf
-  table-next n at xs = ap (λ (ys : List ℕ). f (drop at xs) ∷ tableOf f w n ys) (drop-drop w at xs)
-
-  pub read-more :
-      (n i at : ℕ) (xs : List ℕ) (l : List A) (a : A) → i < n → a ≡ f (drop at xs)
-      → sets (set l i a) (i + 1) (tableOf f w (n - (i + 1)) (drop (at + w) xs)) ≡ sets l i (tableOf f w (n - i) (drop at xs))
-  read-more n i at xs l a h e =
-      let left : suc (n - (i + 1)) ≡ n - i = omega arith in
-      ap (λ (x : A). sets (set l i x) (i + 1) (tableOf f w (n - (i + 1)) (drop (at + w) xs))) e
-      ∙ ap (λ (k : ℕ). sets (set l i (f (drop at xs))) k (tableOf f w (n - (i + 1)) (drop (at + w) xs))) (add-one i)
-      ∙ ap (sets l i) (sym (table-next (n - (i + 1)) at xs))
-      ∙ ap (λ (k : ℕ). sets l i (tableOf f w k (drop at xs))) left
-
-  pub read-end : (n i : ℕ) (xs : List ℕ) (l : List A) → n ≤ i → sets l i (tableOf f w (n - i) xs) ≡ l
-  unfolding tableOf
-  read-end n i xs l h = let none : n - i ≡ 0 = omega arith in ap (λ (k : ℕ). sets l i (tableOf f w k xs)) none
 
 -- ---- testing
 

@@ -15,17 +15,8 @@ use Rattle.port.specs.Layout.{configOf, headOf, requestBytes, requestOf,
 use Rattle.port.specs.Places.{requestsOf, plansOf, withRequests, withPlans}
 use Rattle.port.proofs.Laws.Entries.{field}
 use Rattle.port.proofs.Laws.Tables.{length-table}
-use Rattle.port.proofs.Laws.Placed.{length-saved, plan-there, request-there, plan-put, request-put}
+use Rattle.port.proofs.Laws.Placed.{length-saved, plan-there, request-there, plan-put, request-put, requests-many, plans-many}
 use Rattle.port.proofs.Roundtrip.{saved-good, saved-loaded}
-
--- the tables of any bytes have their lengths
-pub requests-many : (xs : List ℕ) → length (requestsOf xs) ≡ 64
-unfolding sessionOf
-requests-many xs = length-table requestOf 20 64 (drop 40 xs)
-
-pub plans-many : (xs : List ℕ) → length (plansOf xs) ≡ 1024
-unfolding sessionOf
-plans-many xs = length-table planOf 7 1024 (drop 1320 xs)
 
 module _ (xs : List ℕ) (s : IsoChannelState) (long : 8488 ≤ length xs) (many-requests : length (s .requests) ≡ 64) (many-plans : length (s .plans) ≡ 1024) where
   as-saved : sets xs 0 (saved s) ≡ saved s ++ drop 8488 xs

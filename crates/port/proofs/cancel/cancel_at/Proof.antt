@@ -22,8 +22,9 @@ use Rattle.port.specs.Tags.{taggedBytes}
 use Rattle.port.specs.Layout.{sessionOf, saved}
 use Rattle.port.proofs.Laws.Calls.{long-enough}
 use Rattle.port.proofs.Laws.Kept.{Octets}
-use Rattle.port.proofs.Laws.Scans.{head-there, reason-there, requests-long, plans-long}
+use Rattle.port.proofs.Laws.Scans.{head-there, reason-there}
 use Rattle.port.proofs.Laws.Steps.{reason-here, outcome-here, stays, becomes}
+use Rattle.port.proofs.Laws.Placed.{requests-many, plans-many}
 use Rattle.port.proofs.cancel.cancel_at.Statement.{statement}
 use Rattle.port.proofs.cancel.cancel_at.Tie as tie
 
@@ -34,7 +35,7 @@ fine : (c : tie.Else1) → isBadRecord (sessionOf (c .before .before .before .be
 fine c = sym (c .before .scan-at .ensures .bad) ∙ c .if1 .left
 
 good : (c : tie.Else1) → Sound (sessionOf (c .before .before .before .before .args .bytes .now))
-good c = sound (sessionOf (c .before .before .before .before .args .bytes .now)) (requests-long (c .before .before .before .before .args .bytes .now)) (plans-long (c .before .before .before .before .args .bytes .now)) (fine c)
+good c = sound (sessionOf (c .before .before .before .before .args .bytes .now)) (requests-many (c .before .before .before .before .args .bytes .now)) (plans-many (c .before .before .before .before .args .bytes .now)) (fine c)
 
 head-is : (c : tie.After-head-at) → c .head-at .result ≡ sessionOf (c .before .before .before .before .before .before .args .bytes .now) .head
 head-is c = c .head-at .ensures ∙ head-there (c .before .before .before .before .before .before .args .bytes .now)

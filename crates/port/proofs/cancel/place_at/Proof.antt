@@ -12,8 +12,7 @@ use Rattle.session.specs.Session.{blankRequest}
 use Rattle.session.specs.Cancel.{placeOf}
 use Rattle.session.proofs.Laws.Replies.{place-here, place-next, place-past}
 use Rattle.port.specs.Layout.{requestOf, sessionOf}
-use Rattle.port.proofs.Laws.Placed.{request-there}
-use Rattle.port.proofs.Laws.Scans.{requests-long}
+use Rattle.port.proofs.Laws.Placed.{request-there, requests-many}
 use Rattle.port.proofs.cancel.place_at.Statement.{statement}
 use Rattle.port.proofs.cancel.place_at.Tie as tie
 
@@ -26,7 +25,7 @@ abbrev μ-loop : tie.MeasureT-loop
 μ-loop bytes count id at₀ i₀ at i = count - i
 
 within : (c : tie.Start Inv-loop μ-loop) → c .args .count ≤ length (sessionOf (c .args .bytes .now) .requests)
-within c = omega (arith, c .pre .1, requests-long (c .args .bytes .now))
+within c = omega (arith, c .pre .1, requests-many (c .args .bytes .now))
 
 -- what is read is the entry of the table
 number-is : (c : tie.After-request-at Inv-loop μ-loop) → c .request-at .result .id ≡ getD (sessionOf (c .before .before .before .before .args .bytes .now) .requests) (c .before .before .loop .i) blankRequest .id

@@ -8,8 +8,8 @@ use borrow.Author.Needs.{needs}
 use Rattle.session.specs.Settle.{slotsCleared}
 use Rattle.session.proofs.Laws.Settled.{cleared-next, cleared-past}
 use Rattle.port.specs.Places.{plansOf}
-use Rattle.port.proofs.Laws.Walks.{plans-many}
 use Rattle.port.proofs.drain.clear_slots_at.Statement.{statement}
+use Rattle.port.proofs.Laws.Placed.{plans-many}
 use Rattle.port.proofs.drain.clear_slots_at.Tie as tie
 
 abbrev Inv-loop : tie.InvT-loop

@@ -18,8 +18,9 @@ use Rattle.port.specs.Layout.{layoutNumber, sessionOf, saved}
 use Rattle.port.specs.Places.{requestsOf, plansOf}
 use Rattle.port.proofs.Canonical.{loaded-saved}
 use Rattle.port.proofs.Laws.Calls.{long-enough}
-use Rattle.port.proofs.Laws.Walks.{requests-many, plans-many, head-there, called-again}
+use Rattle.port.proofs.Laws.Walks.{head-there, called-again}
 use Rattle.port.proofs.Laws.Settling.{oldest-ends, settled-from}
+use Rattle.port.proofs.Laws.Placed.{requests-many, plans-many}
 use Rattle.port.proofs.drain.drain_at.Statement.{statement}
 use Rattle.port.proofs.drain.drain_at.Tie as tie
 

@@ -7,8 +7,8 @@ use lib.Seq.{slice}
 use Rattle.session.specs.Session.{packetsOf}
 use Rattle.session.proofs.Laws.Sums.{packets-next, packets-past}
 use Rattle.port.specs.Places.{requestsOf}
-use Rattle.port.proofs.Laws.Walks.{requests-many}
 use Rattle.port.proofs.drain.packets_before.Statement.{statement}
+use Rattle.port.proofs.Laws.Placed.{requests-many}
 use Rattle.port.proofs.drain.packets_before.Tie as tie
 
 abbrev Inv-loop : tie.InvT-loop

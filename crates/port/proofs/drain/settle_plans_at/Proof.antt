@@ -10,14 +10,14 @@ use lib.ListN.{length}
 use lib.Seq.{slice, sets}
 use Rattle.session.specs.Session.{blankPlan}
 use Rattle.session.specs.Settle.{settledPlan, movedTotal}
-use Rattle.session.proofs.Laws.Lists.{slice-past, amend-past}
+use Rattle.session.proofs.Laws.Lists.{slice-past, write-past}
 use Rattle.session.specs.declared.types.IsoPacketPlan.{IsoPacketPlan}
 use Rattle.port.specs.Layout.{sessionOf, saved}
 use Rattle.port.specs.Places.{plansOf, withPlans}
 use Rattle.port.proofs.Canonical.{loaded-saved}
 use Rattle.port.proofs.Laws.Calls.{long-enough}
-use Rattle.port.proofs.Laws.Placed.{plan-there}
-use Rattle.port.proofs.Laws.Walks.{requests-many, plans-many, plan-turn}
+use Rattle.port.proofs.Laws.Placed.{plan-there, requests-many, plans-many}
+use Rattle.port.proofs.Laws.Walks.{plan-turn}
 use Rattle.port.proofs.Laws.Settling.{plans-turn, sum-turn}
 use Rattle.port.proofs.drain.settle_plans_at.Statement.{statement}
 use Rattle.port.proofs.drain.settle_plans_at.Tie as tie
@@ -94,7 +94,7 @@ returns c =
     let now = c .before .loop in
     let f = settledPlan (a .direction) (a .ring .now) in
     let none : movedTotal (map f (slice (now .i) (a .to) (plansOf (now .bytes)))) ≡ 0 = ap (λ (ps : List IsoPacketPlan). movedTotal (map f ps)) (slice-past (now .i) (a .to) (plansOf (now .bytes)) (omega arith)) in
-    let all = sym (amend-past f (now .i) (a .to) (plansOf (now .bytes)) (omega arith)) ∙ now .inv .4 in (
+    let all = sym (write-past (map f) (now .i) (now .i) (a .to) (plansOf (now .bytes)) (plansOf (now .bytes)) refl (omega arith)) ∙ now .inv .4 in (
       omega (arith, none, now .inv .5),
       now .inv .3 ∙ ap (λ (ps : List IsoPacketPlan). sets (a .bytes .now) 0 (saved (withPlans (sessionOf (a .bytes .now)) ps))) all,
     )

@@ -13,8 +13,9 @@ use Rattle.session.proofs.Laws.Record.{Sound, sound}
 use Rattle.port.specs.Layout.{sessionOf}
 use Rattle.port.proofs.Laws.Calls.{long-enough}
 use Rattle.port.proofs.Laws.Kept.{Octets}
-use Rattle.port.proofs.Laws.Scans.{config-there, head-there, requests-long, plans-long}
+use Rattle.port.proofs.Laws.Scans.{config-there, head-there}
 use Rattle.port.proofs.Laws.Steps.{same-bytes, end-put}
+use Rattle.port.proofs.Laws.Placed.{requests-many, plans-many}
 use Rattle.port.proofs.end.end_at.Statement.{statement}
 use Rattle.port.proofs.end.end_at.Tie as tie
 
@@ -22,7 +23,7 @@ octets : (c : tie.After-slice-known) → Octets (c .before .args .bytes .now)
 octets c i = omega (arith, c .slice-known .given i)
 
 good : (c : tie.Start) → Sound (sessionOf (c .args .bytes .now))
-good c = sound (sessionOf (c .args .bytes .now)) (requests-long (c .args .bytes .now)) (plans-long (c .args .bytes .now)) (c .pre .1)
+good c = sound (sessionOf (c .args .bytes .now)) (requests-many (c .args .bytes .now)) (plans-many (c .args .bytes .now)) (c .pre .1)
 
 head-is : (c : tie.After-head-at) → c .head-at .result ≡ sessionOf (c .before .before .before .before .before .before .before .args .bytes .now) .head
 head-is c = c .head-at .ensures ∙ head-there (c .before .before .before .before .before .before .before .args .bytes .now)

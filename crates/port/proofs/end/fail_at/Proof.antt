@@ -8,7 +8,7 @@ use lib.ListN.{length}
 use lib.Seq.{slice, sets}
 use Rattle.session.specs.declared.types.IsoRequest.{IsoRequest}
 use Rattle.session.specs.End.{withOutcome}
-use Rattle.session.proofs.Laws.Lists.{amend-past}
+use Rattle.session.proofs.Laws.Lists.{write-past}
 use Rattle.port.specs.Layout.{saved, sessionOf}
 use Rattle.port.specs.Places.{requestsOf, withRequests}
 use Rattle.port.proofs.Laws.Steps.{turn-held, turn-left}
@@ -67,7 +67,8 @@ returns c =
     let now = c .before .loop in
     now .inv .2
     ∙ ap (λ (l : List IsoRequest). sets (a .bytes .now) 0 (saved (withRequests (sessionOf (a .bytes .now)) l)))
-    (sym (amend-past (withOutcome (a .outcome)) (now .i) (a .to) (requestsOf (now .bytes)) (omega arith)) ∙ now .inv .3)
+    (sym (write-past (map (withOutcome (a .outcome))) (now .i) (now .i) (a .to) (requestsOf (now .bytes)) (requestsOf (now .bytes)) refl (omega arith))
+    ∙ now .inv .3)
 
 pub fail-at-spec : {M : Type 1} → statement M
 fail-at-spec =

@@ -8,13 +8,13 @@ use lib.ListN.{length}
 use lib.Seq.{slice, sets}
 use Rattle.session.specs.declared.types.IsoPacketPlan.{IsoPacketPlan}
 use Rattle.session.specs.Session.{blankPlan}
-use Rattle.session.proofs.Laws.Lists.{close-past}
+use Rattle.session.proofs.Laws.Lists.{write-past}
 use Rattle.port.specs.Layout.{sessionOf, saved}
 use Rattle.port.specs.Places.{plansOf, withPlans}
 use Rattle.port.proofs.Canonical.{loaded-saved}
 use Rattle.port.proofs.Laws.Calls.{long-enough}
-use Rattle.port.proofs.Laws.Placed.{plan-there}
-use Rattle.port.proofs.Laws.Walks.{requests-many, plans-many, plan-turn}
+use Rattle.port.proofs.Laws.Placed.{plan-there, requests-many, plans-many}
+use Rattle.port.proofs.Laws.Walks.{plan-turn}
 use Rattle.port.proofs.Laws.Closing.{close-turn}
 use Rattle.port.proofs.reclaim.close_plans_at.Statement.{statement}
 use Rattle.port.proofs.reclaim.close_plans_at.Tie as tie
@@ -82,7 +82,8 @@ returns c =
     let now = c .before .loop in
     now .inv .2
     ∙ ap (λ (l : List IsoPacketPlan). sets xs 0 (saved (withPlans (sessionOf xs) l)))
-    (sym (close-past (now .at) (now .i) (c .before .before .before .args .to) (plansOf (now .bytes)) (omega arith)) ∙ now .inv .3)
+    (sym (write-past (λ (vs : List IsoPacketPlan). vs) (now .at) (now .i) (c .before .before .before .args .to) (plansOf (now .bytes)) (plansOf (now .bytes)) refl (omega arith))
+    ∙ now .inv .3)
 
 pub close-plans-at-spec : {M : Type 1} → statement M
 close-plans-at-spec =

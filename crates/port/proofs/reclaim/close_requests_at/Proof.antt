@@ -8,13 +8,13 @@ use lib.ListN.{length}
 use lib.Seq.{slice, sets}
 use Rattle.session.specs.declared.types.IsoRequest.{IsoRequest}
 use Rattle.session.specs.Session.{blankRequest}
-use Rattle.session.proofs.Laws.Lists.{close-past}
+use Rattle.session.proofs.Laws.Lists.{write-past}
 use Rattle.port.specs.Layout.{sessionOf, saved}
 use Rattle.port.specs.Places.{requestsOf, withRequests}
 use Rattle.port.proofs.Canonical.{loaded-saved}
 use Rattle.port.proofs.Laws.Calls.{long-enough}
-use Rattle.port.proofs.Laws.Placed.{request-there}
-use Rattle.port.proofs.Laws.Walks.{requests-many, plans-many, request-turn}
+use Rattle.port.proofs.Laws.Placed.{request-there, requests-many, plans-many}
+use Rattle.port.proofs.Laws.Walks.{request-turn}
 use Rattle.port.proofs.Laws.Closing.{close-turn}
 use Rattle.port.proofs.reclaim.close_requests_at.Statement.{statement}
 use Rattle.port.proofs.reclaim.close_requests_at.Tie as tie
@@ -82,7 +82,8 @@ returns c =
     let now = c .before .loop in
     now .inv .2
     ∙ ap (λ (l : List IsoRequest). sets xs 0 (saved (withRequests (sessionOf xs) l)))
-    (sym (close-past (now .at) (now .i) (c .before .before .before .args .to) (requestsOf (now .bytes)) (omega arith)) ∙ now .inv .3)
+    (sym (write-past (λ (vs : List IsoRequest). vs) (now .at) (now .i) (c .before .before .before .args .to) (requestsOf (now .bytes)) (requestsOf (now .bytes)) refl (omega arith))
+    ∙ now .inv .3)
 
 pub close-requests-at-spec : {M : Type 1} → statement M
 close-requests-at-spec =

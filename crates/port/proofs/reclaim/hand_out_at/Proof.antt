@@ -11,8 +11,7 @@ use Rattle.session.proofs.Laws.Handed.{plans-in}
 use Rattle.port.specs.Layout.{sessionOf}
 use Rattle.port.specs.Places.{requestsOf}
 use Rattle.port.proofs.Laws.Calls.{long-enough}
-use Rattle.port.proofs.Laws.Placed.{request-there}
-use Rattle.port.proofs.Laws.Walks.{requests-many, plans-many}
+use Rattle.port.proofs.Laws.Placed.{request-there, requests-many, plans-many}
 use Rattle.port.proofs.Laws.Closing.{handed-in-place}
 use Rattle.port.proofs.reclaim.hand_out_at.Statement.{statement}
 use Rattle.port.proofs.reclaim.hand_out_at.Tie as tie

@@ -1,8 +1,8 @@
 -- The invariant: the results still to write, written into the lent ones as they are now, give the goal. The measure is how many plans are left.
 use mathlib.Core.Path.{_≡_, refl, _∙_, sym, ap}
 use mathlib.Core.Bool.{Bool, cond}
-use mathlib.Core.List.{map}
-use Prim.Native.Nat.{_+_, _-_, _≤_}
+use mathlib.Core.List.{_∷_, map}
+use Prim.Native.Nat.{ℕ, _+_, _-_, _≤_}
 use native.Mathlib.Omega.{arith}
 use lib.ListN.{length, length-set}
 use lib.Seq.{slice, sets}
@@ -12,8 +12,7 @@ use Rattle.session.specs.Session.{blankPlan}
 use Rattle.session.specs.Reclaim.{resultWord}
 use Rattle.session.proofs.Laws.Lists.{write-next, write-past}
 use Rattle.port.specs.Places.{plansOf}
-use Rattle.port.proofs.Laws.Placed.{plan-there}
-use Rattle.port.proofs.Laws.Walks.{plans-many}
+use Rattle.port.proofs.Laws.Placed.{plan-there, plans-many}
 use Rattle.port.proofs.reclaim.hand_results_at.Statement.{statement}
 use Rattle.port.proofs.reclaim.hand_results_at.Tie as tie
 
@@ -70,7 +69,9 @@ loop-again c =
       omega arith,
       omega arith,
       length-set (now .results) (now .at) (c .result-word .result) ∙ now .inv .2,
-      write-next resultWord (now .at) (now .i) (a .to) (plansOf xs) blankPlan (now .results) (c .result-word .result) (omega arith) (omega (arith, plans-many xs)) word ∙ now .inv .3,
+      write-next (map resultWord) (now .at) (now .i) (a .to) (plansOf xs) blankPlan (now .results) (c .result-word .result) (omega arith)
+          (omega (arith, plans-many xs)) (λ rest. ap (λ (x : ℕ). x ∷ map resultWord rest) (sym word))
+          ∙ now .inv .3,
     )
 
 same-length : tie.Need-same-length Inv-loop μ-loop
@@ -82,7 +83,7 @@ returns-2 c =
     let now = c .before .loop in
     let results = a .results .now in
     let plans = plansOf (a .bytes .now) in
-    sym (write-past resultWord (now .at) (now .i) (a .to) plans (now .results) (omega arith))
+    sym (write-past (map resultWord) (now .at) (now .i) (a .to) plans (now .results) refl (omega arith))
     ∙ now .inv .3
     ∙ sym (ap (λ (b : Bool). cond b (sets results 0 (map resultWord (slice (a .from) (a .to) plans))) results) (not-false (a .done) (c .before .before .if1 .left)))
 

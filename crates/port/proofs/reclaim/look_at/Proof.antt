@@ -14,7 +14,8 @@ use Rattle.port.specs.Layout.{sessionOf, saved}
 use Rattle.port.specs.Places.{requestsOf}
 use Rattle.port.proofs.Canonical.{loaded-saved}
 use Rattle.port.proofs.Laws.Calls.{long-enough}
-use Rattle.port.proofs.Laws.Walks.{requests-many, plans-many, head-there}
+use Rattle.port.proofs.Laws.Walks.{head-there}
+use Rattle.port.proofs.Laws.Placed.{requests-many, plans-many}
 use Rattle.port.proofs.reclaim.look_at.Statement.{statement}
 use Rattle.port.proofs.reclaim.look_at.Tie as tie
 

@@ -17,8 +17,9 @@ use Rattle.session.proofs.Laws.Reclaims.{reclaim-short, reclaim-bad}
 use Rattle.port.specs.Layout.{sessionOf, saved}
 use Rattle.port.proofs.Canonical.{loaded-saved}
 use Rattle.port.proofs.Laws.Calls.{long-enough}
-use Rattle.port.proofs.Laws.Walks.{requests-many, plans-many, config-there}
+use Rattle.port.proofs.Laws.Walks.{config-there}
 use Rattle.port.proofs.Laws.Reclaiming.{refused-in-place, looked-layout, looked-good, done-in-place}
+use Rattle.port.proofs.Laws.Placed.{requests-many, plans-many}
 use Rattle.port.proofs.reclaim.reclaim_at.Statement.{statement}
 use Rattle.port.proofs.reclaim.reclaim_at.Tie as tie
 

@@ -11,8 +11,9 @@ use Rattle.session.proofs.Laws.Record.{Sound, sound}
 use Rattle.port.specs.Layout.{sessionOf}
 use Rattle.port.specs.Places.{requestsOf}
 use Rattle.port.proofs.Laws.Calls.{long-enough}
-use Rattle.port.proofs.Laws.Walks.{requests-many, plans-many, head-there}
+use Rattle.port.proofs.Laws.Walks.{head-there}
 use Rattle.port.proofs.Laws.Closing.{closed-layout, bytes-removed}
+use Rattle.port.proofs.Laws.Placed.{requests-many, plans-many}
 use Rattle.port.proofs.reclaim.remove_at.Statement.{statement}
 use Rattle.port.proofs.reclaim.remove_at.Tie as tie
 

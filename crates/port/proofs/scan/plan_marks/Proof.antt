@@ -17,8 +17,8 @@ use Rattle.session.proofs.Laws.Scans.{plan-here, plan-next, plan-past}
 use Rattle.session.proofs.Laws.Record.{good-plan}
 use Rattle.session.proofs.Laws.Held.{marks-first, marks-all, mark-set, mark-pending, mark-done}
 use Rattle.port.specs.Layout.{planOf, sessionOf}
-use Rattle.port.proofs.Laws.Placed.{plan-there}
-use Rattle.port.proofs.Laws.Scans.{plans-long, never}
+use Rattle.port.proofs.Laws.Placed.{plan-there, plans-many}
+use Rattle.port.proofs.Laws.Scans.{never}
 use Rattle.port.proofs.scan.plan_marks.Statement.{statement}
 use Rattle.port.proofs.scan.plan_marks.Tie as tie
 
@@ -34,7 +34,7 @@ abbrev μ-loop : tie.MeasureT-loop
 μ-loop bytes all pending limit slots bad held₀ at₀ j₀ held at j = all - j
 
 within : (c : tie.Start Inv-loop μ-loop) → c .args .all ≤ length (sessionOf (c .args .bytes .now) .plans)
-within c = omega (arith, c .pre .1, plans-long (c .args .bytes .now))
+within c = omega (arith, c .pre .1, plans-many (c .args .bytes .now))
 
 -- what is read is the entry of the table
 here : (c : tie.After-plan-at Inv-loop μ-loop) → c .plan-at .result ≡ getD (sessionOf (c .before .before .before .before .args .bytes .now) .plans) (c .before .before .loop .j) blankPlan

@@ -16,8 +16,8 @@ use Rattle.session.proofs.Laws.Sums.{packets-next, packets-past, pending-next}
 use Rattle.session.proofs.Laws.Scans.{request-here, request-next, request-past}
 use Rattle.session.proofs.Laws.Record.{good-request}
 use Rattle.port.specs.Layout.{requestOf, sessionOf}
-use Rattle.port.proofs.Laws.Placed.{request-there}
-use Rattle.port.proofs.Laws.Scans.{requests-long, never}
+use Rattle.port.proofs.Laws.Placed.{request-there, requests-many}
+use Rattle.port.proofs.Laws.Scans.{never}
 use Rattle.port.proofs.scan.request_sums.Statement.{statement}
 use Rattle.port.proofs.scan.request_sums.Tie as tie
 
@@ -32,7 +32,7 @@ abbrev μ-loop : tie.MeasureT-loop
 μ-loop bytes done count all₀ pending₀ at₀ i₀ all pending at i = count - i
 
 within : (c : tie.Start Inv-loop μ-loop) → c .args .count ≤ length (sessionOf (c .args .bytes .now) .requests)
-within c = omega (arith, c .pre .1, requests-long (c .args .bytes .now))
+within c = omega (arith, c .pre .1, requests-many (c .args .bytes .now))
 
 -- what is read is the entry of the table
 here : (c : tie.After-request-at Inv-loop μ-loop) → c .request-at .result ≡ getD (sessionOf (c .before .before .before .before .args .bytes .now) .requests) (c .before .before .loop .i) blankRequest

@@ -14,8 +14,9 @@ use Rattle.session.proofs.Laws.Scans.{bad-found}
 use Rattle.port.specs.Tags.{fatalOf}
 use Rattle.port.specs.Layout.{sessionOf}
 use Rattle.port.specs.Scan.{Summed}
-use Rattle.port.proofs.Laws.Scans.{config-there, head-there, reason-there, requests-long}
+use Rattle.port.proofs.Laws.Scans.{config-there, head-there, reason-there}
 use Rattle.port.proofs.Laws.Scans.{front-test, front-bad, state-test, counts-in, sums-bad, all-in, pending-in, all-scanned}
+use Rattle.port.proofs.Laws.Placed.{requests-many}
 use Rattle.port.proofs.scan.scan_at.Statement.{statement}
 use Rattle.port.proofs.scan.scan_at.Tie as tie
 
@@ -98,7 +99,7 @@ plan-marks-requires c κs =
     let known = summed (c .before .before .before .before .before .before .before .before .before .before .before) in (
       c .before .before .before .before .before .before .before .before .before .before .before .before .before .before .before .before .before .before .before .pre,
       all-in s (front (c .before .before .before .before .before .before .before .before .before .before .before .before)) sums known (capacity (c .before .before .before .before .before .before .before .before)) (c .before .before .before .before .before .if2 .left),
-      pending-in s (front (c .before .before .before .before .before .before .before .before .before .before .before .before)) sums known (capacity (c .before .before .before .before .before .before .before .before)) (c .before .before .before .before .before .if2 .left) (requests-long (c .before .before .before .before .before .before .before .before .before .before .before .before .before .before .before .before .before .before .before .args .bytes .now)),
+      pending-in s (front (c .before .before .before .before .before .before .before .before .before .before .before .before)) sums known (capacity (c .before .before .before .before .before .before .before .before)) (c .before .before .before .before .before .if2 .left) (requests-many (c .before .before .before .before .before .before .before .before .before .before .before .before .before .before .before .before .before .before .before .args .bytes .now)),
       omega (arith, c .before .before .before .before .iso-ring-size .ensures, ring-few (c .before .before .before .before .before .before .before .before .before .before .before .before .before .before .before .before .before .config-at .result .speed)),
     )
 
