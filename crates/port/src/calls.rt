@@ -1,4 +1,5 @@
-// The session's calls by bytes: load, call, save. Bytes that are no session are refused, and nothing is altered.
+// The session's calls by bytes. Bytes that are no session are refused, and nothing is altered; others are worked on where they stand,
+// but for a reclaim, which loads them, calls and saves.
 ghost use mathlib.Core.Path.{_≡_};
 ghost use lib.ListN.{length};
 ghost use Rattle.session.specs.Poll.{polled, polledRing, recovered, recoveredRing, resetReply};
