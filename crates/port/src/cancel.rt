@@ -10,14 +10,12 @@ use crate::answers::PortReply;
 use crate::answers::reply_port;
 use crate::answers::reply_refused;
 use crate::end::put_outcome;
-use crate::entries::put_tagged;
 use crate::entries::request_at;
 use crate::load::head_at;
 use crate::load::reason_at;
+use crate::poll::halt_at;
 use crate::scan::scan_at;
-use crate::tags::fatal_tagged;
 use session::IsoAnswer;
-use session::IsoFatal;
 use session::IsoHaltReason;
 use session::IsoOutcome;
 use session::has_reason;
@@ -62,10 +60,6 @@ pub(crate) fn cancel_at(bytes: &mut [u8], id: u64) -> PortReply
     if has_reason(fatal) {
         return reply_port(IsoAnswer::Done, false, false);
     }
-    put_tagged(
-        bytes,
-        34,
-        fatal_tagged(IsoFatal::Reason(IsoHaltReason::Cancelled)),
-    );
+    halt_at(bytes, IsoHaltReason::Cancelled);
     reply_port(IsoAnswer::Done, false, true)
 }

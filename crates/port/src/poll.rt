@@ -65,7 +65,7 @@ pub(crate) struct PollSaid {
 }
 
 // The reason to end, which the halt is then awaited with.
-fn halt_at(bytes: &mut [u8], reason: IsoHaltReason)
+pub(crate) fn halt_at(bytes: &mut [u8], reason: IsoHaltReason)
     requires { ⌜ layoutNumber (now bytes) ≡ 0 ⌝ }
     ensures { λ _. ⌜ now (bytes .exit) ≡ sets (now (bytes .entry)) 0 (saved (withReason reason (sessionOf (now (bytes .entry))))) ⌝ }
 {

@@ -8,8 +8,6 @@ use lib.ListN.{length}
 use lib.Seq.{slice, sets}
 use borrow.Author.Needs.{needs}
 use borrow.Author.Tests.{lt-ltb, le-ltb}
-use Rattle.session.specs.declared.types.IsoFatal.the-variants.{Reason}
-use Rattle.session.specs.declared.types.IsoHaltReason.the-variants as reason
 use Rattle.session.specs.declared.types.IsoHead.{IsoHead}
 use Rattle.session.specs.declared.types.IsoOutcome.the-variants as outcome
 use Rattle.session.specs.Session.{hasReason}
@@ -17,13 +15,11 @@ use Rattle.session.specs.Record.{isBadRecord}
 use Rattle.session.specs.Cancel.{placeOf, requestAt, withCancelled, cancelled}
 use Rattle.session.proofs.Laws.Record.{Sound, sound}
 use Rattle.session.proofs.Laws.Replies.{cancel-bad, cancel-completed, cancel-unknown, cancel-again, cancel-halt}
-use Rattle.port.specs.declared.tags.Tagged.{Tagged}
-use Rattle.port.specs.Tags.{taggedBytes}
 use Rattle.port.specs.Layout.{sessionOf, saved}
 use Rattle.port.proofs.Laws.Calls.{long-enough}
 use Rattle.port.proofs.Laws.Kept.{Octets}
 use Rattle.port.proofs.Laws.Scans.{head-there, reason-there}
-use Rattle.port.proofs.Laws.Steps.{reason-here, outcome-here, stays, becomes}
+use Rattle.port.proofs.Laws.Steps.{outcome-here, stays, becomes}
 use Rattle.port.proofs.Laws.Placed.{requests-many, plans-many}
 use Rattle.port.proofs.cancel.cancel_at.Statement.{statement}
 use Rattle.port.proofs.cancel.cancel_at.Tie as tie
@@ -147,13 +143,8 @@ returns-4 c =
     stays (c .before .before .before .before .before .before .before .before .before .before .before .before .before .before .before .before .before .args .bytes .now) (octets (c .before .before .before .before .before .before .before .before .before .before .before .before .before .before .before .before)) (c .before .before .before .before .before .before .before .before .before .before .before .before .before .before .before .before .before .pre) (cancelled s (c .before .before .before .before .before .before .before .before .before .before .before .before .before .before .before .before .before .args .id))
     (cancel-again s (c .before .before .before .before .before .before .before .before .before .before .before .before .before .before .before .before .before .args .id) (fine (c .before .before .before .before .before .before .before .before .before .before .before .before .before)) (not-done (c .before .before .before .before .before .before .before)) (known (c .before .before .before .before .before)) (sym (reason-is (c .before .before)) ∙ c .before .if4 .taken)) refl (c .reply-port2 .ensures)
 
-fatal-tagged-requires : tie.Need-fatal-tagged-requires
-fatal-tagged-requires c κs = search needs
-
-put-tagged-requires : tie.Need-put-tagged-requires
-put-tagged-requires c κs =
-    let enough : 8488 ≤ length (c .before .before .before .before .before .before .before .before .before .before .before .before .before .before .before .before .before .before .args .bytes .now) = long-enough (c .before .before .before .before .before .before .before .before .before .before .before .before .before .before .before .before .before .before .args .bytes .now) refl (c .before .before .before .before .before .before .before .before .before .before .before .before .before .before .before .before .before .before .pre) in
-    omega arith
+halt-at-requires : tie.Need-halt-at-requires
+halt-at-requires c κs = c .before .before .before .before .before .before .before .before .before .before .before .before .before .before .before .before .before .pre
 
 reply-port-requires-3 : tie.Need-reply-port-requires-3
 reply-port-requires-3 c κs = search needs
@@ -163,13 +154,9 @@ same-length-5 c = search needs
 
 returns-5 : tie.Need-returns-5
 returns-5 c =
-    let xs = c .before .before .before .before .before .before .before .before .before .before .before .before .before .before .before .before .before .before .before .before .before .before .args .bytes .now in
-    let s = sessionOf xs in
-    becomes xs (cancelled s (c .before .before .before .before .before .before .before .before .before .before .before .before .before .before .before .before .before .before .before .before .before .before .args .id))
-    (cancel-halt s (c .before .before .before .before .before .before .before .before .before .before .before .before .before .before .before .before .before .before .before .before .before .before .args .id) (fine (c .before .before .before .before .before .before .before .before .before .before .before .before .before .before .before .before .before .before)) (not-done (c .before .before .before .before .before .before .before .before .before .before .before .before)) (known (c .before .before .before .before .before .before .before .before .before .before)) (sym (reason-is (c .before .before .before .before .before .before .before)) ∙ c .before .before .before .before .before .before .if4 .left)) (c .reply-port3 .ensures)
-    (c .before .before .before .put-tagged .ensures
-    ∙ ap (λ (t : Tagged). sets xs 34 (taggedBytes t)) (c .before .before .before .before .fatal-tagged .ensures)
-    ∙ reason-here xs (octets (c .before .before .before .before .before .before .before .before .before .before .before .before .before .before .before .before .before .before .before .before .before)) (c .before .before .before .before .before .before .before .before .before .before .before .before .before .before .before .before .before .before .before .before .before .before .pre) (Reason reason.Cancelled))
+    let s = sessionOf (c .before .before .before .before .before .before .before .before .before .before .before .before .before .before .before .before .before .before .before .before .before .args .bytes .now) in
+    becomes (c .before .before .before .before .before .before .before .before .before .before .before .before .before .before .before .before .before .before .before .before .before .args .bytes .now) (cancelled s (c .before .before .before .before .before .before .before .before .before .before .before .before .before .before .before .before .before .before .before .before .before .args .id))
+    (cancel-halt s (c .before .before .before .before .before .before .before .before .before .before .before .before .before .before .before .before .before .before .before .before .before .args .id) (fine (c .before .before .before .before .before .before .before .before .before .before .before .before .before .before .before .before .before)) (not-done (c .before .before .before .before .before .before .before .before .before .before .before)) (known (c .before .before .before .before .before .before .before .before .before)) (sym (reason-is (c .before .before .before .before .before .before)) ∙ c .before .before .before .before .before .if4 .left)) (c .reply-port3 .ensures) (c .before .before .before .halt-at .ensures)
 
 pub cancel-at-spec : {M : Type 1} → statement M
 cancel-at-spec =
@@ -196,8 +183,7 @@ cancel-at-spec =
     reply-port-requires-2
     same-length-4
     returns-4
-    fatal-tagged-requires
-    put-tagged-requires
+    halt-at-requires
     reply-port-requires-3
     same-length-5
     returns-5)
