@@ -2,7 +2,7 @@
 -- the steps before it left them, and leaves what the session's own definitions say. Beside them a run keeps two lists that no code holds: what is laid
 -- for the packets pending, and the request numbers used up.
 use mathlib.Core.Path.{_≡_}
-use mathlib.Core.Bool.{Bool, true, false, _&&_, cond}
+use mathlib.Core.Bool.{Bool, _&&_, cond}
 use mathlib.Core.List.{List, [], _∷_, _++_, map}
 use Prim.Native.Nat.{ℕ, _-_, _*_}
 use lib.Dec.{eqb, ltb}

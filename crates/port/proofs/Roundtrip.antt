@@ -158,4 +158,5 @@ module _ (s : IsoChannelState) (many-requests : length (s .requests) ≡ 64) (ma
   pub saved-loaded : sessionOf (saved s ++ ys) ≡ s
   saved-loaded =
       ap sessionOf parts
-      ∙ sym (session-at (front s ++ requests) (config-back s requests) (head-back s requests) (reason-back s requests) (fatal-back (s .fatal)) requests-back plans-back)
+      ∙ sym (session-at (front s ++ requests) (config-back s requests) (head-back s requests) (reason-back s requests) (fatal-back (s .fatal)) requests-back
+      plans-back)

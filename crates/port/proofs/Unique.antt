@@ -14,7 +14,8 @@ use Rattle.port.proofs.stages
 pub iso-ring-size-unique : Unique 0 ring_sums.dwc2_iso_ring_size.Kinds.ps ring_sums.dwc2_iso_ring_size.Kinds.r ring_sums.dwc2_iso_ring_size.Reads.Post
 iso-ring-size-unique κs a x y u v = equal refl
 
-pub iso-max-xfer-size-unique : Unique 0 ring_sums.dwc2_iso_max_xfer_size.Kinds.ps ring_sums.dwc2_iso_max_xfer_size.Kinds.r ring_sums.dwc2_iso_max_xfer_size.Reads.Post
+pub iso-max-xfer-size-unique :
+    Unique 0 ring_sums.dwc2_iso_max_xfer_size.Kinds.ps ring_sums.dwc2_iso_max_xfer_size.Kinds.r ring_sums.dwc2_iso_max_xfer_size.Reads.Post
 iso-max-xfer-size-unique κs a x y u v = equal refl
 
 pub gcd-unique : Unique 0 ring_sums.dwc2_gcd.Kinds.ps ring_sums.dwc2_gcd.Kinds.r ring_sums.dwc2_gcd.Reads.Post
@@ -23,13 +24,16 @@ gcd-unique κs a x y u v = equal refl
 pub iso-max-packets-unique : Unique 0 ring_sums.dwc2_iso_max_packets.Kinds.ps ring_sums.dwc2_iso_max_packets.Kinds.r ring_sums.dwc2_iso_max_packets.Reads.Post
 iso-max-packets-unique κs a x y u v = equal refl
 
-pub iso-starting-frame-unique : Unique 0 ring_sums.dwc2_iso_starting_frame.Kinds.ps ring_sums.dwc2_iso_starting_frame.Kinds.r ring_sums.dwc2_iso_starting_frame.Reads.Post
+pub iso-starting-frame-unique :
+    Unique 0 ring_sums.dwc2_iso_starting_frame.Kinds.ps ring_sums.dwc2_iso_starting_frame.Kinds.r ring_sums.dwc2_iso_starting_frame.Reads.Post
 iso-starting-frame-unique κs a x y u v = equal refl
 
-pub frame-to-desc-idx-unique : Unique 0 ring_sums.dwc2_frame_to_desc_idx.Kinds.ps ring_sums.dwc2_frame_to_desc_idx.Kinds.r ring_sums.dwc2_frame_to_desc_idx.Reads.Post
+pub frame-to-desc-idx-unique :
+    Unique 0 ring_sums.dwc2_frame_to_desc_idx.Kinds.ps ring_sums.dwc2_frame_to_desc_idx.Kinds.r ring_sums.dwc2_frame_to_desc_idx.Reads.Post
 frame-to-desc-idx-unique κs a x y u v = equal refl
 
-pub advance-along-grid-unique : Unique 0 ring_sums.dwc2_advance_along_grid.Kinds.ps ring_sums.dwc2_advance_along_grid.Kinds.r ring_sums.dwc2_advance_along_grid.Reads.Post
+pub advance-along-grid-unique :
+    Unique 0 ring_sums.dwc2_advance_along_grid.Kinds.ps ring_sums.dwc2_advance_along_grid.Kinds.r ring_sums.dwc2_advance_along_grid.Reads.Post
 advance-along-grid-unique κs a x y u v = equal refl
 
 pub iso-schinfo-unique : Unique 0 ring_sums.dwc2_iso_schinfo.Kinds.ps ring_sums.dwc2_iso_schinfo.Kinds.r ring_sums.dwc2_iso_schinfo.Reads.Post
@@ -41,10 +45,12 @@ iso-pid-unique κs a x y u v = equal refl
 pub next-request-id-unique : Unique 0 ring_sums.dwc2_next_request_id.Kinds.ps ring_sums.dwc2_next_request_id.Kinds.r ring_sums.dwc2_next_request_id.Reads.Post
 next-request-id-unique κs a x y u v = equal refl
 
-pub iso-service-frames-unique : Unique 0 ring_sums.dwc2_iso_service_frames.Kinds.ps ring_sums.dwc2_iso_service_frames.Kinds.r ring_sums.dwc2_iso_service_frames.Reads.Post
+pub iso-service-frames-unique :
+    Unique 0 ring_sums.dwc2_iso_service_frames.Kinds.ps ring_sums.dwc2_iso_service_frames.Kinds.r ring_sums.dwc2_iso_service_frames.Reads.Post
 iso-service-frames-unique κs a x y u v = equal refl
 
-pub split-dma-lengths-unique : Unique 0 planning.dwc2_split_dma_lengths.Kinds.ps planning.dwc2_split_dma_lengths.Kinds.r planning.dwc2_split_dma_lengths.Reads.Post
+pub split-dma-lengths-unique :
+    Unique 0 planning.dwc2_split_dma_lengths.Kinds.ps planning.dwc2_split_dma_lengths.Kinds.r planning.dwc2_split_dma_lengths.Reads.Post
 split-dma-lengths-unique κs a x y u v = equal refl
 
 pub packet-count-unique : Unique 0 planning.dwc2_packet_count.Kinds.ps planning.dwc2_packet_count.Kinds.r planning.dwc2_packet_count.Reads.Post
@@ -53,10 +59,12 @@ packet-count-unique κs a x y u v = equal refl
 pub data-stages-unique : Unique 1 planning.dwc2_data_stages.Kinds.ps planning.dwc2_data_stages.Kinds.r planning.dwc2_data_stages.Reads.Post
 data-stages-unique κs a x y u v = equal-both (λ (words : List ℕ). (tt, (words, tt)))
 
-pub build-control-plan-unique : Unique 1 planning.dwc2_build_control_plan.Kinds.ps planning.dwc2_build_control_plan.Kinds.r planning.dwc2_build_control_plan.Reads.Post
+pub build-control-plan-unique :
+    Unique 1 planning.dwc2_build_control_plan.Kinds.ps planning.dwc2_build_control_plan.Kinds.r planning.dwc2_build_control_plan.Reads.Post
 build-control-plan-unique κs a x y u v = equal-both (λ (words : List ℕ). (tt, (words, tt)))
 
-pub stage-actual-length-unique : Unique 1 stages.dwc2_stage_actual_length.Kinds.ps stages.dwc2_stage_actual_length.Kinds.r stages.dwc2_stage_actual_length.Reads.Post
+pub stage-actual-length-unique :
+    Unique 1 stages.dwc2_stage_actual_length.Kinds.ps stages.dwc2_stage_actual_length.Kinds.r stages.dwc2_stage_actual_length.Reads.Post
 stage-actual-length-unique κs a x y u v = equal refl
 
 pub setup-packet-bytes-unique : Unique 0 setup.dwc2_setup_packet_bytes.Kinds.ps setup.dwc2_setup_packet_bytes.Kinds.r setup.dwc2_setup_packet_bytes.Reads.Post

@@ -36,7 +36,8 @@ pub extern "C" fn dwc2_iso_check(session: &[u8]) -> u32
 
 #[no_mangle]
 pub extern "C" fn dwc2_iso_reset(session: &mut [u8]) -> PortReply
-    ensures { λ r. ⌜ (r ≡ replyBy (now (session .entry)) resetReply) × (now (session .exit) ≡ bytesBy (now (session .entry)) (λ (s : IsoChannelState). resetReply s .session)) ⌝ }
+    ensures { λ r. ⌜ (r ≡ replyBy (now (session .entry)) resetReply)
+        × (now (session .exit) ≡ bytesBy (now (session .entry)) (λ (s : IsoChannelState). resetReply s .session)) ⌝ }
 {
     let refusal = layout_refusal(session);
     if refusal != 0 {
@@ -47,7 +48,8 @@ pub extern "C" fn dwc2_iso_reset(session: &mut [u8]) -> PortReply
 
 #[no_mangle]
 pub extern "C" fn dwc2_iso_cancel(session: &mut [u8], id: u64) -> PortReply
-    ensures { λ r. ⌜ (r ≡ replyBy (now (session .entry)) (λ (s : IsoChannelState). cancelled s id)) × (now (session .exit) ≡ bytesBy (now (session .entry)) (λ (s : IsoChannelState). cancelled s id .session)) ⌝ }
+    ensures { λ r. ⌜ (r ≡ replyBy (now (session .entry)) (λ (s : IsoChannelState). cancelled s id))
+        × (now (session .exit) ≡ bytesBy (now (session .entry)) (λ (s : IsoChannelState). cancelled s id .session)) ⌝ }
 {
     let refusal = layout_refusal(session);
     if refusal != 0 {
@@ -58,7 +60,11 @@ pub extern "C" fn dwc2_iso_cancel(session: &mut [u8], id: u64) -> PortReply
 
 #[no_mangle]
 pub extern "C" fn dwc2_iso_recover(session: &mut [u8], ring: &mut [u32]) -> PortReply
-    ensures { λ r. ⌜ (r ≡ replyBy (now (session .entry)) (λ (s : IsoChannelState). recovered s (length (now (ring .entry))))) × (now (session .exit) ≡ bytesBy (now (session .entry)) (λ (s : IsoChannelState). recovered s (length (now (ring .entry))) .session)) × (now (ring .exit) ≡ wordsBy (now (session .entry)) (now (ring .entry)) (λ (s : IsoChannelState). recoveredRing s (now (ring .entry)))) ⌝ }
+    ensures { λ r. ⌜ (r ≡ replyBy (now (session .entry)) (λ (s : IsoChannelState). recovered s (length (now (ring .entry)))))
+        × (now (session .exit)
+        ≡ bytesBy (now (session .entry)) (λ (s : IsoChannelState). recovered s (length (now (ring .entry))) .session))
+        × (now (ring .exit)
+        ≡ wordsBy (now (session .entry)) (now (ring .entry)) (λ (s : IsoChannelState). recoveredRing s (now (ring .entry)))) ⌝ }
 {
     let refusal = layout_refusal(session);
     if refusal != 0 {
@@ -85,7 +91,12 @@ pub extern "C" fn dwc2_iso_poll(
     unplugged: u32,
     hcint: u32,
 ) -> PortReply
-    ensures { λ r. ⌜ (r ≡ replyBy (now (session .entry)) (λ (s : IsoChannelState). polled s (eventOf reported unplugged hcint) (now (ring .entry)))) × (now (session .exit) ≡ bytesBy (now (session .entry)) (λ (s : IsoChannelState). polled s (eventOf reported unplugged hcint) (now (ring .entry)) .session)) × (now (ring .exit) ≡ wordsBy (now (session .entry)) (now (ring .entry)) (λ (s : IsoChannelState). polledRing s (eventOf reported unplugged hcint) (now (ring .entry)))) ⌝ }
+    ensures { λ r. ⌜ (r ≡ replyBy (now (session .entry)) (λ (s : IsoChannelState). polled s (eventOf reported unplugged hcint) (now (ring .entry))))
+        × (now (session .exit)
+        ≡ bytesBy (now (session .entry)) (λ (s : IsoChannelState). polled s (eventOf reported unplugged hcint) (now (ring .entry)) .session))
+        × (now (ring .exit)
+        ≡ wordsBy (now (session .entry)) (now (ring .entry))
+        (λ (s : IsoChannelState). polledRing s (eventOf reported unplugged hcint) (now (ring .entry)))) ⌝ }
 {
     let refusal = layout_refusal(session);
     if refusal != 0 {
@@ -105,7 +116,18 @@ pub extern "C" fn dwc2_iso_reclaim(
     unplugged: u32,
     hcint: u32,
 ) -> PortReclaimed
-    ensures { λ r. ⌜ (r ≡ reclaimBy (now (session .entry)) (λ (s : IsoChannelState). reclaimed s id (eventOf reported unplugged hcint) (now (ring .entry)) (length (now (results .entry))))) × (now (session .exit) ≡ bytesBy (now (session .entry)) (λ (s : IsoChannelState). reclaimed s id (eventOf reported unplugged hcint) (now (ring .entry)) (length (now (results .entry))) .session)) × (now (ring .exit) ≡ wordsBy (now (session .entry)) (now (ring .entry)) (λ (s : IsoChannelState). reclaimedRing s id (eventOf reported unplugged hcint) (now (ring .entry)) (length (now (results .entry))))) × (now (results .exit) ≡ wordsBy (now (session .entry)) (now (results .entry)) (λ (s : IsoChannelState). reclaimedResults s id (eventOf reported unplugged hcint) (now (ring .entry)) (now (results .entry)))) ⌝ }
+    ensures { λ r. ⌜ (r
+        ≡ reclaimBy (now (session .entry))
+        (λ (s : IsoChannelState). reclaimed s id (eventOf reported unplugged hcint) (now (ring .entry)) (length (now (results .entry)))))
+        × (now (session .exit)
+        ≡ bytesBy (now (session .entry))
+        (λ (s : IsoChannelState). reclaimed s id (eventOf reported unplugged hcint) (now (ring .entry)) (length (now (results .entry))) .session))
+        × (now (ring .exit)
+        ≡ wordsBy (now (session .entry)) (now (ring .entry))
+        (λ (s : IsoChannelState). reclaimedRing s id (eventOf reported unplugged hcint) (now (ring .entry)) (length (now (results .entry)))))
+        × (now (results .exit)
+        ≡ wordsBy (now (session .entry)) (now (results .entry))
+        (λ (s : IsoChannelState). reclaimedResults s id (eventOf reported unplugged hcint) (now (ring .entry)) (now (results .entry)))) ⌝ }
 {
     let refusal = layout_refusal(session);
     if refusal != 0 {

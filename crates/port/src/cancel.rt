@@ -41,7 +41,8 @@ pub(crate) fn place_at(bytes: &[u8], count: u16, id: u64) -> u16
 
 pub(crate) fn cancel_at(bytes: &mut [u8], id: u64) -> PortReply
     requires { ⌜ layoutNumber (now bytes) ≡ 0 ⌝ }
-    ensures { λ r. ⌜ (r ≡ replyPort (cancelled (sessionOf (now (bytes .entry))) id)) × (now (bytes .exit) ≡ sets (now (bytes .entry)) 0 (saved (cancelled (sessionOf (now (bytes .entry))) id .session))) ⌝ }
+    ensures { λ r. ⌜ (r ≡ replyPort (cancelled (sessionOf (now (bytes .entry))) id))
+        × (now (bytes .exit) ≡ sets (now (bytes .entry)) 0 (saved (cancelled (sessionOf (now (bytes .entry))) id .session))) ⌝ }
 {
     let scan = scan_at(bytes);
     if scan.bad {

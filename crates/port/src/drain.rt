@@ -74,7 +74,10 @@ fn settle_plans_at(
     ring: &[u32],
 ) -> u32
     requires { ⌜ (layoutNumber (now bytes) ≡ 0) × (from ≤ to) × (to ≤ 1024) ⌝ }
-    ensures { λ r. ⌜ (r ≡ movedTotal (map (settledPlan direction (now (ring .entry))) (slice from to (plansOf (now (bytes .entry)))))) × (now (bytes .exit) ≡ sets (now (bytes .entry)) 0 (saved (withPlans (sessionOf (now (bytes .entry))) (sets (plansOf (now (bytes .entry))) from (map (settledPlan direction (now (ring .entry))) (slice from to (plansOf (now (bytes .entry))))))))) ⌝ }
+    ensures { λ r. ⌜ (r ≡ movedTotal (map (settledPlan direction (now (ring .entry))) (slice from to (plansOf (now (bytes .entry))))))
+        × (now (bytes .exit)
+        ≡ sets (now (bytes .entry)) 0
+        (saved (withPlans (sessionOf (now (bytes .entry))) (sets (plansOf (now (bytes .entry))) from (map (settledPlan direction (now (ring .entry))) (slice from to (plansOf (now (bytes .entry))))))))) ⌝ }
 {
     let mut sum: u32 = 0;
     let mut i = from;
@@ -102,8 +105,13 @@ fn clear_slots_at(bytes: &[u8], from: usize, to: usize, ring: &mut [u32])
 
 // Completes the oldest pending request, whose plans are those from `from` to `to`; its slots become zero after all of them were read.
 fn settle_at(bytes: &mut [u8], from: usize, to: usize, ring: &mut [u32])
-    requires { ⌜ (layoutNumber (now bytes) ≡ 0) × (isBadRecord (sessionOf (now bytes)) ≡ false) × (sessionOf (now bytes) .head .done < sessionOf (now bytes) .head .count) × (from ≡ oldestFrom (sessionOf (now bytes))) × (to ≡ oldestTo (sessionOf (now bytes))) ⌝ }
-    ensures { λ _. ⌜ (now (bytes .exit) ≡ sets (now (bytes .entry)) 0 (saved (settledSession (sessionOf (now (bytes .entry))) (now (ring .entry))))) × (now (ring .exit) ≡ settledRing (sessionOf (now (bytes .entry))) (now (ring .entry))) ⌝ }
+    requires { ⌜ (layoutNumber (now bytes) ≡ 0)
+        × (isBadRecord (sessionOf (now bytes)) ≡ false)
+        × (sessionOf (now bytes) .head .done < sessionOf (now bytes) .head .count)
+        × (from ≡ oldestFrom (sessionOf (now bytes)))
+        × (to ≡ oldestTo (sessionOf (now bytes))) ⌝ }
+    ensures { λ _. ⌜ (now (bytes .exit) ≡ sets (now (bytes .entry)) 0 (saved (settledSession (sessionOf (now (bytes .entry))) (now (ring .entry)))))
+        × (now (ring .exit) ≡ settledRing (sessionOf (now (bytes .entry))) (now (ring .entry))) ⌝ }
 {
     let head = head_at(bytes);
     let direction = direction_of(byte_at(bytes, 6));
@@ -146,7 +154,9 @@ fn is_served_at(bytes: &[u8], to: usize, ring: &[u32]) -> bool
 // Settles the oldest request at once where the bit is set, then each oldest one that is served.
 pub(crate) fn drain_at(bytes: &mut [u8], bit: bool, ring: &mut [u32])
     requires { ⌜ (layoutNumber (now bytes) ≡ 0) × (isBadRecord (sessionOf (now bytes)) ≡ false) ⌝ }
-    ensures { λ _. ⌜ (now (bytes .exit) ≡ sets (now (bytes .entry)) 0 (saved (drained bit (sessionOf (now (bytes .entry))) (now (ring .entry)) .session))) × (now (ring .exit) ≡ drained bit (sessionOf (now (bytes .entry))) (now (ring .entry)) .ring) ⌝ }
+    ensures { λ _. ⌜ (now (bytes .exit)
+        ≡ sets (now (bytes .entry)) 0 (saved (drained bit (sessionOf (now (bytes .entry))) (now (ring .entry)) .session)))
+        × (now (ring .exit) ≡ drained bit (sessionOf (now (bytes .entry))) (now (ring .entry)) .ring) ⌝ }
 {
     let head = head_at(bytes);
     let count = head.count;

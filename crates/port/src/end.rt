@@ -38,7 +38,9 @@ pub(crate) fn put_outcome(bytes: &mut [u8], at: usize, outcome: IsoOutcome)
 // The outcome of the requests from `from` to `to`.
 fn fail_at(bytes: &mut [u8], from: u16, to: u16, outcome: IsoOutcome)
     requires { ⌜ (8488 ≤ length (now bytes)) × (now bytes ≡ sets (now bytes) 0 (saved (sessionOf (now bytes)))) × (from ≤ to) × (to ≤ 64) ⌝ }
-    ensures { λ _. ⌜ now (bytes .exit) ≡ sets (now (bytes .entry)) 0 (saved (withRequests (sessionOf (now (bytes .entry))) (sets (requestsOf (now (bytes .entry))) from (map (withOutcome outcome) (slice from to (requestsOf (now (bytes .entry)))))))) ⌝ }
+    ensures { λ _. ⌜ now (bytes .exit)
+        ≡ sets (now (bytes .entry)) 0
+        (saved (withRequests (sessionOf (now (bytes .entry))) (sets (requestsOf (now (bytes .entry))) from (map (withOutcome outcome) (slice from to (requestsOf (now (bytes .entry)))))))) ⌝ }
 {
     let mut i = from;
     while i < to {
@@ -61,8 +63,11 @@ fn ended_head(head: IsoHead) -> IsoHead
 }
 
 pub(crate) fn end_at(bytes: &mut [u8], outcome: IsoOutcome, ring: &mut [u32])
-    requires { ⌜ (layoutNumber (now bytes) ≡ 0) × (isBadRecord (sessionOf (now bytes)) ≡ false) × (ringWords (sessionOf (now bytes) .cfg) ≤ length (now ring)) ⌝ }
-    ensures { λ _. ⌜ (now (bytes .exit) ≡ sets (now (bytes .entry)) 0 (saved (ended outcome (sessionOf (now (bytes .entry)))))) × (now (ring .exit) ≡ endedRing (sessionOf (now (bytes .entry))) (now (ring .entry))) ⌝ }
+    requires { ⌜ (layoutNumber (now bytes) ≡ 0)
+        × (isBadRecord (sessionOf (now bytes)) ≡ false)
+        × (ringWords (sessionOf (now bytes) .cfg) ≤ length (now ring)) ⌝ }
+    ensures { λ _. ⌜ (now (bytes .exit) ≡ sets (now (bytes .entry)) 0 (saved (ended outcome (sessionOf (now (bytes .entry))))))
+        × (now (ring .exit) ≡ endedRing (sessionOf (now (bytes .entry))) (now (ring .entry))) ⌝ }
 {
     let words = ring_words(config_at(bytes));
     let head = head_at(bytes);

@@ -10,8 +10,8 @@ use crate::answers::flag;
 use crate::ring_sums::is_bad_direction;
 use crate::ring_sums::is_bad_speed;
 use crate::stages::PortStage;
-use crate::stages::answer_number;
 use crate::stages::blank_stage;
+use crate::stages::plan_number;
 use crate::stages::stage_numbers;
 use crate::tags::direction_of;
 use crate::tags::speed_of;
@@ -134,7 +134,7 @@ fn data_numbers(p: Dwc2DataPlan) -> PortDataPlan
     let answer = p.answer;
     let toggle = p.toggle;
     PortDataPlan {
-        refusal: answer_number(answer),
+        refusal: plan_number(answer),
         toggle: flag(toggle.0),
         count: p.count,
         stages: [
@@ -187,7 +187,7 @@ fn control_numbers(p: Dwc2ControlPlan) -> PortControlPlan
 {
     let answer = p.answer;
     PortControlPlan {
-        refusal: answer_number(answer),
+        refusal: plan_number(answer),
         has_data: flag(p.has_data),
         setup: stage_numbers(p.setup),
         data: stage_numbers(p.data),

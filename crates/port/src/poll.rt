@@ -48,7 +48,10 @@ pub(crate) fn lent_refusal(bytes: &[u8], words: usize) -> u16
 
 pub(crate) fn recover_at(bytes: &mut [u8], ring: &mut [u32]) -> PortReply
     requires { ⌜ layoutNumber (now bytes) ≡ 0 ⌝ }
-    ensures { λ r. ⌜ (r ≡ replyPort (recovered (sessionOf (now (bytes .entry))) (length (now (ring .entry))))) × (now (bytes .exit) ≡ sets (now (bytes .entry)) 0 (saved (recovered (sessionOf (now (bytes .entry))) (length (now (ring .entry))) .session))) × (now (ring .exit) ≡ recoveredRing (sessionOf (now (bytes .entry))) (now (ring .entry))) ⌝ }
+    ensures { λ r. ⌜ (r ≡ replyPort (recovered (sessionOf (now (bytes .entry))) (length (now (ring .entry)))))
+        × (now (bytes .exit)
+        ≡ sets (now (bytes .entry)) 0 (saved (recovered (sessionOf (now (bytes .entry))) (length (now (ring .entry))) .session)))
+        × (now (ring .exit) ≡ recoveredRing (sessionOf (now (bytes .entry))) (now (ring .entry))) ⌝ }
 {
     let refusal = lent_refusal(bytes, ring.len());
     if refusal != 0 {
@@ -74,8 +77,16 @@ pub(crate) fn halt_at(bytes: &mut [u8], reason: IsoHaltReason)
 
 // Takes the event and acts by its way, on a good record and with a ring that is long enough.
 pub(crate) fn poll_at(bytes: &mut [u8], event: IsoEvent, ring: &mut [u32]) -> PollSaid
-    requires { ⌜ (layoutNumber (now bytes) ≡ 0) × (isBadRecord (sessionOf (now bytes)) ≡ false) × (ringWords (sessionOf (now bytes) .cfg) ≤ length (now ring)) ⌝ }
-    ensures { λ r. ⌜ (r .taken ≡ polledBy (pollWay (sessionOf (now (bytes .entry))) event) (sessionOf (now (bytes .entry))) (now (ring .entry)) .taken) × (r .halt ≡ polledBy (pollWay (sessionOf (now (bytes .entry))) event) (sessionOf (now (bytes .entry))) (now (ring .entry)) .halt) × (now (bytes .exit) ≡ sets (now (bytes .entry)) 0 (saved (polledBy (pollWay (sessionOf (now (bytes .entry))) event) (sessionOf (now (bytes .entry))) (now (ring .entry)) .session))) × (now (ring .exit) ≡ polledRingBy (pollWay (sessionOf (now (bytes .entry))) event) (sessionOf (now (bytes .entry))) (now (ring .entry))) ⌝ }
+    requires { ⌜ (layoutNumber (now bytes) ≡ 0)
+        × (isBadRecord (sessionOf (now bytes)) ≡ false)
+        × (ringWords (sessionOf (now bytes) .cfg) ≤ length (now ring)) ⌝ }
+    ensures { λ r. ⌜ (r .taken ≡ polledBy (pollWay (sessionOf (now (bytes .entry))) event) (sessionOf (now (bytes .entry))) (now (ring .entry)) .taken)
+        × (r .halt ≡ polledBy (pollWay (sessionOf (now (bytes .entry))) event) (sessionOf (now (bytes .entry))) (now (ring .entry)) .halt)
+        × (now (bytes .exit)
+        ≡ sets (now (bytes .entry)) 0
+        (saved (polledBy (pollWay (sessionOf (now (bytes .entry))) event) (sessionOf (now (bytes .entry))) (now (ring .entry)) .session)))
+        × (now (ring .exit)
+        ≡ polledRingBy (pollWay (sessionOf (now (bytes .entry))) event) (sessionOf (now (bytes .entry))) (now (ring .entry))) ⌝ }
 {
     let head = head_at(bytes);
     let fatal = reason_at(bytes);
@@ -106,7 +117,10 @@ fn said(taken: bool, halt: bool) -> PollSaid
 
 pub(crate) fn poll_on(bytes: &mut [u8], event: IsoEvent, ring: &mut [u32]) -> PortReply
     requires { ⌜ layoutNumber (now bytes) ≡ 0 ⌝ }
-    ensures { λ r. ⌜ (r ≡ replyPort (polled (sessionOf (now (bytes .entry))) event (now (ring .entry)))) × (now (bytes .exit) ≡ sets (now (bytes .entry)) 0 (saved (polled (sessionOf (now (bytes .entry))) event (now (ring .entry)) .session))) × (now (ring .exit) ≡ polledRing (sessionOf (now (bytes .entry))) event (now (ring .entry))) ⌝ }
+    ensures { λ r. ⌜ (r ≡ replyPort (polled (sessionOf (now (bytes .entry))) event (now (ring .entry))))
+        × (now (bytes .exit)
+        ≡ sets (now (bytes .entry)) 0 (saved (polled (sessionOf (now (bytes .entry))) event (now (ring .entry)) .session)))
+        × (now (ring .exit) ≡ polledRing (sessionOf (now (bytes .entry))) event (now (ring .entry))) ⌝ }
 {
     let refusal = lent_refusal(bytes, ring.len());
     if refusal != 0 {

@@ -38,7 +38,8 @@ use session::ring_words;
 // The entries from `from` to `to` move down to `into`; so for requests and for plans.
 fn close_requests_at(bytes: &mut [u8], into: usize, from: usize, to: usize)
     requires { ⌜ (layoutNumber (now bytes) ≡ 0) × (into ≤ from) × (to ≤ 64) ⌝ }
-    ensures { λ _. ⌜ now (bytes .exit) ≡ sets (now (bytes .entry)) 0 (saved (withRequests (sessionOf (now (bytes .entry))) (closedUp into from to (requestsOf (now (bytes .entry)))))) ⌝ }
+    ensures { λ _. ⌜ now (bytes .exit)
+        ≡ sets (now (bytes .entry)) 0 (saved (withRequests (sessionOf (now (bytes .entry))) (closedUp into from to (requestsOf (now (bytes .entry)))))) ⌝ }
 {
     let mut at = into;
     let mut i = from;
@@ -52,7 +53,8 @@ fn close_requests_at(bytes: &mut [u8], into: usize, from: usize, to: usize)
 
 fn close_plans_at(bytes: &mut [u8], into: usize, from: usize, to: usize)
     requires { ⌜ (layoutNumber (now bytes) ≡ 0) × (into ≤ from) × (to ≤ 1024) ⌝ }
-    ensures { λ _. ⌜ now (bytes .exit) ≡ sets (now (bytes .entry)) 0 (saved (withPlans (sessionOf (now (bytes .entry))) (closedUp into from to (plansOf (now (bytes .entry)))))) ⌝ }
+    ensures { λ _. ⌜ now (bytes .exit)
+        ≡ sets (now (bytes .entry)) 0 (saved (withPlans (sessionOf (now (bytes .entry))) (closedUp into from to (plansOf (now (bytes .entry)))))) ⌝ }
 {
     let mut at = into;
     let mut i = from;
@@ -80,7 +82,11 @@ fn one_less(head: IsoHead) -> IsoHead
 
 // Takes out the request at `at` and its plans, which are those from `from` to `to`.
 fn remove_at(bytes: &mut [u8], at: u16, from: usize, to: usize)
-    requires { ⌜ (layoutNumber (now bytes) ≡ 0) × (isBadRecord (sessionOf (now bytes)) ≡ false) × (at < sessionOf (now bytes) .head .done) × (from ≡ plansBegin at (sessionOf (now bytes))) × (to ≡ plansEnd at (sessionOf (now bytes))) ⌝ }
+    requires { ⌜ (layoutNumber (now bytes) ≡ 0)
+        × (isBadRecord (sessionOf (now bytes)) ≡ false)
+        × (at < sessionOf (now bytes) .head .done)
+        × (from ≡ plansBegin at (sessionOf (now bytes)))
+        × (to ≡ plansEnd at (sessionOf (now bytes))) ⌝ }
     ensures { λ _. ⌜ now (bytes .exit) ≡ sets (now (bytes .entry)) 0 (saved (removed at (sessionOf (now (bytes .entry))))) ⌝ }
 {
     let head = head_at(bytes);
@@ -95,7 +101,8 @@ fn remove_at(bytes: &mut [u8], at: u16, from: usize, to: usize)
 // The results of the plans from `from` to `to`, unless their request ended in an error; those behind them stay.
 fn hand_results_at(bytes: &[u8], done: bool, from: usize, to: usize, results: &mut [u64])
     requires { ⌜ (8488 ≤ length (now bytes)) × (from ≤ to) × (to ≤ 1024) × (to ≤ from + length (now results)) ⌝ }
-    ensures { λ _. ⌜ now (results .exit) ≡ cond done (sets (now (results .entry)) 0 (map resultWord (slice from to (plansOf (now (bytes .entry)))))) (now (results .entry)) ⌝ }
+    ensures { λ _. ⌜ now (results .exit)
+        ≡ cond done (sets (now (results .entry)) 0 (map resultWord (slice from to (plansOf (now (bytes .entry)))))) (now (results .entry)) ⌝ }
 {
     if !done {
         return;
@@ -111,8 +118,13 @@ fn hand_results_at(bytes: &[u8], done: bool, from: usize, to: usize, results: &m
 
 // Hands out the completed request at `at`: what it answers, its results, and the session without it.
 fn hand_out_at(bytes: &mut [u8], at: u16, results: &mut [u64]) -> ReclaimAnswer
-    requires { ⌜ (layoutNumber (now bytes) ≡ 0) × (isBadRecord (sessionOf (now bytes)) ≡ false) × (at < sessionOf (now bytes) .head .done) × (255 ≤ length (now results)) ⌝ }
-    ensures { λ r. ⌜ (r ≡ handedAnswer (getD (requestsOf (now (bytes .entry))) at blankRequest)) × (now (bytes .exit) ≡ sets (now (bytes .entry)) 0 (saved (removed at (sessionOf (now (bytes .entry)))))) × (now (results .exit) ≡ handedResults at (sessionOf (now (bytes .entry))) (now (results .entry))) ⌝ }
+    requires { ⌜ (layoutNumber (now bytes) ≡ 0)
+        × (isBadRecord (sessionOf (now bytes)) ≡ false)
+        × (at < sessionOf (now bytes) .head .done)
+        × (255 ≤ length (now results)) ⌝ }
+    ensures { λ r. ⌜ (r ≡ handedAnswer (getD (requestsOf (now (bytes .entry))) at blankRequest))
+        × (now (bytes .exit) ≡ sets (now (bytes .entry)) 0 (saved (removed at (sessionOf (now (bytes .entry))))))
+        × (now (results .exit) ≡ handedResults at (sessionOf (now (bytes .entry))) (now (results .entry))) ⌝ }
 {
     let place = at as usize;
     let request = request_at(bytes, 40 + 20 * place);
@@ -127,7 +139,11 @@ fn hand_out_at(bytes: &mut [u8], at: u16, results: &mut [u64]) -> ReclaimAnswer
 // Hands the request out where it is completed. What it answers goes with whether the look took the event and asks for a halt.
 fn look_again_at(bytes: &mut [u8], id: u64, results: &mut [u64]) -> ReclaimAnswer
     requires { ⌜ (layoutNumber (now bytes) ≡ 0) × (isBadRecord (sessionOf (now bytes)) ≡ false) × (255 ≤ length (now results)) ⌝ }
-    ensures { λ r. ⌜ ((taken halt : Bool) → reclaimReply r taken halt (sessionOf (now (bytes .exit))) ≡ lookedAgain id taken halt (sessionOf (now (bytes .entry)))) × (now (bytes .exit) ≡ sets (now (bytes .entry)) 0 (saved (sessionOf (now (bytes .exit))))) × (now (results .exit) ≡ lookedResults id (sessionOf (now (bytes .entry))) (now (results .entry))) ⌝ }
+    ensures { λ r. ⌜ ((taken halt : Bool)
+        → reclaimReply r taken halt (sessionOf (now (bytes .exit)))
+        ≡ lookedAgain id taken halt (sessionOf (now (bytes .entry))))
+        × (now (bytes .exit) ≡ sets (now (bytes .entry)) 0 (saved (sessionOf (now (bytes .exit)))))
+        × (now (results .exit) ≡ lookedResults id (sessionOf (now (bytes .entry))) (now (results .entry))) ⌝ }
 {
     let head = head_at(bytes);
     let at = place_at(bytes, head.count, id);
@@ -142,8 +158,11 @@ fn look_again_at(bytes: &mut [u8], id: u64, results: &mut [u64]) -> ReclaimAnswe
 
 // Polls, unless the request is completed already.
 fn look_at(bytes: &mut [u8], id: u64, event: IsoEvent, ring: &mut [u32]) -> PollSaid
-    requires { ⌜ (layoutNumber (now bytes) ≡ 0) × (isBadRecord (sessionOf (now bytes)) ≡ false) × (ringWords (sessionOf (now bytes) .cfg) ≤ length (now ring)) ⌝ }
-    ensures { λ r. ⌜ Acted (now (bytes .entry)) (now (bytes .exit)) r (looked id event (sessionOf (now (bytes .entry))) (now (ring .entry))) × (now (ring .exit) ≡ lookedRing id event (sessionOf (now (bytes .entry))) (now (ring .entry))) ⌝ }
+    requires { ⌜ (layoutNumber (now bytes) ≡ 0)
+        × (isBadRecord (sessionOf (now bytes)) ≡ false)
+        × (ringWords (sessionOf (now bytes) .cfg) ≤ length (now ring)) ⌝ }
+    ensures { λ r. ⌜ Acted (now (bytes .entry)) (now (bytes .exit)) r (looked id event (sessionOf (now (bytes .entry))) (now (ring .entry)))
+        × (now (ring .exit) ≡ lookedRing id event (sessionOf (now (bytes .entry))) (now (ring .entry))) ⌝ }
 {
     let head = head_at(bytes);
     let at = place_at(bytes, head.count, id);
@@ -165,7 +184,12 @@ pub(crate) fn reclaim_at(
     results: &mut [u64],
 ) -> PortReclaimed
     requires { ⌜ layoutNumber (now bytes) ≡ 0 ⌝ }
-    ensures { λ r. ⌜ (r ≡ reclaimedPort (reclaimed (sessionOf (now (bytes .entry))) id event (now (ring .entry)) (length (now (results .entry))))) × (now (bytes .exit) ≡ sets (now (bytes .entry)) 0 (saved (reclaimed (sessionOf (now (bytes .entry))) id event (now (ring .entry)) (length (now (results .entry))) .session))) × (now (ring .exit) ≡ reclaimedRing (sessionOf (now (bytes .entry))) id event (now (ring .entry)) (length (now (results .entry)))) × (now (results .exit) ≡ reclaimedResults (sessionOf (now (bytes .entry))) id event (now (ring .entry)) (now (results .entry))) ⌝ }
+    ensures { λ r. ⌜ (r ≡ reclaimedPort (reclaimed (sessionOf (now (bytes .entry))) id event (now (ring .entry)) (length (now (results .entry)))))
+        × (now (bytes .exit)
+        ≡ sets (now (bytes .entry)) 0
+        (saved (reclaimed (sessionOf (now (bytes .entry))) id event (now (ring .entry)) (length (now (results .entry))) .session)))
+        × (now (ring .exit) ≡ reclaimedRing (sessionOf (now (bytes .entry))) id event (now (ring .entry)) (length (now (results .entry))))
+        × (now (results .exit) ≡ reclaimedResults (sessionOf (now (bytes .entry))) id event (now (ring .entry)) (now (results .entry))) ⌝ }
 {
     let words = ring_words(config_at(bytes));
     if (ring.len() < words) | (results.len() < 255) {

@@ -53,7 +53,15 @@ pub extern "C" fn dwc2_iso_open(
     device: u8,
     mult: u8,
 ) -> u32
-    ensures { λ r. ⌜ (r ≡ openBy (now (session .entry)) (isBadNames speed direction mode) (configBy speed direction mode interval «max_packet_size» endpoint device mult) (length (now (ring .entry)))) × (now (session .exit) ≡ openBytes (now (session .entry)) (isBadNames speed direction mode) (configBy speed direction mode interval «max_packet_size» endpoint device mult) (length (now (ring .entry)))) × (now (ring .exit) ≡ openRing (now (session .entry)) (isBadNames speed direction mode) (configBy speed direction mode interval «max_packet_size» endpoint device mult) (now (ring .entry))) ⌝ }
+    ensures { λ r. ⌜ (r
+        ≡ openBy (now (session .entry)) (isBadNames speed direction mode)
+        (configBy speed direction mode interval «max_packet_size» endpoint device mult) (length (now (ring .entry))))
+        × (now (session .exit)
+        ≡ openBytes (now (session .entry)) (isBadNames speed direction mode)
+        (configBy speed direction mode interval «max_packet_size» endpoint device mult) (length (now (ring .entry))))
+        × (now (ring .exit)
+        ≡ openRing (now (session .entry)) (isBadNames speed direction mode)
+        (configBy speed direction mode interval «max_packet_size» endpoint device mult) (now (ring .entry))) ⌝ }
 {
     if session.len() < 8_488 {
         return 17;
@@ -85,7 +93,9 @@ pub extern "C" fn dwc2_iso_submit(
     lengths: &[u32],
     transfer: PortTransfer,
 ) -> PortSubmitted
-    ensures { λ r. ⌜ (r ≡ submitBy (now (session .entry)) transfer (now (lengths .entry)) (now (ring .entry))) × (now (session .exit) ≡ submitBytes (now (session .entry)) transfer (now (lengths .entry)) (now (ring .entry))) × (now (ring .exit) ≡ submitRing (now (session .entry)) transfer (now (lengths .entry)) (now (ring .entry))) ⌝ }
+    ensures { λ r. ⌜ (r ≡ submitBy (now (session .entry)) transfer (now (lengths .entry)) (now (ring .entry)))
+        × (now (session .exit) ≡ submitBytes (now (session .entry)) transfer (now (lengths .entry)) (now (ring .entry)))
+        × (now (ring .exit) ≡ submitRing (now (session .entry)) transfer (now (lengths .entry)) (now (ring .entry))) ⌝ }
 {
     let refusal = layout_refusal(session);
     if refusal != 0 {

@@ -16,7 +16,8 @@ use session::has_reason;
 
 pub(crate) fn reset_at(bytes: &mut [u8]) -> PortReply
     requires { ⌜ layoutNumber (now bytes) ≡ 0 ⌝ }
-    ensures { λ r. ⌜ (r ≡ replyPort (resetReply (sessionOf (now (bytes .entry))))) × (now (bytes .exit) ≡ sets (now (bytes .entry)) 0 (saved (resetReply (sessionOf (now (bytes .entry))) .session))) ⌝ }
+    ensures { λ r. ⌜ (r ≡ replyPort (resetReply (sessionOf (now (bytes .entry)))))
+        × (now (bytes .exit) ≡ sets (now (bytes .entry)) 0 (saved (resetReply (sessionOf (now (bytes .entry))) .session))) ⌝ }
 {
     let scan = scan_at(bytes);
     if scan.bad {

@@ -2,7 +2,7 @@
 ghost use mathlib.Core.Path.{_≡_};
 ghost use Rattle.port.specs.Planning.{requestTypeOf, recipientOf, isBadSetup, setupOf, setupNumbers, unnamedSetup, setupPacketNumbers};
 use crate::ring_sums::is_bad_direction;
-use crate::stages::answer_number;
+use crate::stages::plan_number;
 use crate::tags::direction_of;
 use plan::ControlSetup;
 use plan::Recipient;
@@ -69,7 +69,7 @@ fn setup_numbers(p: SetupPacket) -> PortSetupPacket
     let answer = p.answer;
     let bytes = p.bytes;
     PortSetupPacket {
-        refusal: answer_number(answer),
+        refusal: plan_number(answer),
         bytes,
     }
 }

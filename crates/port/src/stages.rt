@@ -20,7 +20,7 @@ pub struct PortStage {
     pub len: u32,
 }
 
-pub(crate) fn answer_number(answer: PlanAnswer) -> u32
+pub(crate) fn plan_number(answer: PlanAnswer) -> u32
     ensures { λ r. ⌜ r ≡ answerNumber answer ⌝ }
 {
     match answer {
@@ -111,7 +111,7 @@ fn length_number(length: StageLength) -> PortNumber
             value: bytes,
         },
         StageLength::Refused(answer) => PortNumber {
-            refusal: answer_number(answer),
+            refusal: plan_number(answer),
             value: 0,
         },
     }

@@ -39,7 +39,10 @@ fn put_packets(
     step: u16,
     slots: u16,
 )
-    requires { ⌜ (0 < slots) × (at + 7 * n ≤ length (now bytes)) × (n ≤ length (now lengths)) × ((k : ℕ) → k < length (now lengths) → getD (now lengths) k 0 ≤ 65535) ⌝ }
+    requires { ⌜ (0 < slots)
+        × (at + 7 * n ≤ length (now bytes))
+        × (n ≤ length (now lengths))
+        × ((k : ℕ) → k < length (now lengths) → getD (now lengths) k 0 ≤ 65535) ⌝ }
     ensures { λ _. ⌜ now (bytes .exit) ≡ sets (now (bytes .entry)) at (tableBytes planBytes (plansFrom slots insert step 0 (take n (now (lengths .entry))))) ⌝ }
 {
     let mut slot = insert % slots;
@@ -61,7 +64,10 @@ fn put_packets(
 
 // The request and its plans behind the others, where packets are added.
 fn put_added(bytes: &mut [u8], head: IsoHead, parts: SubmitParts, lengths: &[u32])
-    requires { ⌜ (layoutNumber (now bytes) ≡ 0) × (head ≡ sessionOf (now bytes) .head) × (0 < parts .slots) × (0 < parts .added → Fitting (sessionOf (now bytes)) parts (now lengths)) ⌝ }
+    requires { ⌜ (layoutNumber (now bytes) ≡ 0)
+        × (head ≡ sessionOf (now bytes) .head)
+        × (0 < parts .slots)
+        × (0 < parts .added → Fitting (sessionOf (now bytes)) parts (now lengths)) ⌝ }
     ensures { λ _. ⌜ now (bytes .exit) ≡ sets (now (bytes .entry)) 0 (saved (grown (sessionOf (now (bytes .entry))) parts (now (lengths .entry)))) ⌝ }
 {
     let n = parts.added;
@@ -81,7 +87,10 @@ pub(crate) fn submit_at(
     ring: &mut [u32],
 ) -> PortSubmitted
     requires { ⌜ layoutNumber (now bytes) ≡ 0 ⌝ }
-    ensures { λ r. ⌜ (r ≡ submittedPort (submitted (sessionOf (now (bytes .entry))) transfer (now (lengths .entry)) (now (ring .entry)))) × (now (bytes .exit) ≡ sets (now (bytes .entry)) 0 (saved (submitted (sessionOf (now (bytes .entry))) transfer (now (lengths .entry)) (now (ring .entry)) .session))) × (now (ring .exit) ≡ submittedRing (sessionOf (now (bytes .entry))) transfer (now (lengths .entry)) (now (ring .entry))) ⌝ }
+    ensures { λ r. ⌜ (r ≡ submittedPort (submitted (sessionOf (now (bytes .entry))) transfer (now (lengths .entry)) (now (ring .entry))))
+        × (now (bytes .exit)
+        ≡ sets (now (bytes .entry)) 0 (saved (submitted (sessionOf (now (bytes .entry))) transfer (now (lengths .entry)) (now (ring .entry)) .session)))
+        × (now (ring .exit) ≡ submittedRing (sessionOf (now (bytes .entry))) transfer (now (lengths .entry)) (now (ring .entry))) ⌝ }
 {
     let cfg = config_at(bytes);
     let head = head_at(bytes);

@@ -8,11 +8,16 @@ use crate::grid::at_least_one;
 use words::DmaDescriptor;
 use words::put_word;
 
-// The slot one step further round the ring.
+// The slot one step further round the ring. Most steps end before it does and need no division.
 pub fn next_slot(slot: u16, step: u16, slots: u16) -> u16
     ensures { λ r. ⌜ r ≡ (slot + step) % max 1 slots ⌝ }
 {
-    ((slot as u32 + step as u32) % at_least_one(slots) as u32) as u16
+    let next = slot as u32 + step as u32;
+    let size = at_least_one(slots) as u32;
+    if next < size {
+        return next as u16;
+    }
+    (next % size) as u16
 }
 
 // Stores the packets' words, the address before the status, since the status hands the slot to the controller; at most `words` of

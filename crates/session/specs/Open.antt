@@ -1,6 +1,6 @@
 -- Opening: document 01, "The session". "One endpoint configuration is fixed at opening, which zeroes the ring; refused, it stores nothing and gives
 -- an idle session of what was offered."
-use mathlib.Core.Bool.{Bool, true, false, cond}
+use mathlib.Core.Bool.{cond}
 use mathlib.Core.List.{List}
 use Prim.Native.Nat.{ℕ}
 use lib.Dec.{ltb}

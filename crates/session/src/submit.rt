@@ -141,7 +141,8 @@ fn added_packets(way: SubmitWay, n: usize) -> usize
 // Stores the packets' words, as many as may be.
 fn store(cfg: IsoConfig, transfer: IsoTransfer, insert: u16, lengths: &[u32], ring: &mut [u32])
     requires { ⌜ transfer .base + sum (now lengths) ≤ 4294967295 ⌝ }
-    ensures { λ _. ⌜ now (ring .exit) ≡ stored (take (transfer .words) (storesFrom (slots cfg) insert (stepOf cfg) 0 (transfer .base) (now (lengths .entry)))) (now (ring .entry)) ⌝ }
+    ensures { λ _. ⌜ now (ring .exit)
+        ≡ stored (take (transfer .words) (storesFrom (slots cfg) insert (stepOf cfg) 0 (transfer .base) (now (lengths .entry)))) (now (ring .entry)) ⌝ }
 {
     store_packets(
         ring,
@@ -187,7 +188,10 @@ pub fn submit_parts(
     lengths: &[u32],
     ring: &mut [u32],
 ) -> SubmitParts
-    ensures { λ r. ⌜ ((requests : List IsoRequest) (plans : List IsoPacketPlan) → Scanned (whole cfg head fatal requests plans) scan → Parted (whole cfg head fatal requests plans) transfer (now (lengths .entry)) (now (ring .entry)) r × (now (ring .exit) ≡ submittedRing (whole cfg head fatal requests plans) transfer (now (lengths .entry)) (now (ring .entry)))) ⌝ }
+    ensures { λ r. ⌜ ((requests : List IsoRequest) (plans : List IsoPacketPlan)
+        → Scanned (whole cfg head fatal requests plans) scan
+        → Parted (whole cfg head fatal requests plans) transfer (now (lengths .entry)) (now (ring .entry)) r ×
+        (now (ring .exit) ≡ submittedRing (whole cfg head fatal requests plans) transfer (now (lengths .entry)) (now (ring .entry)))) ⌝ }
 {
     let way = submit_way(cfg, head, fatal, scan, transfer, lengths, ring);
     let insert = insert_of(cfg, head, transfer, scan.tail, ring);
@@ -222,7 +226,8 @@ pub fn new_request(id: u64, packets: u16) -> IsoRequest
 impl IsoChannelState {
     // Hands a request to the ring. What it does follows from the way; the session comes back with the answer.
     pub fn submit(mut self, transfer: IsoTransfer, lengths: &[u32], ring: &mut [u32]) -> Submitted
-        ensures { λ r. ⌜ (r ≡ submitted self transfer (now (lengths .entry)) (now (ring .entry))) × (now (ring .exit) ≡ submittedRing self transfer (now (lengths .entry)) (now (ring .entry))) ⌝ }
+        ensures { λ r. ⌜ (r ≡ submitted self transfer (now (lengths .entry)) (now (ring .entry)))
+            × (now (ring .exit) ≡ submittedRing self transfer (now (lengths .entry)) (now (ring .entry))) ⌝ }
     {
         let cfg = self.cfg;
         let head = self.head;

@@ -133,7 +133,11 @@ fn entry_refusal(
     n: usize,
     words: usize,
 ) -> u16
-    ensures { λ r. ⌜ ((requests : List IsoRequest) (plans : List IsoPacketPlan) → Scanned (whole cfg head fatal requests plans) scan → r ≡ entryRefusal (whole cfg head fatal requests plans) transfer n words) × (r ≡ 0 → (n ≤ 255) × (head .count < 64) × (ringWords cfg ≤ words)) ⌝ }
+    ensures { λ r. ⌜ ((requests : List IsoRequest) (plans : List IsoPacketPlan)
+        → Scanned (whole cfg head fatal requests plans) scan
+        → r
+        ≡ entryRefusal (whole cfg head fatal requests plans) transfer n words)
+        × (r ≡ 0 → (n ≤ 255) × (head .count < 64) × (ringWords cfg ≤ words)) ⌝ }
 {
     if words < ring_words(cfg) {
         return 17;
@@ -158,7 +162,10 @@ fn entry_refusal(
 
 // 13: a slot of the submission is one of a pending request.
 fn clash(cfg: IsoConfig, insert: u16, held: [bool; 256], n: usize) -> bool
-    ensures { λ r. ⌜ ((ps : List IsoPacketPlan) → ((k : ℕ) → k < 256 → getD held k false ≡ isHeld ps k) → r ≡ (isGuarded (cfg .mode) && anyHeld ps (slotsFrom (slots cfg) insert (stepOf cfg) 0 n))) ⌝ }
+    ensures { λ r. ⌜ ((ps : List IsoPacketPlan)
+        → ((k : ℕ) → k < 256 → getD held k false ≡ isHeld ps k)
+        → r
+        ≡ (isGuarded (cfg .mode) && anyHeld ps (slotsFrom (slots cfg) insert (stepOf cfg) 0 n))) ⌝ }
 {
     let mode = cfg.mode;
     if !is_guarded(mode) {
@@ -178,7 +185,11 @@ fn spend_refusal(
     ring: &[u32],
 ) -> u16
     requires { ⌜ length (now lengths) ≤ 1024 ⌝ }
-    ensures { λ r. ⌜ ((requests : List IsoRequest) (plans : List IsoPacketPlan) → Walked (whole cfg head fatal requests plans) scan → r ≡ spendRefusal (whole cfg head fatal requests plans) transfer (now (lengths .entry)) (now (ring .entry))) × (r ≡ 0 → transfer .base + sum (now (lengths .entry)) ≤ 4294967295) ⌝ }
+    ensures { λ r. ⌜ ((requests : List IsoRequest) (plans : List IsoPacketPlan)
+        → Walked (whole cfg head fatal requests plans) scan
+        → r
+        ≡ spendRefusal (whole cfg head fatal requests plans) transfer (now (lengths .entry)) (now (ring .entry)))
+        × (r ≡ 0 → transfer .base + sum (now (lengths .entry)) ≤ 4294967295) ⌝ }
 {
     let sum = sum_of(lengths);
     let no_channel = !head.live & !transfer.channel_free;
@@ -204,7 +215,13 @@ pub(crate) fn submit_way(
     lengths: &[u32],
     ring: &[u32],
 ) -> SubmitWay
-    ensures { λ r. ⌜ ((requests : List IsoRequest) (plans : List IsoPacketPlan) → Scanned (whole cfg head fatal requests plans) scan → r ≡ submitWay (whole cfg head fatal requests plans) transfer (now (lengths .entry)) (now (ring .entry))) × (T (isGate r) → (length (now (lengths .entry)) ≤ 255) × (head .count < 64) × (ringWords cfg ≤ length (now (ring .entry))) × (transfer .base + sum (now (lengths .entry)) ≤ 4294967295)) ⌝ }
+    ensures { λ r. ⌜ ((requests : List IsoRequest) (plans : List IsoPacketPlan)
+        → Scanned (whole cfg head fatal requests plans) scan
+        → r
+        ≡ submitWay (whole cfg head fatal requests plans) transfer (now (lengths .entry)) (now (ring .entry)))
+        × (T (isGate r)
+        → (length (now (lengths .entry)) ≤ 255) × (head .count < 64) × (ringWords cfg ≤ length (now (ring .entry))) ×
+        (transfer .base + sum (now (lengths .entry)) ≤ 4294967295)) ⌝ }
 {
     let n = lengths.len();
     let refused = entry_refusal(cfg, head, fatal, scan, transfer, n, ring.len());

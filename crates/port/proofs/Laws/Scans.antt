@@ -22,9 +22,8 @@ use Rattle.session.specs.Scan.{Scanned}
 use Rattle.session.proofs.Laws.Sums.{packets-split}
 use Rattle.port.specs.declared.scan.RequestSums.{RequestSums}
 use Rattle.port.specs.Tags.{taggedOf, fatalOf}
-use Rattle.port.specs.Layout.{configOf, headOf, requestOf, planOf, sessionOf}
+use Rattle.port.specs.Layout.{configOf, headOf, sessionOf}
 use Rattle.port.specs.Scan.{Summed, Marked}
-use Rattle.port.proofs.Laws.Tables.{length-table}
 
 pub never : true ≡ false → ⊥
 never e = let z : _≡_ {A = ℕ} 0 1 = cc in omega arith
@@ -102,11 +101,18 @@ module _ (s : IsoChannelState) where
 
         pub all-in : sums .all ≤ 1024
         all-in =
-            ltb-false 1024 (sums .all) (neither (ltb 1024 (sums .all)) (ltb most (sums .pending)) (neither (sums .bad) (ltb 1024 (sums .all) || ltb most (sums .pending)) few .1) .0)
+            ltb-false 1024 (sums .all)
+            (neither (ltb 1024 (sums .all)) (ltb most (sums .pending)) (neither (sums .bad) (ltb 1024 (sums .all) || ltb most (sums .pending)) few .1) .0)
 
         pub pending-in : length (s .requests) ≡ 64 → sums .pending ≤ sums .all
         pending-in many =
-            omega (arith, summed .all requests-good, summed .pending requests-good, counts-in, packets-split (s .head .done) (s .head .count) (s .requests) (counts-in .0) (omega (arith, many, counts-in .1)))
+            omega (
+              arith,
+              summed .all requests-good,
+              summed .pending requests-good,
+              counts-in,
+              packets-split (s .head .done) (s .head .count) (s .requests) (counts-in .0) (omega (arith, many, counts-in .1)),
+            )
 
         -- past every test before the plans, the walk over them decides
         pub all-scanned :

@@ -70,7 +70,13 @@ module _ (xs ring : List ℕ) (from to : ℕ) (dir : Direction) (long : 8488 ≤
 
   fits : from + length (settledBy dir) ≡ to
   fits =
-      omega (arith, length-map (slice from to (s .plans)) (settledPlan dir ring), length-slice from to (s .plans) (omega (arith, plans-end, plans-many xs)), ef, et)
+      omega (
+        arith,
+        length-map (slice from to (s .plans)) (settledPlan dir ring),
+        length-slice from to (s .plans) (omega (arith, plans-end, plans-many xs)),
+        ef,
+        et,
+      )
 
   settled-slice : slice from to table ≡ settledBy dir
   settled-slice =

@@ -124,13 +124,18 @@ pub end-put :
 end-put xs o enough eh ea ee eb et ec =
     let s : IsoChannelState = sessionOf xs in
     let failed : List IsoRequest = endedRequests o s in
-    let many : length failed ≡ 64 = length-sets (s .requests) (s .head .done) (map (withOutcome o) (slice (s .head .done) (s .head .count) (s .requests))) ∙ requests-many xs in
+    let many : length failed ≡ 64 =
+    length-sets (s .requests) (s .head .done) (map (withOutcome o) (slice (s .head .done) (s .head .count) (s .requests))) ∙ requests-many xs in
     let first : IsoChannelState = withRequests s failed in
     let second : IsoChannelState = session (s .cfg) (endedHead (s .head)) (s .fatal) failed (s .plans) in
     let a-is =
     ea
-    ∙ ap (λ (k : IsoHead). sets xs 0 (saved (withRequests s (sets (s .requests) (k .done) (map (withOutcome o) (slice (k .done) (k .count) (s .requests))))))) eh in
-    let b-is = eb ∙ ap₂ (λ (m : List ℕ) (k : IsoHead). sets m 15 (headBytes k)) a-is (ee ∙ ap endedHead eh) ∙ head-put xs first enough many (plans-many xs) (endedHead (s .head)) in
+    ∙ ap (λ (k : IsoHead). sets xs 0 (saved (withRequests s (sets (s .requests) (k .done) (map (withOutcome o) (slice (k .done) (k .count) (s .requests)))))))
+    eh in
+    let b-is =
+    eb
+    ∙ ap₂ (λ (m : List ℕ) (k : IsoHead). sets m 15 (headBytes k)) a-is (ee ∙ ap endedHead eh)
+    ∙ head-put xs first enough many (plans-many xs) (endedHead (s .head)) in
     ec ∙ ap₂ (λ (m : List ℕ) (k : Tagged). sets m 34 (taggedBytes k)) b-is et ∙ reason-put xs second enough many (plans-many xs) Nothing
 
 -- ---- a call that is lent the ring: refused with a number, or past both tests

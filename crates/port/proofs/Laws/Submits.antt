@@ -53,7 +53,8 @@ module _ (R insert step n : ℕ) (lengths : List ℕ) (fits : n ≤ length lengt
 plans-put :
     (xs : List ℕ) (s : IsoChannelState) → 8488 ≤ length xs → length (s .requests) ≡ 64 → length (s .plans) ≡ 1024
     → (ps : List IsoPacketPlan) (i : ℕ) → i + length ps ≤ 1024
-    → sets (sets xs 0 (saved s)) (1320 + 7 * i) (tableBytes planBytes ps) ≡ sets xs 0 (saved (session (s .cfg) (s .head) (s .fatal) (s .requests) (sets (s .plans) i ps)))
+    → sets (sets xs 0 (saved s)) (1320 + 7 * i) (tableBytes planBytes ps)
+    ≡ sets xs 0 (saved (session (s .cfg) (s .head) (s .fatal) (s .requests) (sets (s .plans) i ps)))
 unfolding tableBytes
 plans-put xs s enough h k [] i fits = refl
 plans-put xs s enough h k (p ∷ ps) i fits =

@@ -14,7 +14,6 @@ use Rattle.port.specs.Tags.{directionOf}
 use Rattle.port.specs.Layout.{configOf, headOf, requestBytes, requestOf, planBytes, planOf, layoutNumber, sessionOf, saved}
 use Rattle.port.specs.Places.{requestsOf, plansOf, withRequests, withPlans}
 use Rattle.port.proofs.Laws.Entries.{field}
-use Rattle.port.proofs.Laws.Tables.{length-table}
 use Rattle.port.proofs.Laws.Placed.{length-saved, plan-there, request-there, plan-put, request-put, requests-many, plans-many}
 use Rattle.port.proofs.Roundtrip.{saved-good, saved-loaded}
 
@@ -110,5 +109,6 @@ module _ (xs : List ℕ) (s : IsoChannelState) (long : 8488 ≤ length xs) {now 
       let put : next ≡ sets xs 0 (saved (withRequests s l)) =
       n ∙ ap (λ (m : List ℕ). sets m (40 + 20 * i) (requestBytes r)) e ∙ request-put xs (withRequests s (requestsOf now)) long (requests-many now) many i r h in
       let held : requestsOf next ≡ l =
-      ap requestsOf put ∙ ap (λ (t : IsoChannelState). t .requests) (there xs (withRequests s l) long (length-set (requestsOf now) i r ∙ requests-many now) many) in
+      ap requestsOf put
+      ∙ ap (λ (t : IsoChannelState). t .requests) (there xs (withRequests s l) long (length-set (requestsOf now) i r ∙ requests-many now) many) in
       (held, put ∙ ap (λ (rs : List IsoRequest). sets xs 0 (saved (withRequests s rs))) (sym held))

@@ -115,7 +115,10 @@ module _ (s : IsoChannelState) (t : IsoTransfer) (lengths ring : List ℕ) (inse
     abbrev planned : ℕ → List IsoPacketPlan
     planned k = sets (s .plans) all (plansFrom (slots (s .cfg)) insert (stepOf (s .cfg)) 0 (take k lengths))
 
-    kept : (way : SubmitWay) → n ≡ 0 → whole (s .cfg) (headAfter way (s .cfg) (s .head) t slot) (s .fatal) (requestsWith s n) (planned n) ≡ whole (s .cfg) (headAfter way (s .cfg) (s .head) t slot) (s .fatal) (s .requests) (s .plans)
+    kept :
+        (way : SubmitWay) → n ≡ 0
+        → whole (s .cfg) (headAfter way (s .cfg) (s .head) t slot) (s .fatal) (requestsWith s n) (planned n)
+        ≡ whole (s .cfg) (headAfter way (s .cfg) (s .head) t slot) (s .fatal) (s .requests) (s .plans)
     kept way e = ap (λ (k : ℕ). whole (s .cfg) (headAfter way (s .cfg) (s .head) t slot) (s .fatal) (requestsWith s k) (planned k)) e
 
     pub session-left :
@@ -162,9 +165,11 @@ module _ (s : IsoChannelState) (t : IsoTransfer) (lengths ring : List ℕ) (r : 
       let R = slots (s .cfg) in
       let step = stepOf (s .cfg) in
       ap₂ (λ (x y : ℕ). of (r .answer) (r .start) (placed x y (r .head))) eR ek
-      ∙ ap₂ (λ (x : SubmitAnswer) (y : IsoChannelStart). of x y (placed R step (r .head))) (a ∙ answer-only way s) (b ∙ start-by s t (r .added) way (length lengths) e (λ w. f w .1))
+      ∙ ap₂ (λ (x : SubmitAnswer) (y : IsoChannelStart). of x y (placed R step (r .head))) (a ∙ answer-only way s)
+      (b ∙ start-by s t (r .added) way (length lengths) e (λ w. f w .1))
       ∙ ap (λ (x : IsoHead). of (answerOf way s) (startAfter way s t) (placed R step x)) h
-      ∙ ap (of (answerOf way s) (startAfter way s t)) (session-left s t lengths ring (r .insert) (r .added) (r .to) slot way e at f (last ∙ ap₂ (λ (x y : ℕ). slotAt x (r .insert) y (r .added)) eR ek))
+      ∙ ap (of (answerOf way s) (startAfter way s t))
+      (session-left s t lengths ring (r .insert) (r .added) (r .to) slot way e at f (last ∙ ap₂ (λ (x y : ℕ). slotAt x (r .insert) y (r .added)) eR ek))
 
 -- the parts in a session that the walk speaks of: what the walk found is asked only past every refusal
 module _ (s : IsoChannelState) (t : IsoTransfer) (lengths ring : List ℕ) (scan : RecordScan) (way : SubmitWay) (insert : ℕ)
@@ -211,7 +216,8 @@ module _ (s : IsoChannelState) (t : IsoTransfer) (lengths ring : List ℕ) (scan
 module _ (s : IsoChannelState) (lengths : List ℕ) (r : SubmitParts) (self : IsoChannelState) (plans : List IsoPacketPlan) where
   abbrev pub Pushed : Type 0
   Pushed =
-      ((0 < r .added) × (self ≡ whole (s .cfg) (s .head) (s .fatal) (set (s .requests) (s .head .count) (newRequest (s .head .«next_request_id») (r .added))) plans))
+      ((0 < r .added)
+      × (self ≡ whole (s .cfg) (s .head) (s .fatal) (set (s .requests) (s .head .count) (newRequest (s .head .«next_request_id») (r .added))) plans))
       ⊎ ((r .added ≤ 0) × (self ≡ whole (s .cfg) (s .head) (s .fatal) (s .requests) plans))
 
   pub joined-by :

@@ -36,7 +36,8 @@ pub entry-equal :
 entry-equal kind empty none alone r l o f = rw (r, l, o, f)
 
 -- no test held, so the submission is not over the capacity, and the tables are not full
-pub not-over : (reason low kind empty none alone over full : Bool) → entryNumber reason low kind empty none alone over full ≡ 0 → (over ≡ false) × (full ≡ false)
+pub not-over :
+    (reason low kind empty none alone over full : Bool) → entryNumber reason low kind empty none alone over full ≡ 0 → (over ≡ false) × (full ≡ false)
 not-over reason low kind empty none alone over full e =
     let h =
     none-holds (reason ⇒ 1 ∷ low ⇒ 2 ∷ kind ⇒ 3 ∷ empty ⇒ 4 ∷ none ⇒ 5 ∷ alone ⇒ 6 ∷ over ⇒ 7 ∷ full ⇒ 8 ∷ [])

@@ -37,7 +37,9 @@ size-of-requires c κs = search needs
 
 past2 :
     (c : tie.Else2)
-    → isBad (c .before .before .before .args .request .endpoint) (c .before .before .before .args .request .device) (c .before .before .before .args .request .«max_packet_size») ≡ false
+    → isBad (c .before .before .before .args .request .endpoint) (c .before .before .before .args .request .device)
+    (c .before .before .before .args .request .«max_packet_size»)
+    ≡ false
 past2 c = sym (c .before .is-bad .ensures) ∙ c .if2 .left
 
 size-small : (c : tie.After-size-of) → sizeOf (c .before .before .before .before .args .request) ≤ 65_536
@@ -59,18 +61,23 @@ chunk-is c = c .chunk-of .ensures ∙ ap chunkOf (c .before .size-of .ensures)
 returns-3 : tie.Need-returns-3
 returns-3 c =
     let r = c .before .before .before .before .before .before .before .args .request in
-    let e1 : isShort (c .before .before .before .before .before .before .before .args .words) ≡ false = past1 (c .before .before .before .before .before .before) in
+    let e1 : isShort (c .before .before .before .before .before .before .before .args .words) ≡ false =
+    past1 (c .before .before .before .before .before .before) in
     let e2 : isBad (r .endpoint) (r .device) (r .«max_packet_size») ≡ false = past2 (c .before .before .before .before) in
     let e3 : ltb 1024 (splitOf (r .len) (sizeOf r) .count) ≡ true =
-    lt-ltb 1024 _ (many-parts 1024 (r .len) (chunkOf (sizeOf r)) (chunk-pos (sizeOf r) (size-small (c .before .before .before))) (subst (λ (k : ℕ). 1024 * k < r .len) (chunk-is (c .before .before)) (c .if3 .taken))) in
+    lt-ltb 1024 _ (many-parts 1024 (r .len) (chunkOf (sizeOf r)) (chunk-pos (sizeOf r) (size-small (c .before .before .before)))
+    (subst (λ (k : ℕ). 1024 * k < r .len) (chunk-is (c .before .before)) (c .if3 .taken))) in
     simp (e1, e2, e3)
 
 few :
     (c : tie.Else3)
-    → splitOf (c .before .before .before .before .before .before .before .args .request .len) (sizeOf (c .before .before .before .before .before .before .before .args .request)) .count ≤ 1024
+    → splitOf (c .before .before .before .before .before .before .before .args .request .len)
+    (sizeOf (c .before .before .before .before .before .before .before .args .request)) .count
+    ≤ 1024
 few c =
     let r = c .before .before .before .before .before .before .before .args .request in
-    few-parts 1024 (r .len) (chunkOf (sizeOf r)) (chunk-pos (sizeOf r) (size-small (c .before .before .before))) (omega arith) (subst (λ (k : ℕ). r .len ≤ 1024 * k) (chunk-is (c .before .before)) (c .if3 .left))
+    few-parts 1024 (r .len) (chunkOf (sizeOf r)) (chunk-pos (sizeOf r) (size-small (c .before .before .before))) (omega arith)
+    (subst (λ (k : ℕ). r .len ≤ 1024 * k) (chunk-is (c .before .before)) (c .if3 .left))
 
 cast-initial-len : tie.Need-cast-initial-len
 cast-initial-len c =
@@ -101,14 +108,16 @@ beyond-is c =
     let r = c .before .before .before .before .before .before .before .before .before .before .before .args .request in
     c .is-beyond .ensures
     ∙ ap (isBeyond (r .base))
-    (c .before .initial-len .ensures ∙ ap₂ (initialLen (r .len)) (c .before .before .before .before .before .before .before .size-of .ensures) (c .before .before .is-in .ensures))
+    (c .before .initial-len .ensures
+    ∙ ap₂ (initialLen (r .len)) (c .before .before .before .before .before .before .before .size-of .ensures) (c .before .before .is-in .ensures))
 
 returns-4 : tie.Need-returns-4
 returns-4 c =
     let r = c .before .before .before .before .before .before .before .before .before .before .before .before .args .request in
     let e1 : isShort (c .before .before .before .before .before .before .before .before .before .before .before .before .args .words) ≡ false =
     past1 (c .before .before .before .before .before .before .before .before .before .before .before) in
-    let e2 : isBad (r .endpoint) (r .device) (r .«max_packet_size») ≡ false = past2 (c .before .before .before .before .before .before .before .before .before) in
+    let e2 : isBad (r .endpoint) (r .device) (r .«max_packet_size») ≡ false =
+    past2 (c .before .before .before .before .before .before .before .before .before) in
     let e3 : ltb 1024 (splitOf (r .len) (sizeOf r) .count) ≡ false = le-ltb 1024 _ (few (c .before .before .before .before .before)) in
     let e4 : isBeyond (r .base) (initialLen (r .len) (sizeOf r) (isIn (r .direction))) ≡ true = sym (beyond-is (c .before)) ∙ c .if4 .taken in
     simp (e1, e2, e3, e4)
@@ -118,7 +127,8 @@ returns-5 c =
     let r = c .before .before .before .before .before .before .before .before .before .before .before .before .args .request in
     let e1 : isShort (c .before .before .before .before .before .before .before .before .before .before .before .before .args .words) ≡ false =
     past1 (c .before .before .before .before .before .before .before .before .before .before .before) in
-    let e2 : isBad (r .endpoint) (r .device) (r .«max_packet_size») ≡ false = past2 (c .before .before .before .before .before .before .before .before .before) in
+    let e2 : isBad (r .endpoint) (r .device) (r .«max_packet_size») ≡ false =
+    past2 (c .before .before .before .before .before .before .before .before .before) in
     let e3 : ltb 1024 (splitOf (r .len) (sizeOf r) .count) ≡ false = le-ltb 1024 _ (few (c .before .before .before .before .before)) in
     let e4 : isBeyond (r .base) (initialLen (r .len) (sizeOf r) (isIn (r .direction))) ≡ false = sym (beyond-is (c .before)) ∙ c .if4 .left in
     simp (e1, e2, e3, e4)

@@ -25,8 +25,13 @@ chunk-of-requires c κs = search needs
 
 loop-holds : tie.Need-loop-holds Inv-loop μ-loop
 loop-holds c =
-    let a = c .before .before .args in
-    (c .before .before .pre .some, omega arith, c .before .before .pre .full, omega arith, zero-add (chainMoved (a .mps) (a .array .now) (a .descs) (a .base) (a .len)))
+    let a = c .before .before .args in (
+      c .before .before .pre .some,
+      omega arith,
+      c .before .before .pre .full,
+      omega arith,
+      zero-add (chainMoved (a .mps) (a .array .now) (a .descs) (a .base) (a .len)),
+    )
 
 mul-chunk-moved : tie.Need-mul-chunk-moved Inv-loop μ-loop
 mul-chunk-moved c = omega arith
@@ -43,7 +48,8 @@ chunk-moved-requires c κs = search needs
 -- where more than the last is left, a whole chunk is
 whole :
     (c : tie.In-loop Inv-loop μ-loop) → (c .before .before .chunk-of .result ≤ c .before .loop .rest)
-    × ((c .before .loop .left - 1 - 1) * chunkOf (c .before .before .before .before .args .mps) ≤ c .before .loop .rest - chunkOf (c .before .before .before .before .args .mps))
+    × ((c .before .loop .left - 1 - 1) * chunkOf (c .before .before .before .before .args .mps)
+    ≤ c .before .loop .rest - chunkOf (c .before .before .before .before .args .mps))
 whole c =
     let a = c .before .before .before .before .args in
     let now = c .before .loop in
@@ -99,7 +105,8 @@ returns : tie.Need-returns Inv-loop μ-loop
 returns c =
     let a = c .before .before .before .before .before .before .args in
     let now = c .before .before .before .loop in
-    count-last (a .mps) (a .array .now) (now .left) (now .at) (now .rest) (now .total) (c .link-moved .result) (omega arith) (c .link-moved .ensures .0) ∙ now .inv .4
+    count-last (a .mps) (a .array .now) (now .left) (now .at) (now .rest) (now .total) (c .link-moved .result) (omega arith) (c .link-moved .ensures .0)
+    ∙ now .inv .4
 
 pub chain-moved-spec : {M : Type 1} → statement M
 chain-moved-spec =

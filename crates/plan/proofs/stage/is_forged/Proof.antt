@@ -24,7 +24,8 @@ add-result : tie.Need-add-result
 add-result c = search needs
 
 is-count-requires : tie.Need-is-count-requires
-is-count-requires c κs = subst⁻¹ (λ (k : ℕ). 0 < k) (c .before .before .before .chunk-of .ensures) (chunk-pos (c .before .before .before .before .mps-of .result) (omega arith))
+is-count-requires c κs =
+    subst⁻¹ (λ (k : ℕ). 0 < k) (c .before .before .before .chunk-of .ensures) (chunk-pos (c .before .before .before .before .mps-of .result) (omega arith))
 
 grouped : (p q r t : Bool) → ((p || q) || r) || t ≡ p || (q || (r || t))
 grouped true q r t = refl
@@ -32,7 +33,8 @@ grouped false true r t = refl
 grouped false false r t = refl
 
 returns : tie.Need-returns
-returns c = rw (grouped, c .is-count .ensures, c .before .before .before .before .chunk-of .ensures, c .before .before .before .before .before .mps-of .ensures .0)
+returns c =
+    rw (grouped, c .is-count .ensures, c .before .before .before .before .chunk-of .ensures, c .before .before .before .before .before .mps-of .ensures .0)
 
 pub is-forged-spec : {M : Type 1} → statement M
 is-forged-spec = tie.close (tie.spec mps-of-requires chunk-of-requires cast-result cast-result-2 add-result is-count-requires returns)

@@ -51,7 +51,8 @@ returns c =
 returns-2 : tie.Need-returns-2
 returns-2 c =
     c .not-completed .ensures
-    ∙ sym (ap (λ (a : ReclaimAnswer). reclaimPort a (flagTag (c .before .before .before .args .taken)) (flagTag (c .before .before .before .args .halt))) (c .before .enum-told .given .1))
+    ∙ sym (ap (λ (a : ReclaimAnswer). reclaimPort a (flagTag (c .before .before .before .args .taken)) (flagTag (c .before .before .before .args .halt)))
+    (c .before .enum-told .given .1))
 
 returns-3 : tie.Need-returns-3
 returns-3 c =

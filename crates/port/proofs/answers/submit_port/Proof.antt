@@ -22,7 +22,13 @@ cast-t10 : tie.Need-cast-t10
 cast-t10 c = search needs
 
 returns : tie.Need-returns
-returns c = rw (c .before .before .before .before .submit-value .ensures, c .before .before .before .submit-number .ensures, c .before .before .is-cut .ensures, c .before .flag .ensures)
+returns c =
+    rw (
+      c .before .before .before .before .submit-value .ensures,
+      c .before .before .before .submit-number .ensures,
+      c .before .before .is-cut .ensures,
+      c .before .flag .ensures,
+    )
 
 pub submit-port-spec : {M : Type 1} → statement M
 submit-port-spec =

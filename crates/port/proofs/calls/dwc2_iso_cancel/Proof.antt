@@ -18,7 +18,10 @@ same-length : tie.Need-same-length
 same-length c = search needs
 
 returns : tie.Need-returns
-returns c = reply-refused (c .before .before .before .before .before .args .session .now) (λ (s : IsoChannelState). cancelled s (c .before .before .before .before .before .args .id)) (c .before .before .layout-refusal .ensures) (c .before .if1 .taken) (c .reply-refused .ensures)
+returns c =
+    reply-refused (c .before .before .before .before .before .args .session .now)
+    (λ (s : IsoChannelState). cancelled s (c .before .before .before .before .before .args .id)) (c .before .before .layout-refusal .ensures)
+    (c .before .if1 .taken) (c .reply-refused .ensures)
 
 cancel-at-requires : tie.Need-cancel-at-requires
 cancel-at-requires c κs = sym (c .before .before .layout-refusal .ensures) ∙ c .before .if1 .left
@@ -29,7 +32,10 @@ same-length-2 c = search needs
 returns-2 : tie.Need-returns-2
 returns-2 c =
     let xs = c .before .before .before .before .before .before .before .before .args .session .now in
-    reply-done xs (λ (s : IsoChannelState). cancelled s (c .before .before .before .before .before .before .before .before .args .id)) {s = sessionOf xs} {r = cancelled (sessionOf xs) (c .before .before .before .before .before .before .before .before .args .id)} (c .before .before .before .before .before .layout-refusal .ensures) (c .before .before .before .before .if1 .left) refl refl (c .before .before .cancel-at .ensures .0) (c .before .before .cancel-at .ensures .1)
+    reply-done xs (λ (s : IsoChannelState). cancelled s (c .before .before .before .before .before .before .before .before .args .id)) {s = sessionOf xs}
+    {r = cancelled (sessionOf xs) (c .before .before .before .before .before .before .before .before .args .id)}
+    (c .before .before .before .before .before .layout-refusal .ensures) (c .before .before .before .before .if1 .left) refl refl
+    (c .before .before .cancel-at .ensures .0) (c .before .before .cancel-at .ensures .1)
 
 pub dwc2-iso-cancel-spec : {M : Type 1} → statement M
 dwc2-iso-cancel-spec =

@@ -17,7 +17,9 @@ cast-result : tie.Need-cast-result
 cast-result c = search needs
 
 returns : tie.Need-returns
-returns c = refused (c .before .before .before .args .session .now) (λ (n : ℕ). n) (λ (s : IsoChannelState). cond (isBadRecord s) 18 0) (c .before .layout-refusal .ensures) (c .if1 .taken)
+returns c =
+    refused (c .before .before .before .args .session .now) (λ (n : ℕ). n) (λ (s : IsoChannelState). cond (isBadRecord s) 18 0)
+    (c .before .layout-refusal .ensures) (c .if1 .taken)
 
 scan-at-requires : tie.Need-scan-at-requires
 scan-at-requires c κs = long-enough (c .before .before .before .args .session .now) (c .before .layout-refusal .ensures) (c .if1 .left)
@@ -26,13 +28,15 @@ returns-2 : tie.Need-returns-2
 returns-2 c =
     let xs = c .before .before .before .before .before .args .session .now in
     ap (λ (b : Bool). cond b 18 0) (sym (c .if2 .taken))
-    ∙ done xs (λ (n : ℕ). n) isBadRecord (λ (b : Bool). cond b 18 0) {s = sessionOf xs} (c .before .before .before .layout-refusal .ensures) (c .before .before .if1 .left) refl (c .before .scan-at .ensures .bad)
+    ∙ done xs (λ (n : ℕ). n) isBadRecord (λ (b : Bool). cond b 18 0) {s = sessionOf xs} (c .before .before .before .layout-refusal .ensures)
+    (c .before .before .if1 .left) refl (c .before .scan-at .ensures .bad)
 
 returns-3 : tie.Need-returns-3
 returns-3 c =
     let xs = c .before .before .before .before .before .args .session .now in
     ap (λ (b : Bool). cond b 18 0) (sym (c .if2 .left))
-    ∙ done xs (λ (n : ℕ). n) isBadRecord (λ (b : Bool). cond b 18 0) {s = sessionOf xs} (c .before .before .before .layout-refusal .ensures) (c .before .before .if1 .left) refl (c .before .scan-at .ensures .bad)
+    ∙ done xs (λ (n : ℕ). n) isBadRecord (λ (b : Bool). cond b 18 0) {s = sessionOf xs} (c .before .before .before .layout-refusal .ensures)
+    (c .before .before .if1 .left) refl (c .before .scan-at .ensures .bad)
 
 pub dwc2-iso-check-spec : {M : Type 1} → statement M
 dwc2-iso-check-spec =

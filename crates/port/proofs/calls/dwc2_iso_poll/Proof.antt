@@ -27,10 +27,12 @@ returns c =
     let a = c .before .before .before .before .before .before .args in
     let event = eventOf (a .reported) (a .unplugged) (a .hcint) in
     let both =
-    reply-refused (a .session .now) (λ (s : IsoChannelState). polled s event (a .ring .now)) (c .before .before .layout-refusal .ensures) (c .before .if1 .taken) (c .reply-refused .ensures) in (
+    reply-refused (a .session .now) (λ (s : IsoChannelState). polled s event (a .ring .now)) (c .before .before .layout-refusal .ensures)
+    (c .before .if1 .taken) (c .reply-refused .ensures) in (
       both .0,
       both .1,
-      refused (a .session .now) (λ (n : ℕ). (a .ring .now)) (λ (s : IsoChannelState). polledRing s event (a .ring .now)) (c .before .before .layout-refusal .ensures) (c .before .if1 .taken),
+      refused (a .session .now) (λ (n : ℕ). (a .ring .now)) (λ (s : IsoChannelState). polledRing s event (a .ring .now))
+          (c .before .before .layout-refusal .ensures) (c .before .if1 .taken),
     )
 
 event-of-requires : tie.Need-event-of-requires
@@ -52,14 +54,20 @@ returns-2 c =
     let ring = a .ring .now in
     let event = eventOf (a .reported) (a .unplugged) (a .hcint) in
     let both =
-    reply-done xs (λ (s : IsoChannelState). polled s event ring) {s = sessionOf xs} {r = polled (sessionOf xs) event ring} (c .before .before .before .before .before .before .before .before .before .layout-refusal .ensures)
+    reply-done xs (λ (s : IsoChannelState). polled s event ring) {s = sessionOf xs} {r = polled (sessionOf xs) event ring}
+    (c .before .before .before .before .before .before .before .before .before .layout-refusal .ensures)
     (c .before .before .before .before .before .before .before .before .if1 .left) refl refl
-    (c .before .before .before .before .poll-on .ensures .0 ∙ ap (λ (e : IsoEvent). replyPort (polled (sessionOf xs) e ring)) (c .before .before .before .before .before .before .before .event-of .ensures))
-    (c .before .before .before .before .poll-on .ensures .1 ∙ ap (λ (e : IsoEvent). sets xs 0 (saved (polled (sessionOf xs) e ring .session))) (c .before .before .before .before .before .before .before .event-of .ensures)) in (
+    (c .before .before .before .before .poll-on .ensures .0
+    ∙ ap (λ (e : IsoEvent). replyPort (polled (sessionOf xs) e ring)) (c .before .before .before .before .before .before .before .event-of .ensures))
+    (c .before .before .before .before .poll-on .ensures .1
+    ∙ ap (λ (e : IsoEvent). sets xs 0 (saved (polled (sessionOf xs) e ring .session)))
+    (c .before .before .before .before .before .before .before .event-of .ensures)) in (
       both .0,
       both .1,
       done xs (λ (n : ℕ). ring) (λ (s : IsoChannelState). polledRing s event ring) (λ (words : List ℕ). words) {s = sessionOf xs}
-          (c .before .before .before .before .before .before .before .before .before .layout-refusal .ensures) (c .before .before .before .before .before .before .before .before .if1 .left) refl (c .before .before .before .before .poll-on .ensures .2 ∙ ap (λ (e : IsoEvent). polledRing (sessionOf xs) e ring) (c .before .before .before .before .before .before .before .event-of .ensures)),
+          (c .before .before .before .before .before .before .before .before .before .layout-refusal .ensures)
+          (c .before .before .before .before .before .before .before .before .if1 .left) refl (c .before .before .before .before .poll-on .ensures .2
+          ∙ ap (λ (e : IsoEvent). polledRing (sessionOf xs) e ring) (c .before .before .before .before .before .before .before .event-of .ensures)),
     )
 
 pub dwc2-iso-poll-spec : {M : Type 1} → statement M

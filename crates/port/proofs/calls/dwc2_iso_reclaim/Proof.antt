@@ -19,7 +19,8 @@ same-length c = search needs
 returns : tie.Need-returns
 returns c =
     let a = c .before .before .before .before .before .before .before .args in
-    refused-by-bytes (a .session .now) (a .ring .now) (a .results .now) (a .id) (eventOf (a .reported) (a .unplugged) (a .hcint)) (c .before .before .layout-refusal .ensures) (c .before .if1 .taken)
+    refused-by-bytes (a .session .now) (a .ring .now) (a .results .now) (a .id) (eventOf (a .reported) (a .unplugged) (a .hcint))
+    (c .before .before .layout-refusal .ensures) (c .before .if1 .taken)
     (c .reclaim-refused .ensures)
 
 event-of-requires : tie.Need-event-of-requires
@@ -41,9 +42,15 @@ returns-2 : tie.Need-returns-2
 returns-2 c =
     let a = c .before .before .before .before .before .before .before .before .before .before .before .before .before .before .before .before .before .args in
     let last = c .before .before .before .before .before .before .reclaim-at .last in
-    subst (λ (e : IsoEvent). Promised (a .session .now) (a .ring .now) (a .results .now) (a .id) e (c .before .before .before .before .before .before .reclaim-at .result) (last .0) (last .1 .1 .1 .0) (last .1 .1 .1 .1 .0))
+    subst (λ (e : IsoEvent).
+    Promised (a .session .now) (a .ring .now) (a .results .now) (a .id) e (c .before .before .before .before .before .before .reclaim-at .result) (last .0)
+    (last .1 .1 .1 .0) (last .1 .1 .1 .1 .0))
     (c .before .before .before .before .before .before .before .before .before .before .event-of .ensures)
-    (done-by-bytes (a .session .now) (a .ring .now) (a .results .now) (a .id) (c .before .before .before .before .before .before .before .before .before .before .event-of .result) (c .before .before .before .before .before .before .before .before .before .before .before .before .layout-refusal .ensures) (c .before .before .before .before .before .before .before .before .before .before .before .if1 .left) (c .before .before .before .before .before .before .reclaim-at .ensures))
+    (done-by-bytes (a .session .now) (a .ring .now) (a .results .now) (a .id)
+    (c .before .before .before .before .before .before .before .before .before .before .event-of .result)
+    (c .before .before .before .before .before .before .before .before .before .before .before .before .layout-refusal .ensures)
+    (c .before .before .before .before .before .before .before .before .before .before .before .if1 .left)
+    (c .before .before .before .before .before .before .reclaim-at .ensures))
 
 pub dwc2-iso-reclaim-spec : {M : Type 1} → statement M
 dwc2-iso-reclaim-spec =

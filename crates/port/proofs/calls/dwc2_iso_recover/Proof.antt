@@ -24,10 +24,12 @@ returns : tie.Need-returns
 returns c =
     let a = c .before .before .before .before .before .before .args in
     let both =
-    reply-refused (a .session .now) (λ (s : IsoChannelState). recovered s (length (a .ring .now))) (c .before .before .layout-refusal .ensures) (c .before .if1 .taken) (c .reply-refused .ensures) in (
+    reply-refused (a .session .now) (λ (s : IsoChannelState). recovered s (length (a .ring .now))) (c .before .before .layout-refusal .ensures)
+    (c .before .if1 .taken) (c .reply-refused .ensures) in (
       both .0,
       both .1,
-      refused (a .session .now) (λ (n : ℕ). (a .ring .now)) (λ (s : IsoChannelState). recoveredRing s (a .ring .now)) (c .before .before .layout-refusal .ensures) (c .before .if1 .taken),
+      refused (a .session .now) (λ (n : ℕ). (a .ring .now)) (λ (s : IsoChannelState). recoveredRing s (a .ring .now))
+          (c .before .before .layout-refusal .ensures) (c .before .if1 .taken),
     )
 
 recover-at-requires : tie.Need-recover-at-requires
@@ -46,11 +48,14 @@ returns-2 c =
     let ring = a .ring .now in
     let both =
     reply-done xs (λ (s : IsoChannelState). recovered s (length ring)) {s = sessionOf xs} {r = recovered (sessionOf xs) (length ring)}
-    (c .before .before .before .before .before .before .before .before .layout-refusal .ensures) (c .before .before .before .before .before .before .before .if1 .left) refl refl (c .before .before .before .before .recover-at .ensures .0) (c .before .before .before .before .recover-at .ensures .1) in (
+    (c .before .before .before .before .before .before .before .before .layout-refusal .ensures)
+    (c .before .before .before .before .before .before .before .if1 .left) refl refl (c .before .before .before .before .recover-at .ensures .0)
+    (c .before .before .before .before .recover-at .ensures .1) in (
       both .0,
       both .1,
       done xs (λ (n : ℕ). ring) (λ (s : IsoChannelState). recoveredRing s ring) (λ (words : List ℕ). words) {s = sessionOf xs}
-          (c .before .before .before .before .before .before .before .before .layout-refusal .ensures) (c .before .before .before .before .before .before .before .if1 .left) refl (c .before .before .before .before .recover-at .ensures .2),
+          (c .before .before .before .before .before .before .before .before .layout-refusal .ensures)
+          (c .before .before .before .before .before .before .before .if1 .left) refl (c .before .before .before .before .recover-at .ensures .2),
     )
 
 pub dwc2-iso-recover-spec : {M : Type 1} → statement M

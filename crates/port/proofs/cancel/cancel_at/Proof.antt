@@ -31,32 +31,69 @@ fine : (c : tie.Else1) → isBadRecord (sessionOf (c .before .before .before .be
 fine c = sym (c .before .scan-at .ensures .bad) ∙ c .if1 .left
 
 good : (c : tie.Else1) → Sound (sessionOf (c .before .before .before .before .args .bytes .now))
-good c = sound (sessionOf (c .before .before .before .before .args .bytes .now)) (requests-many (c .before .before .before .before .args .bytes .now)) (plans-many (c .before .before .before .before .args .bytes .now)) (fine c)
+good c =
+    sound (sessionOf (c .before .before .before .before .args .bytes .now)) (requests-many (c .before .before .before .before .args .bytes .now))
+    (plans-many (c .before .before .before .before .args .bytes .now)) (fine c)
 
 head-is : (c : tie.After-head-at) → c .head-at .result ≡ sessionOf (c .before .before .before .before .before .before .args .bytes .now) .head
 head-is c = c .head-at .ensures ∙ head-there (c .before .before .before .before .before .before .args .bytes .now)
 
-place-is : (c : tie.After-place-at) → c .place-at .result ≡ requestAt (c .before .before .before .before .before .before .before .before .args .id) (sessionOf (c .before .before .before .before .before .before .before .before .args .bytes .now))
+place-is :
+    (c : tie.After-place-at)
+    → c .place-at .result
+    ≡ requestAt (c .before .before .before .before .before .before .before .before .args .id)
+    (sessionOf (c .before .before .before .before .before .before .before .before .args .bytes .now))
 place-is c =
     let s = sessionOf (c .before .before .before .before .before .before .before .before .args .bytes .now) in
-    c .place-at .ensures ∙ ap (λ (h : IsoHead). placeOf (c .before .before .before .before .before .before .before .before .args .id) (slice 0 (h .count) (s .requests))) (head-is (c .before .before))
+    c .place-at .ensures
+    ∙ ap (λ (h : IsoHead). placeOf (c .before .before .before .before .before .before .before .before .args .id) (slice 0 (h .count) (s .requests)))
+    (head-is (c .before .before))
 
 -- the place of a completed request
 below : (c : tie.Then2) → c .before .before .place-at .result < 64
 below c =
-    let done : c .before .before .before .before .head-at .result .done ≡ sessionOf (c .before .before .before .before .before .before .before .before .before .before .args .bytes .now) .head .done = ap (λ (h : IsoHead). h .done) (head-is (c .before .before .before .before)) in
-    omega (arith, done, c .if2 .taken, good (c .before .before .before .before .before .before) .done-in, good (c .before .before .before .before .before .before) .count-in)
+    let done : c .before .before .before .before .head-at .result .done
+    ≡ sessionOf (c .before .before .before .before .before .before .before .before .before .before .args .bytes .now) .head .done =
+    ap (λ (h : IsoHead). h .done) (head-is (c .before .before .before .before)) in
+    omega (
+      arith,
+      done,
+      c .if2 .taken,
+      good (c .before .before .before .before .before .before) .done-in,
+      good (c .before .before .before .before .before .before) .count-in,
+    )
 
-not-done : (c : tie.Else2) → ltb (requestAt (c .before .before .before .before .before .before .before .before .before .before .args .id) (sessionOf (c .before .before .before .before .before .before .before .before .before .before .args .bytes .now))) (sessionOf (c .before .before .before .before .before .before .before .before .before .before .args .bytes .now) .head .done) ≡ false
+not-done :
+    (c : tie.Else2)
+    → ltb (requestAt (c .before .before .before .before .before .before .before .before .before .before .args .id)
+    (sessionOf (c .before .before .before .before .before .before .before .before .before .before .args .bytes .now)))
+    (sessionOf (c .before .before .before .before .before .before .before .before .before .before .args .bytes .now) .head .done)
+    ≡ false
 not-done c =
-    sym (ap₂ (λ (n : ℕ) (h : IsoHead). ltb n (h .done)) (place-is (c .before .before)) (head-is (c .before .before .before .before))) ∙ le-ltb (c .before .before .place-at .result) (c .before .before .before .before .head-at .result .done) (c .if2 .left)
+    sym (ap₂ (λ (n : ℕ) (h : IsoHead). ltb n (h .done)) (place-is (c .before .before)) (head-is (c .before .before .before .before)))
+    ∙ le-ltb (c .before .before .place-at .result) (c .before .before .before .before .head-at .result .done) (c .if2 .left)
 
-known : (c : tie.Else3) → ltb (requestAt (c .before .before .before .before .before .before .before .before .before .before .before .before .args .id) (sessionOf (c .before .before .before .before .before .before .before .before .before .before .before .before .args .bytes .now))) (sessionOf (c .before .before .before .before .before .before .before .before .before .before .before .before .args .bytes .now) .head .count) ≡ true
+known :
+    (c : tie.Else3)
+    → ltb (requestAt (c .before .before .before .before .before .before .before .before .before .before .before .before .args .id)
+    (sessionOf (c .before .before .before .before .before .before .before .before .before .before .before .before .args .bytes .now)))
+    (sessionOf (c .before .before .before .before .before .before .before .before .before .before .before .before .args .bytes .now) .head .count)
+    ≡ true
 known c =
-    sym (ap₂ (λ (n : ℕ) (h : IsoHead). ltb n (h .count)) (place-is (c .before .before .before .before)) (head-is (c .before .before .before .before .before .before))) ∙ lt-ltb (c .before .before .before .before .place-at .result) (c .before .before .before .before .before .before .head-at .result .count) (c .if3 .left)
+    sym (ap₂ (λ (n : ℕ) (h : IsoHead). ltb n (h .count)) (place-is (c .before .before .before .before))
+    (head-is (c .before .before .before .before .before .before)))
+    ∙ lt-ltb (c .before .before .before .before .place-at .result) (c .before .before .before .before .before .before .head-at .result .count) (c .if3 .left)
 
-reason-is : (c : tie.After-has-reason) → c .has-reason .result ≡ hasReason (sessionOf (c .before .before .before .before .before .before .before .before .before .before .before .before .before .before .before .args .bytes .now) .fatal)
-reason-is c = c .has-reason .ensures ∙ ap hasReason (c .before .reason-at .ensures ∙ reason-there (c .before .before .before .before .before .before .before .before .before .before .before .before .before .before .before .args .bytes .now))
+reason-is :
+    (c : tie.After-has-reason)
+    → c .has-reason .result
+    ≡ hasReason (sessionOf
+    (c .before .before .before .before .before .before .before .before .before .before .before .before .before .before .before .args .bytes .now) .fatal)
+reason-is c =
+    c .has-reason .ensures
+    ∙ ap hasReason (c .before .reason-at .ensures
+    ∙ reason-there
+    (c .before .before .before .before .before .before .before .before .before .before .before .before .before .before .before .args .bytes .now))
 
 scan-at-requires : tie.Need-scan-at-requires
 scan-at-requires c κs = long-enough (c .before .before .args .bytes .now) refl (c .before .before .pre)
@@ -70,15 +107,20 @@ same-length c = search needs
 returns : tie.Need-returns
 returns c =
     let s = sessionOf (c .before .before .before .before .before .args .bytes .now) in
-    stays (c .before .before .before .before .before .args .bytes .now) (octets (c .before .before .before .before)) (c .before .before .before .before .before .pre) (cancelled s (c .before .before .before .before .before .args .id))
-    (cancel-bad s (c .before .before .before .before .before .args .id) (sym (c .before .before .scan-at .ensures .bad) ∙ c .before .if1 .taken)) refl (c .reply-refused .ensures)
+    stays (c .before .before .before .before .before .args .bytes .now) (octets (c .before .before .before .before))
+    (c .before .before .before .before .before .pre) (cancelled s (c .before .before .before .before .before .args .id))
+    (cancel-bad s (c .before .before .before .before .before .args .id) (sym (c .before .before .scan-at .ensures .bad) ∙ c .before .if1 .taken)) refl
+    (c .reply-refused .ensures)
 
 head-at-requires : tie.Need-head-at-requires
 head-at-requires c κs = long-enough (c .before .before .before .before .before .args .bytes .now) refl (c .before .before .before .before .before .pre)
 
 place-at-requires : tie.Need-place-at-requires
-place-at-requires c κs =
-    (long-enough (c .before .before .before .before .before .before .before .args .bytes .now) refl (c .before .before .before .before .before .before .before .pre), subst⁻¹ (λ (h : IsoHead). h .count ≤ 64) (head-is (c .before)) (good (c .before .before .before) .count-in))
+place-at-requires c κs = (
+  long-enough (c .before .before .before .before .before .before .before .args .bytes .now) refl
+      (c .before .before .before .before .before .before .before .pre),
+  subst⁻¹ (λ (h : IsoHead). h .count ≤ 64) (head-is (c .before)) (good (c .before .before .before) .count-in),
+)
 
 cast-put-outcome : tie.Need-cast-put-outcome
 cast-put-outcome c = search needs
@@ -91,7 +133,9 @@ add-put-outcome c = search needs
 
 put-outcome-requires : tie.Need-put-outcome-requires
 put-outcome-requires c κs =
-    let enough : 8488 ≤ length (c .before .before .before .before .before .before .before .before .before .before .before .args .bytes .now) = long-enough (c .before .before .before .before .before .before .before .before .before .before .before .args .bytes .now) refl (c .before .before .before .before .before .before .before .before .before .before .before .pre) in
+    let enough : 8488 ≤ length (c .before .before .before .before .before .before .before .before .before .before .before .args .bytes .now) =
+    long-enough (c .before .before .before .before .before .before .before .before .before .before .before .args .bytes .now) refl
+    (c .before .before .before .before .before .before .before .before .before .before .before .pre) in
     omega (arith, below (c .before))
 
 reply-port-requires : tie.Need-reply-port-requires
@@ -104,11 +148,23 @@ returns-2 : tie.Need-returns-2
 returns-2 c =
     let xs = c .before .before .before .before .before .before .before .before .before .before .before .before .before .before .before .args .bytes .now in
     let s = sessionOf xs in
-    let done : ltb (requestAt (c .before .before .before .before .before .before .before .before .before .before .before .before .before .before .before .args .id) s) (s .head .done) ≡ true =
-    sym (ap₂ (λ (n : ℕ) (h : IsoHead). ltb n (h .done)) (place-is (c .before .before .before .before .before .before .before)) (head-is (c .before .before .before .before .before .before .before .before .before))) ∙ lt-ltb (c .before .before .before .before .before .before .before .place-at .result) (c .before .before .before .before .before .before .before .before .before .head-at .result .done) (c .before .before .before .before .before .if2 .taken) in
-    becomes xs (cancelled s (c .before .before .before .before .before .before .before .before .before .before .before .before .before .before .before .args .id)) (cancel-completed s (c .before .before .before .before .before .before .before .before .before .before .before .before .before .before .before .args .id) (fine (c .before .before .before .before .before .before .before .before .before .before .before)) done) (c .reply-port .ensures)
+    let done : ltb
+    (requestAt (c .before .before .before .before .before .before .before .before .before .before .before .before .before .before .before .args .id) s)
+    (s .head .done)
+    ≡ true =
+    sym (ap₂ (λ (n : ℕ) (h : IsoHead). ltb n (h .done)) (place-is (c .before .before .before .before .before .before .before))
+    (head-is (c .before .before .before .before .before .before .before .before .before)))
+    ∙ lt-ltb (c .before .before .before .before .before .before .before .place-at .result)
+    (c .before .before .before .before .before .before .before .before .before .head-at .result .done)
+    (c .before .before .before .before .before .if2 .taken) in
+    becomes xs
+    (cancelled s (c .before .before .before .before .before .before .before .before .before .before .before .before .before .before .before .args .id))
+    (cancel-completed s (c .before .before .before .before .before .before .before .before .before .before .before .before .before .before .before .args .id)
+    (fine (c .before .before .before .before .before .before .before .before .before .before .before)) done) (c .reply-port .ensures)
     (c .before .before .before .put-outcome .ensures
-    ∙ outcome-here xs (octets (c .before .before .before .before .before .before .before .before .before .before .before .before .before .before)) (c .before .before .before .before .before .before .before .before .before .before .before .before .before .before .before .pre) (c .before .before .before .before .before .before .before .place-at .result) outcome.Cancelled (below (c .before .before .before .before .before))
+    ∙ outcome-here xs (octets (c .before .before .before .before .before .before .before .before .before .before .before .before .before .before))
+    (c .before .before .before .before .before .before .before .before .before .before .before .before .before .before .before .pre)
+    (c .before .before .before .before .before .before .before .place-at .result) outcome.Cancelled (below (c .before .before .before .before .before))
     ∙ ap (λ (n : ℕ). sets xs 0 (saved (withCancelled n s))) (place-is (c .before .before .before .before .before .before .before)))
 
 reply-refused-requires-2 : tie.Need-reply-refused-requires-2
@@ -120,13 +176,25 @@ same-length-3 c = search needs
 returns-3 : tie.Need-returns-3
 returns-3 c =
     let s = sessionOf (c .before .before .before .before .before .before .before .before .before .before .before .before .before .args .bytes .now) in
-    let unknown : ltb (requestAt (c .before .before .before .before .before .before .before .before .before .before .before .before .before .args .id) s) (s .head .count) ≡ false =
-    sym (ap₂ (λ (n : ℕ) (h : IsoHead). ltb n (h .count)) (place-is (c .before .before .before .before .before)) (head-is (c .before .before .before .before .before .before .before))) ∙ le-ltb (c .before .before .before .before .before .place-at .result) (c .before .before .before .before .before .before .before .head-at .result .count) (c .before .if3 .taken) in
-    stays (c .before .before .before .before .before .before .before .before .before .before .before .before .before .args .bytes .now) (octets (c .before .before .before .before .before .before .before .before .before .before .before .before)) (c .before .before .before .before .before .before .before .before .before .before .before .before .before .pre) (cancelled s (c .before .before .before .before .before .before .before .before .before .before .before .before .before .args .id))
-    (cancel-unknown s (c .before .before .before .before .before .before .before .before .before .before .before .before .before .args .id) (fine (c .before .before .before .before .before .before .before .before .before)) (not-done (c .before .before .before)) unknown) refl (c .reply-refused2 .ensures)
+    let unknown : ltb (requestAt (c .before .before .before .before .before .before .before .before .before .before .before .before .before .args .id) s)
+    (s .head .count)
+    ≡ false =
+    sym (ap₂ (λ (n : ℕ) (h : IsoHead). ltb n (h .count)) (place-is (c .before .before .before .before .before))
+    (head-is (c .before .before .before .before .before .before .before)))
+    ∙ le-ltb (c .before .before .before .before .before .place-at .result) (c .before .before .before .before .before .before .before .head-at .result .count)
+    (c .before .if3 .taken) in
+    stays (c .before .before .before .before .before .before .before .before .before .before .before .before .before .args .bytes .now)
+    (octets (c .before .before .before .before .before .before .before .before .before .before .before .before))
+    (c .before .before .before .before .before .before .before .before .before .before .before .before .before .pre)
+    (cancelled s (c .before .before .before .before .before .before .before .before .before .before .before .before .before .args .id))
+    (cancel-unknown s (c .before .before .before .before .before .before .before .before .before .before .before .before .before .args .id)
+    (fine (c .before .before .before .before .before .before .before .before .before)) (not-done (c .before .before .before)) unknown) refl
+    (c .reply-refused2 .ensures)
 
 reason-at-requires : tie.Need-reason-at-requires
-reason-at-requires c κs = long-enough (c .before .before .before .before .before .before .before .before .before .before .before .before .before .args .bytes .now) refl (c .before .before .before .before .before .before .before .before .before .before .before .before .before .pre)
+reason-at-requires c κs =
+    long-enough (c .before .before .before .before .before .before .before .before .before .before .before .before .before .args .bytes .now) refl
+    (c .before .before .before .before .before .before .before .before .before .before .before .before .before .pre)
 
 has-reason-requires : tie.Need-has-reason-requires
 has-reason-requires c κs = search needs
@@ -139,12 +207,24 @@ same-length-4 c = search needs
 
 returns-4 : tie.Need-returns-4
 returns-4 c =
-    let s = sessionOf (c .before .before .before .before .before .before .before .before .before .before .before .before .before .before .before .before .before .args .bytes .now) in
-    stays (c .before .before .before .before .before .before .before .before .before .before .before .before .before .before .before .before .before .args .bytes .now) (octets (c .before .before .before .before .before .before .before .before .before .before .before .before .before .before .before .before)) (c .before .before .before .before .before .before .before .before .before .before .before .before .before .before .before .before .before .pre) (cancelled s (c .before .before .before .before .before .before .before .before .before .before .before .before .before .before .before .before .before .args .id))
-    (cancel-again s (c .before .before .before .before .before .before .before .before .before .before .before .before .before .before .before .before .before .args .id) (fine (c .before .before .before .before .before .before .before .before .before .before .before .before .before)) (not-done (c .before .before .before .before .before .before .before)) (known (c .before .before .before .before .before)) (sym (reason-is (c .before .before)) ∙ c .before .if4 .taken)) refl (c .reply-port2 .ensures)
+    let s =
+    sessionOf
+    (c .before .before .before .before .before .before .before .before .before .before .before .before .before .before .before .before .before .args .bytes .now) in
+    stays
+    (c .before .before .before .before .before .before .before .before .before .before .before .before .before .before .before .before .before .args .bytes .now)
+    (octets (c .before .before .before .before .before .before .before .before .before .before .before .before .before .before .before .before))
+    (c .before .before .before .before .before .before .before .before .before .before .before .before .before .before .before .before .before .pre)
+    (cancelled s
+    (c .before .before .before .before .before .before .before .before .before .before .before .before .before .before .before .before .before .args .id))
+    (cancel-again s
+    (c .before .before .before .before .before .before .before .before .before .before .before .before .before .before .before .before .before .args .id)
+    (fine (c .before .before .before .before .before .before .before .before .before .before .before .before .before))
+    (not-done (c .before .before .before .before .before .before .before)) (known (c .before .before .before .before .before))
+    (sym (reason-is (c .before .before)) ∙ c .before .if4 .taken)) refl (c .reply-port2 .ensures)
 
 halt-at-requires : tie.Need-halt-at-requires
-halt-at-requires c κs = c .before .before .before .before .before .before .before .before .before .before .before .before .before .before .before .before .before .pre
+halt-at-requires c κs =
+    c .before .before .before .before .before .before .before .before .before .before .before .before .before .before .before .before .before .pre
 
 reply-port-requires-3 : tie.Need-reply-port-requires-3
 reply-port-requires-3 c κs = search needs
@@ -154,9 +234,20 @@ same-length-5 c = search needs
 
 returns-5 : tie.Need-returns-5
 returns-5 c =
-    let s = sessionOf (c .before .before .before .before .before .before .before .before .before .before .before .before .before .before .before .before .before .before .before .before .before .args .bytes .now) in
-    becomes (c .before .before .before .before .before .before .before .before .before .before .before .before .before .before .before .before .before .before .before .before .before .args .bytes .now) (cancelled s (c .before .before .before .before .before .before .before .before .before .before .before .before .before .before .before .before .before .before .before .before .before .args .id))
-    (cancel-halt s (c .before .before .before .before .before .before .before .before .before .before .before .before .before .before .before .before .before .before .before .before .before .args .id) (fine (c .before .before .before .before .before .before .before .before .before .before .before .before .before .before .before .before .before)) (not-done (c .before .before .before .before .before .before .before .before .before .before .before)) (known (c .before .before .before .before .before .before .before .before .before)) (sym (reason-is (c .before .before .before .before .before .before)) ∙ c .before .before .before .before .before .if4 .left)) (c .reply-port3 .ensures) (c .before .before .before .halt-at .ensures)
+    let s =
+    sessionOf
+    (c .before .before .before .before .before .before .before .before .before .before .before .before .before .before .before .before .before .before .before .before .before .args .bytes .now) in
+    becomes
+    (c .before .before .before .before .before .before .before .before .before .before .before .before .before .before .before .before .before .before .before .before .before .args .bytes .now)
+    (cancelled s
+    (c .before .before .before .before .before .before .before .before .before .before .before .before .before .before .before .before .before .before .before .before .before .args .id))
+    (cancel-halt s
+    (c .before .before .before .before .before .before .before .before .before .before .before .before .before .before .before .before .before .before .before .before .before .args .id)
+    (fine (c .before .before .before .before .before .before .before .before .before .before .before .before .before .before .before .before .before))
+    (not-done (c .before .before .before .before .before .before .before .before .before .before .before))
+    (known (c .before .before .before .before .before .before .before .before .before))
+    (sym (reason-is (c .before .before .before .before .before .before)) ∙ c .before .before .before .before .before .if4 .left)) (c .reply-port3 .ensures)
+    (c .before .before .before .halt-at .ensures)
 
 pub cancel-at-spec : {M : Type 1} → statement M
 cancel-at-spec =

@@ -28,7 +28,9 @@ within : (c : tie.Start Inv-loop μ-loop) → c .args .count ≤ length (session
 within c = omega (arith, c .pre .1, requests-many (c .args .bytes .now))
 
 -- what is read is the entry of the table
-number-is : (c : tie.After-request-at Inv-loop μ-loop) → c .request-at .result .id ≡ getD (sessionOf (c .before .before .before .before .args .bytes .now) .requests) (c .before .before .loop .i) blankRequest .id
+number-is :
+    (c : tie.After-request-at Inv-loop μ-loop)
+    → c .request-at .result .id ≡ getD (sessionOf (c .before .before .before .before .args .bytes .now) .requests) (c .before .before .loop .i) blankRequest .id
 number-is c =
     let xs = c .before .before .before .before .args .bytes .now in
     ap (λ (r : IsoRequest). r .id)
@@ -47,7 +49,11 @@ returns c =
     let a = c .before .before .before .before .before .args in
     let now = c .before .before .before .loop in
     let this = sym (ap (λ (k : ℕ). eqb k (a .id)) (number-is (c .before))) ∙ eq-eqb (c .before .request-at .result .id) (a .id) (c .if1 .taken) in
-    omega (arith, now .inv .2, place-here (a .id) (now .i) (a .count) (sessionOf (a .bytes .now) .requests) (omega arith) (within (c .before .before .before .before .before)) this)
+    omega (
+      arith,
+      now .inv .2,
+      place-here (a .id) (now .i) (a .count) (sessionOf (a .bytes .now) .requests) (omega arith) (within (c .before .before .before .before .before)) this,
+    )
 
 add-at : tie.Need-add-at Inv-loop μ-loop
 add-at c = omega (arith, c .before .before .before .before .before .pre .1)
@@ -65,11 +71,22 @@ loop-again c =
     let other = sym (ap (λ (k : ℕ). eqb k (a .id)) (number-is (c .before))) ∙ ne-eqb (c .before .request-at .result .id) (a .id) (c .if1 .left) in (
       omega arith,
       omega (arith, now .inv .1),
-      omega (arith, now .inv .2, place-next (a .id) (now .i) (a .count) (sessionOf (a .bytes .now) .requests) (omega arith) (within (c .before .before .before .before .before)) other),
+      omega (
+        arith,
+        now .inv .2,
+        place-next (a .id) (now .i) (a .count) (sessionOf (a .bytes .now) .requests) (omega arith) (within (c .before .before .before .before .before))
+            other,
+      ),
     )
 
 returns-2 : tie.Need-returns-2 Inv-loop μ-loop
-returns-2 c = omega (arith, c .before .loop .inv .2, place-past (c .before .before .before .args .id) (c .before .loop .i) (c .before .before .before .args .count) (sessionOf (c .before .before .before .args .bytes .now) .requests) (omega arith))
+returns-2 c =
+    omega (
+      arith,
+      c .before .loop .inv .2,
+      place-past (c .before .before .before .args .id) (c .before .loop .i) (c .before .before .before .args .count)
+          (sessionOf (c .before .before .before .args .bytes .now) .requests) (omega arith),
+    )
 
 pub place-at-spec : {M : Type 1} → statement M
 place-at-spec =

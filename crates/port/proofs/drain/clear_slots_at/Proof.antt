@@ -39,7 +39,8 @@ loop-again c =
     let a = c .before .before .before .before .before .before .before .before .before .args in
     let now = c .before .before .before .before .before .before .loop in
     let plans = plansOf (a .bytes .now) in
-    let zero-at = c .before .before .clear-slot .ensures ∙ ap (λ (n : ℕ). set (set (now .ring) (2 * n) 0) (2 * n + 1) 0) (c .before .before .before .slot-at .ensures) in (
+    let zero-at =
+    c .before .before .clear-slot .ensures ∙ ap (λ (n : ℕ). set (set (now .ring) (2 * n) 0) (2 * n + 1) 0) (c .before .before .before .slot-at .ensures) in (
       c .before .before .clear-slot .kept .0 ∙ now .inv .0,
       cleared-next (now .i) (a .to) plans (now .ring) _ (omega arith) (omega (arith, plans-many (a .bytes .now))) zero-at ∙ now .inv .1,
     )

@@ -43,7 +43,9 @@ head-is : (c : tie.After-head-at Inv-loop μ-loop) → c .head-at .result ≡ se
 head-is c = c .head-at .ensures ∙ head-there (c .before .before .before .before .args .bytes .now)
 
 -- where the plans of the oldest request end, which lies within the table
-to-is : (c : tie.After-packets-at Inv-loop μ-loop) → c .before .before .before .loop .from + c .packets-at .result ≡ oldestTo (sessionOf (c .before .before .before .loop .bytes))
+to-is :
+    (c : tie.After-packets-at Inv-loop μ-loop)
+    → c .before .before .before .loop .from + c .packets-at .result ≡ oldestTo (sessionOf (c .before .before .before .loop .bytes))
 to-is c =
     let now = c .before .before .before .loop in
     oldest-ends (sessionOf (now .bytes)) (now .from) (now .done) (c .packets-at .result) (now .inv .6) (now .inv .4) (c .packets-at .ensures .0)
@@ -51,16 +53,24 @@ to-is c =
 pending : (c : tie.In-loop Inv-loop μ-loop) → sessionOf (c .before .loop .bytes) .head .done < sessionOf (c .before .loop .bytes) .head .count
 pending c = omega (arith, c .before .loop .inv .4, c .before .loop .inv .5)
 
-to-in : (c : tie.After-packets-at Inv-loop μ-loop) → (0 < oldestTo (sessionOf (c .before .before .before .loop .bytes))) × (oldestTo (sessionOf (c .before .before .before .loop .bytes)) ≤ 1024)
+to-in :
+    (c : tie.After-packets-at Inv-loop μ-loop)
+    → (0 < oldestTo (sessionOf (c .before .before .before .loop .bytes))) × (oldestTo (sessionOf (c .before .before .before .loop .bytes)) ≤ 1024)
 to-in c =
     let s = sessionOf (c .before .before .before .loop .bytes) in
     let g = c .before .before .before .loop .inv .0 in
     (oldest-some s g (pending (c .before .before)), omega (arith, oldest-in s g (pending (c .before .before)), g .all-few))
 
-served-is : (c : tie.After-is-served-at Inv-loop μ-loop) → c .is-served-at .result ≡ isServed (sessionOf (c .before .before .before .before .before .before .loop .bytes)) (c .before .before .before .before .before .before .loop .ring)
+served-is :
+    (c : tie.After-is-served-at Inv-loop μ-loop)
+    → c .is-served-at .result
+    ≡ isServed (sessionOf (c .before .before .before .before .before .before .loop .bytes)) (c .before .before .before .before .before .before .loop .ring)
 served-is c =
     c .is-served-at .ensures
-    ∙ ap (λ (n : ℕ). not (isSet active (getD (c .before .before .before .before .before .before .loop .ring) (2 * getD (plansOf (c .before .before .before .before .before .before .loop .bytes)) (n - 1) blankPlan .«desc_index») 0))) (to-is (c .before .before .before))
+    ∙ ap (λ (n : ℕ).
+    not (isSet active (getD (c .before .before .before .before .before .before .loop .ring)
+    (2 * getD (plansOf (c .before .before .before .before .before .before .loop .bytes)) (n - 1) blankPlan .«desc_index») 0)))
+    (to-is (c .before .before .before))
 
 head-at-requires : tie.Need-head-at-requires Inv-loop μ-loop
 head-at-requires c κs = long (c .before .before .before)
@@ -81,7 +91,8 @@ loop-holds c =
       ap (λ (h : IsoHead). h .done) eh,
       ap (λ (h : IsoHead). h .count) eh,
       c .packets-before .ensures ∙ ap (λ (h : IsoHead). packetsOf (slice 0 (h .done) (requestsOf xs))) eh,
-      sym (loaded-saved xs (λ i. omega (arith, c .before .before .before .before .before .slice-known .given i)) (c .before .before .before .before .before .before .pre .0)),
+      sym (loaded-saved xs (λ i. omega (arith, c .before .before .before .before .before .slice-known .given i))
+          (c .before .before .before .before .before .before .pre .0)),
       refl,
     )
 
@@ -89,7 +100,10 @@ cast-packets-at : tie.Need-cast-packets-at Inv-loop μ-loop
 cast-packets-at c = omega (arith, c .before .before .loop .inv .0 .count-in, c .before .before .loop .inv .5)
 
 packets-at-requires : tie.Need-packets-at-requires Inv-loop μ-loop
-packets-at-requires c κs = (omega (arith, long (c .before .before .before .before .before .before .before .before .before), c .before .before .loop .inv .2), omega (arith, c .before .before .loop .inv .0 .count-in, c .before .before .loop .inv .5))
+packets-at-requires c κs = (
+  omega (arith, long (c .before .before .before .before .before .before .before .before .before), c .before .before .loop .inv .2),
+  omega (arith, c .before .before .loop .inv .0 .count-in, c .before .before .loop .inv .5),
+)
 
 add-to : tie.Need-add-to Inv-loop μ-loop
 add-to c = omega (arith, to-is c, to-in c .1)
@@ -97,8 +111,15 @@ add-to c = omega (arith, to-is c, to-in c .1)
 is-served-at-requires : tie.Need-is-served-at-requires Inv-loop μ-loop
 is-served-at-requires c κs =
     let ends = to-is (c .before .before) in
-    let within = to-in (c .before .before) in
-    (omega (arith, long (c .before .before .before .before .before .before .before .before .before .before .before .before), c .before .before .before .before .before .loop .inv .2), omega (arith, ends, within .0), omega (arith, ends, within .1))
+    let within = to-in (c .before .before) in (
+      omega (
+        arith,
+        long (c .before .before .before .before .before .before .before .before .before .before .before .before),
+        c .before .before .before .before .before .loop .inv .2,
+      ),
+      omega (arith, ends, within .0),
+      omega (arith, ends, within .1),
+    )
 
 same-length : tie.Need-same-length Inv-loop μ-loop
 same-length c = c .before .before .before .before .before .before .before .loop .inv .2
@@ -110,17 +131,33 @@ returns : tie.Need-returns Inv-loop μ-loop
 returns c =
     let now = c .before .before .before .before .before .before .before .loop in
     let s = sessionOf (now .bytes) in
-    let stop : (now .at-once || isServed s (now .ring)) ≡ false = ap (λ (b : Bool). now .at-once || b) (sym (served-is (c .before))) ∙ not-true _ (c .if1 .taken) in
-    let e = sym (drained-stop (now .at-once) s (now .ring) (pending (c .before .before .before .before .before .before)) stop) ∙ now .inv .8 in
-    (now .inv .7 ∙ ap (λ (d : Drained). sets (c .before .before .before .before .before .before .before .before .before .before .before .before .before .before .args .bytes .now) 0 (saved (d .session))) e, ap (λ (d : Drained). d .ring) e)
+    let stop : (now .at-once || isServed s (now .ring)) ≡ false =
+    ap (λ (b : Bool). now .at-once || b) (sym (served-is (c .before))) ∙ not-true _ (c .if1 .taken) in
+    let e = sym (drained-stop (now .at-once) s (now .ring) (pending (c .before .before .before .before .before .before)) stop) ∙ now .inv .8 in (
+      now .inv .7
+          ∙ ap (λ (d : Drained).
+          sets (c .before .before .before .before .before .before .before .before .before .before .before .before .before .before .args .bytes .now) 0
+          (saved (d .session))) e,
+      ap (λ (d : Drained). d .ring) e,
+    )
 
 settle-at-requires : tie.Need-settle-at-requires Inv-loop μ-loop
 settle-at-requires c κs =
-    let now = c .before .before .before .before .before .before .before .before .before .loop in
-    (now .inv .1, not-bad (sessionOf (now .bytes)) (now .inv .0), pending (c .before .before .before .before .before .before .before .before), now .inv .6, to-is (c .before .before .before .before .before .before))
+    let now = c .before .before .before .before .before .before .before .before .before .loop in (
+      now .inv .1,
+      not-bad (sessionOf (now .bytes)) (now .inv .0),
+      pending (c .before .before .before .before .before .before .before .before),
+      now .inv .6,
+      to-is (c .before .before .before .before .before .before),
+    )
 
 add-done : tie.Need-add-done Inv-loop μ-loop
-add-done c = omega (arith, c .before .before .before .before .before .before .before .before .before .before .before .before .before .before .loop .inv .0 .count-in, c .before .before .before .before .before .before .before .before .before .before .before .before .before .before .loop .inv .5)
+add-done c =
+    omega (
+      arith,
+      c .before .before .before .before .before .before .before .before .before .before .before .before .before .before .loop .inv .0 .count-in,
+      c .before .before .before .before .before .before .before .before .before .before .before .before .before .before .loop .inv .5,
+    )
 
 loop-less : tie.Need-loop-less Inv-loop μ-loop
 loop-less c = omega arith
@@ -131,17 +168,27 @@ loop-again c =
     let after = c .before .before .before .before .settle-at in
     let s = sessionOf (now .bytes) in
     let t = settledSession s (now .ring) in
-    let more : s .head .done < s .head .count = pending (c .before .before .before .before .before .before .before .before .before .before .before .before .before) in
+    let more : s .head .done < s .head .count =
+    pending (c .before .before .before .before .before .before .before .before .before .before .before .before .before) in
     let g : Sound t = settled-sound s (now .ring) (now .inv .0) more in
-    let call = called-again (c .before .before .before .before .before .before .before .before .before .before .before .before .before .before .before .before .before .before .before .before .before .args .bytes .now) (now .bytes) t (long (c .before .before .before .before .before .before .before .before .before .before .before .before .before .before .before .before .before .before .before .before .before)) (now .inv .2) (g .requests-long) (g .plans-long) (now .inv .7) (after .ensures .0) in
-    let go : (now .at-once || isServed s (now .ring)) ≡ true = ap (λ (b : Bool). now .at-once || b) (sym (served-is (c .before .before .before .before .before .before .before .before))) ∙ not-false _ (c .before .before .before .before .before .before .before .if1 .left) in (
+    let call =
+    called-again
+    (c .before .before .before .before .before .before .before .before .before .before .before .before .before .before .before .before .before .before .before .before .before .args .bytes .now)
+    (now .bytes) t (long
+    (c .before .before .before .before .before .before .before .before .before .before .before .before .before .before .before .before .before .before .before .before .before))
+    (now .inv .2) (g .requests-long) (g .plans-long) (now .inv .7) (after .ensures .0) in
+    let go : (now .at-once || isServed s (now .ring)) ≡ true =
+    ap (λ (b : Bool). now .at-once || b) (sym (served-is (c .before .before .before .before .before .before .before .before)))
+    ∙ not-false _ (c .before .before .before .before .before .before .before .if1 .left) in (
       subst⁻¹ Sound (call .0) g,
       call .1,
       after .kept .0 ∙ now .inv .2,
       after .kept .1 .1 .1 .0 ∙ now .inv .3,
       omega (arith, now .inv .4, ap (λ (u : IsoChannelState). u .head .done) (call .0)),
       now .inv .5 ∙ sym (ap (λ (u : IsoChannelState). u .head .count) (call .0)),
-      to-is (c .before .before .before .before .before .before .before .before .before .before .before) ∙ sym (settled-from s (now .ring) (now .inv .0) more) ∙ sym (ap oldestFrom (call .0)),
+      to-is (c .before .before .before .before .before .before .before .before .before .before .before)
+          ∙ sym (settled-from s (now .ring) (now .inv .0) more)
+          ∙ sym (ap oldestFrom (call .0)),
       call .2,
       ap (λ (u : IsoChannelState). drained false u (after .last .1 .1 .1 .0)) (call .0)
           ∙ ap (drained false t) (after .ensures .1)
@@ -159,8 +206,11 @@ returns-2 : tie.Need-returns-2 Inv-loop μ-loop
 returns-2 c =
     let now = c .before .loop in
     let s = sessionOf (now .bytes) in
-    let e = sym (drained-past (now .at-once) s (now .ring) (omega (arith, now .inv .4, now .inv .5))) ∙ now .inv .8 in
-    (now .inv .7 ∙ ap (λ (d : Drained). sets (c .before .before .before .before .before .before .before .before .args .bytes .now) 0 (saved (d .session))) e, ap (λ (d : Drained). d .ring) e)
+    let e = sym (drained-past (now .at-once) s (now .ring) (omega (arith, now .inv .4, now .inv .5))) ∙ now .inv .8 in (
+      now .inv .7
+          ∙ ap (λ (d : Drained). sets (c .before .before .before .before .before .before .before .before .args .bytes .now) 0 (saved (d .session))) e,
+      ap (λ (d : Drained). d .ring) e,
+    )
 
 pub drain-at-spec : {M : Type 1} → statement M
 drain-at-spec =

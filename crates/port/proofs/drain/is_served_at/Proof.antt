@@ -18,7 +18,9 @@ is-active-at-requires : tie.Need-is-active-at-requires
 is-active-at-requires c κs = search needs
 
 returns : tie.Need-returns
-returns c = ap not (c .is-active-at .ensures ∙ ap (λ (n : ℕ). isSet active (getD (c .before .before .before .before .args .ring .now) (2 * n) 0)) (c .before .slot-at .ensures))
+returns c =
+    ap not (c .is-active-at .ensures
+    ∙ ap (λ (n : ℕ). isSet active (getD (c .before .before .before .before .args .ring .now) (2 * n) 0)) (c .before .slot-at .ensures))
 
 pub is-served-at-spec : {M : Type 1} → statement M
 is-served-at-spec =

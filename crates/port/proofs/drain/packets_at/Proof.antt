@@ -19,8 +19,10 @@ cast-result : tie.Need-cast-result
 cast-result c = search needs
 
 returns : tie.Need-returns
-returns c =
-    (c .u16-at .ensures ∙ packets-there (c .before .before .args .bytes .now) (c .before .before .args .i) (c .before .before .pre .1), omega (arith, c .u16-at .ok))
+returns c = (
+  c .u16-at .ensures ∙ packets-there (c .before .before .args .bytes .now) (c .before .before .args .i) (c .before .before .pre .1),
+  omega (arith, c .u16-at .ok),
+)
 
 pub packets-at-spec : {M : Type 1} → statement M
 packets-at-spec =

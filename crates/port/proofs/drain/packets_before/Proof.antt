@@ -36,7 +36,9 @@ loop-less c = omega arith
 loop-again : tie.Need-loop-again Inv-loop μ-loop
 loop-again c =
     let bytes = c .before .before .before .before .args .bytes .now in
-    let next = packets-next (c .before .before .loop .i) (c .before .before .before .before .args .end) (requestsOf bytes) (omega arith) (omega (arith, requests-many bytes)) in
+    let next =
+    packets-next (c .before .before .loop .i) (c .before .before .before .before .args .end) (requestsOf bytes) (omega arith)
+    (omega (arith, requests-many bytes)) in
     (omega arith, omega arith, omega (arith, next, c .packets-at .ensures .0, c .before .before .loop .inv .2))
 
 returns : tie.Need-returns Inv-loop μ-loop

@@ -29,7 +29,8 @@ head-is : (c : tie.After-head-at) → c .head-at .result ≡ sessionOf (c .befor
 head-is c = c .head-at .ensures ∙ head-there (c .before .before .before .before .args .bytes .now)
 
 in-use : (c : tie.After-head-at) → c .head-at .result .done < 64
-in-use c = omega (arith, ap (λ (h : IsoHead). h .done) (head-is c), c .before .before .before .before .pre .2, good (c .before .before .before .before) .count-in)
+in-use c =
+    omega (arith, ap (λ (h : IsoHead). h .done) (head-is c), c .before .before .before .before .pre .2, good (c .before .before .before .before) .count-in)
 
 head-at-requires : tie.Need-head-at-requires
 head-at-requires c κs = long (c .before .before .before)
@@ -41,10 +42,25 @@ direction-of-requires : tie.Need-direction-of-requires
 direction-of-requires c κs = search needs
 
 settle-plans-at-requires : tie.Need-settle-plans-at-requires
-settle-plans-at-requires c κs = (c .before .before .before .before .before .before .before .before .before .pre .0, omega (arith, c .before .before .before .before .before .before .before .before .before .pre .3, c .before .before .before .before .before .before .before .before .before .pre .4), ends (c .before .before .before .before .before .before .before .before .before))
+settle-plans-at-requires c κs = (
+  c .before .before .before .before .before .before .before .before .before .pre .0,
+  omega (
+    arith,
+    c .before .before .before .before .before .before .before .before .before .pre .3,
+    c .before .before .before .before .before .before .before .before .before .pre .4,
+  ),
+  ends (c .before .before .before .before .before .before .before .before .before),
+)
 
 clear-slots-at-requires : tie.Need-clear-slots-at-requires
-clear-slots-at-requires c κs = (omega (arith, long (c .before .before .before .before .before .before .before .before .before .before .before .before .before .before), c .before .before .before .before .settle-plans-at .kept .0), ends (c .before .before .before .before .before .before .before .before .before .before .before .before .before .before))
+clear-slots-at-requires c κs = (
+  omega (
+    arith,
+    long (c .before .before .before .before .before .before .before .before .before .before .before .before .before .before),
+    c .before .before .before .before .settle-plans-at .kept .0,
+  ),
+  ends (c .before .before .before .before .before .before .before .before .before .before .before .before .before .before),
+)
 
 cast-place : tie.Need-cast-place
 cast-place c = search needs
@@ -56,16 +72,39 @@ add-place : tie.Need-add-place
 add-place c = search needs
 
 request-at-requires : tie.Need-request-at-requires
-request-at-requires c κs = omega (arith, long (c .before .before .before .before .before .before .before .before .before .before .before .before .before .before .before .before .before .before .before), c .before .before .before .before .before .before .before .before .before .settle-plans-at .kept .0, in-use (c .before .before .before .before .before .before .before .before .before .before .before .before .before .before .before))
+request-at-requires c κs =
+    omega (
+      arith,
+      long
+          (c .before .before .before .before .before .before .before .before .before .before .before .before .before .before .before .before .before .before .before),
+      c .before .before .before .before .before .before .before .before .before .settle-plans-at .kept .0,
+      in-use (c .before .before .before .before .before .before .before .before .before .before .before .before .before .before .before),
+    )
 
 put-request-requires : tie.Need-put-request-requires
-put-request-requires c κs = omega (arith, long (c .before .before .before .before .before .before .before .before .before .before .before .before .before .before .before .before .before .before .before .before .before), c .before .before .before .before .before .before .before .before .before .before .before .settle-plans-at .kept .0, in-use (c .before .before .before .before .before .before .before .before .before .before .before .before .before .before .before .before .before))
+put-request-requires c κs =
+    omega (
+      arith,
+      long
+          (c .before .before .before .before .before .before .before .before .before .before .before .before .before .before .before .before .before .before .before .before .before),
+      c .before .before .before .before .before .before .before .before .before .before .before .settle-plans-at .kept .0,
+      in-use (c .before .before .before .before .before .before .before .before .before .before .before .before .before .before .before .before .before),
+    )
 
 one-more-requires : tie.Need-one-more-requires
-one-more-requires c κs = in-use (c .before .before .before .before .before .before .before .before .before .before .before .before .before .before .before .before .before .before .before .before .before)
+one-more-requires c κs =
+    in-use
+    (c .before .before .before .before .before .before .before .before .before .before .before .before .before .before .before .before .before .before .before .before .before)
 
 put-head-requires : tie.Need-put-head-requires
-put-head-requires c κs = omega (arith, long (c .before .before .before .before .before .before .before .before .before .before .before .before .before .before .before .before .before .before .before .before .before .before .before .before .before .before), c .before .before .before .before .before .before .before .before .before .before .before .before .before .before .before .before .settle-plans-at .kept .0, c .before .before .before .before .put-request .kept .0)
+put-head-requires c κs =
+    omega (
+      arith,
+      long
+          (c .before .before .before .before .before .before .before .before .before .before .before .before .before .before .before .before .before .before .before .before .before .before .before .before .before .before),
+      c .before .before .before .before .before .before .before .before .before .before .before .before .before .before .before .before .settle-plans-at .kept .0,
+      c .before .before .before .before .put-request .kept .0,
+    )
 
 same-length : tie.Need-same-length
 same-length c = search needs
@@ -75,14 +114,40 @@ same-length-2 c = search needs
 
 returns : tie.Need-returns
 returns c =
-    let a = c .before .before .before .before .before .before .before .before .before .before .before .before .before .before .before .before .before .before .before .before .before .before .before .before .before .before .before .before .before .args in
+    let a =
+    c .before .before .before .before .before .before .before .before .before .before .before .before .before .before .before .before .before .before .before .before .before .before .before .before .before .before .before .before .before .args in
     let xs = a .bytes .now in
-    let dir = c .before .before .before .before .before .before .before .before .before .before .before .before .before .before .before .before .before .before .before .before .before .before .direction-of .result in
-    let ed = c .before .before .before .before .before .before .before .before .before .before .before .before .before .before .before .before .before .before .before .before .before .before .direction-of .ensures ∙ ap directionOf (c .before .before .before .before .before .before .before .before .before .before .before .before .before .before .before .before .before .before .before .before .before .before .before .byte-at .ensures) ∙ direction-there xs in
-    let plans = c .before .before .before .before .before .before .before .before .before .before .before .before .before .before .before .before .before .before .before .settle-plans-at .ensures in (
-      bytes-settled xs (a .ring .now) (a .from) (a .to) dir (long (c .before .before .before .before .before .before .before .before .before .before .before .before .before .before .before .before .before .before .before .before .before .before .before .before .before .before .before .before .before)) (good (c .before .before .before .before .before .before .before .before .before .before .before .before .before .before .before .before .before .before .before .before .before .before .before .before .before .before .before .before .before)) (c .before .before .before .before .before .before .before .before .before .before .before .before .before .before .before .before .before .before .before .before .before .before .before .before .before .before .before .before .before .pre .2) (c .before .before .before .before .before .before .before .before .before .before .before .before .before .before .before .before .before .before .before .before .before .before .before .before .before .before .before .before .before .pre .3) (c .before .before .before .before .before .before .before .before .before .before .before .before .before .before .before .before .before .before .before .before .before .before .before .before .before .before .before .before .before .pre .4) ed (plans .1) (head-is (c .before .before .before .before .before .before .before .before .before .before .before .before .before .before .before .before .before .before .before .before .before .before .before .before .before)) (plans .0)
-          (c .before .before .before .before .before .before .before .before .before .request-at .ensures) (c .before .before .before .before .before .before .before .put-request .ensures) (c .before .before .before .one-more .ensures) (c .before .before .put-head .ensures),
-      ring-settled xs (a .ring .now) (a .from) (a .to) dir (long (c .before .before .before .before .before .before .before .before .before .before .before .before .before .before .before .before .before .before .before .before .before .before .before .before .before .before .before .before .before)) (good (c .before .before .before .before .before .before .before .before .before .before .before .before .before .before .before .before .before .before .before .before .before .before .before .before .before .before .before .before .before)) (c .before .before .before .before .before .before .before .before .before .before .before .before .before .before .before .before .before .before .before .before .before .before .before .before .before .before .before .before .before .pre .2) (c .before .before .before .before .before .before .before .before .before .before .before .before .before .before .before .before .before .before .before .before .before .before .before .before .before .before .before .before .before .pre .3) (c .before .before .before .before .before .before .before .before .before .before .before .before .before .before .before .before .before .before .before .before .before .before .before .before .before .before .before .before .before .pre .4) ed (plans .1) (c .before .before .before .before .before .before .before .before .before .before .before .before .before .before .clear-slots-at .ensures),
+    let dir =
+    c .before .before .before .before .before .before .before .before .before .before .before .before .before .before .before .before .before .before .before .before .before .before .direction-of .result in
+    let ed =
+    c .before .before .before .before .before .before .before .before .before .before .before .before .before .before .before .before .before .before .before .before .before .before .direction-of .ensures
+    ∙ ap directionOf
+    (c .before .before .before .before .before .before .before .before .before .before .before .before .before .before .before .before .before .before .before .before .before .before .before .byte-at .ensures)
+    ∙ direction-there xs in
+    let plans =
+    c .before .before .before .before .before .before .before .before .before .before .before .before .before .before .before .before .before .before .before .settle-plans-at .ensures in (
+      bytes-settled xs (a .ring .now) (a .from) (a .to) dir (long
+          (c .before .before .before .before .before .before .before .before .before .before .before .before .before .before .before .before .before .before .before .before .before .before .before .before .before .before .before .before .before))
+          (good
+          (c .before .before .before .before .before .before .before .before .before .before .before .before .before .before .before .before .before .before .before .before .before .before .before .before .before .before .before .before .before))
+          (c .before .before .before .before .before .before .before .before .before .before .before .before .before .before .before .before .before .before .before .before .before .before .before .before .before .before .before .before .before .pre .2)
+          (c .before .before .before .before .before .before .before .before .before .before .before .before .before .before .before .before .before .before .before .before .before .before .before .before .before .before .before .before .before .pre .3)
+          (c .before .before .before .before .before .before .before .before .before .before .before .before .before .before .before .before .before .before .before .before .before .before .before .before .before .before .before .before .before .pre .4)
+          ed (plans .1) (head-is
+          (c .before .before .before .before .before .before .before .before .before .before .before .before .before .before .before .before .before .before .before .before .before .before .before .before .before))
+          (plans .0)
+          (c .before .before .before .before .before .before .before .before .before .request-at .ensures)
+          (c .before .before .before .before .before .before .before .put-request .ensures) (c .before .before .before .one-more .ensures)
+          (c .before .before .put-head .ensures),
+      ring-settled xs (a .ring .now) (a .from) (a .to) dir (long
+          (c .before .before .before .before .before .before .before .before .before .before .before .before .before .before .before .before .before .before .before .before .before .before .before .before .before .before .before .before .before))
+          (good
+          (c .before .before .before .before .before .before .before .before .before .before .before .before .before .before .before .before .before .before .before .before .before .before .before .before .before .before .before .before .before))
+          (c .before .before .before .before .before .before .before .before .before .before .before .before .before .before .before .before .before .before .before .before .before .before .before .before .before .before .before .before .before .pre .2)
+          (c .before .before .before .before .before .before .before .before .before .before .before .before .before .before .before .before .before .before .before .before .before .before .before .before .before .before .before .before .before .pre .3)
+          (c .before .before .before .before .before .before .before .before .before .before .before .before .before .before .before .before .before .before .before .before .before .before .before .before .before .before .before .before .before .pre .4)
+          ed (plans .1)
+          (c .before .before .before .before .before .before .before .before .before .before .before .before .before .before .clear-slots-at .ensures),
     )
 
 pub settle-at-spec : {M : Type 1} → statement M

@@ -25,8 +25,10 @@ use Rattle.port.proofs.drain.settle_plans_at.Tie as tie
 abbrev Inv-loop : tie.InvT-loop
 Inv-loop bytes₀ from to direction ring sum₀ i₀ bytes sum i =
     (i ≤ to) × (length bytes ≡ length bytes₀) × (sum ≤ 65535 * i) × (bytes ≡ sets bytes₀ 0 (saved (withPlans (sessionOf bytes₀) (plansOf bytes))))
-    × (sets (plansOf bytes) i (map (settledPlan direction ring) (slice i to (plansOf bytes))) ≡ sets (plansOf bytes₀) from (map (settledPlan direction ring) (slice from to (plansOf bytes₀))))
-    × (sum + movedTotal (map (settledPlan direction ring) (slice i to (plansOf bytes))) ≡ movedTotal (map (settledPlan direction ring) (slice from to (plansOf bytes₀))))
+    × (sets (plansOf bytes) i (map (settledPlan direction ring) (slice i to (plansOf bytes)))
+    ≡ sets (plansOf bytes₀) from (map (settledPlan direction ring) (slice from to (plansOf bytes₀))))
+    × (sum + movedTotal (map (settledPlan direction ring) (slice i to (plansOf bytes)))
+    ≡ movedTotal (map (settledPlan direction ring) (slice from to (plansOf bytes₀))))
 
 abbrev μ-loop : tie.MeasureT-loop
 μ-loop bytes₀ from to direction ring sum₀ i₀ bytes sum i = to - i
@@ -74,15 +76,20 @@ loop-again c =
     let f = settledPlan (a .direction) (a .ring .now) in
     let below : now .i < 1024 = omega arith in
     let v = c .before .before .before .before .before .settled-plan .result in
-    let ev = c .before .before .before .before .before .settled-plan .ensures ∙ ap f (c .before .before .before .before .before .before .plan-at .ensures ∙ plan-there (now .bytes) (now .i) blankPlan below) in
-    let turn = plan-turn xs (sessionOf xs) (long (c .before .before .before .before .before .before .before .before .before .before .before .before)) (requests-many xs) (now .i) v below (now .inv .3) (c .before .before .before .put-plan .ensures) in
+    let ev =
+    c .before .before .before .before .before .settled-plan .ensures
+    ∙ ap f (c .before .before .before .before .before .before .plan-at .ensures ∙ plan-there (now .bytes) (now .i) blankPlan below) in
+    let turn =
+    plan-turn xs (sessionOf xs) (long (c .before .before .before .before .before .before .before .before .before .before .before .before)) (requests-many xs)
+    (now .i) v below (now .inv .3) (c .before .before .before .put-plan .ensures) in
     let many : a .to ≤ length (plansOf (now .bytes)) = omega (arith, plans-many (now .bytes)) in (
       omega arith,
       c .before .before .before .put-plan .kept .0 ∙ now .inv .1,
       omega arith,
       turn .1,
       plans-turn f (now .i) (a .to) (plansOf (now .bytes)) (omega arith) many (turn .0) ev ∙ now .inv .4,
-      sum-turn f (now .i) (a .to) (plansOf (now .bytes)) (omega arith) many (turn .0) ev (now .sum) (c .length-of .result) (c .length-of .ensures .0) ∙ now .inv .5,
+      sum-turn f (now .i) (a .to) (plansOf (now .bytes)) (omega arith) many (turn .0) ev (now .sum) (c .length-of .result) (c .length-of .ensures .0)
+          ∙ now .inv .5,
     )
 
 same-length : tie.Need-same-length Inv-loop μ-loop
@@ -93,7 +100,8 @@ returns c =
     let a = c .before .before .before .before .args in
     let now = c .before .loop in
     let f = settledPlan (a .direction) (a .ring .now) in
-    let none : movedTotal (map f (slice (now .i) (a .to) (plansOf (now .bytes)))) ≡ 0 = ap (λ (ps : List IsoPacketPlan). movedTotal (map f ps)) (slice-past (now .i) (a .to) (plansOf (now .bytes)) (omega arith)) in
+    let none : movedTotal (map f (slice (now .i) (a .to) (plansOf (now .bytes)))) ≡ 0 =
+    ap (λ (ps : List IsoPacketPlan). movedTotal (map f ps)) (slice-past (now .i) (a .to) (plansOf (now .bytes)) (omega arith)) in
     let all = sym (write-past (map f) (now .i) (now .i) (a .to) (plansOf (now .bytes)) (plansOf (now .bytes)) refl (omega arith)) ∙ now .inv .4 in (
       omega (arith, none, now .inv .5),
       now .inv .3 ∙ ap (λ (ps : List IsoPacketPlan). sets (a .bytes .now) 0 (saved (withPlans (sessionOf (a .bytes .now)) ps))) all,

@@ -35,14 +35,16 @@ ring-words-requires : tie.Need-ring-words-requires
 ring-words-requires c κs = search needs
 
 head-at-requires : tie.Need-head-at-requires
-head-at-requires c κs = long-enough (c .before .before .before .before .before .before .args .bytes .now) refl (c .before .before .before .before .before .before .pre .0)
+head-at-requires c κs =
+    long-enough (c .before .before .before .before .before .before .args .bytes .now) refl (c .before .before .before .before .before .before .pre .0)
 
 fail-at-requires : tie.Need-fail-at-requires
 fail-at-requires c κs =
     let xs = c .before .before .before .before .before .before .before .before .args .bytes .now in
     let g = good (c .before .before .before .before .before .before .before .before) in (
       long-enough xs refl (c .before .before .before .before .before .before .before .before .pre .0),
-      same-bytes xs (octets (c .before .before .before .before .before .before .before)) (c .before .before .before .before .before .before .before .before .pre .0),
+      same-bytes xs (octets (c .before .before .before .before .before .before .before))
+          (c .before .before .before .before .before .before .before .before .pre .0),
       subst⁻¹ (λ (h : IsoHead). h .done ≤ h .count) (head-is (c .before)) (g .done-in),
       subst⁻¹ (λ (h : IsoHead). h .count ≤ 64) (head-is (c .before)) (g .count-in),
     )
@@ -52,7 +54,9 @@ ended-head-requires c κs = search needs
 
 put-head-requires : tie.Need-put-head-requires
 put-head-requires c κs =
-    let enough : 8488 ≤ length (c .before .before .before .before .before .before .before .before .before .before .before .before .before .args .bytes .now) = long-enough (c .before .before .before .before .before .before .before .before .before .before .before .before .before .args .bytes .now) refl (c .before .before .before .before .before .before .before .before .before .before .before .before .before .pre .0) in
+    let enough : 8488 ≤ length (c .before .before .before .before .before .before .before .before .before .before .before .before .before .args .bytes .now) =
+    long-enough (c .before .before .before .before .before .before .before .before .before .before .before .before .before .args .bytes .now) refl
+    (c .before .before .before .before .before .before .before .before .before .before .before .before .before .pre .0) in
     omega (arith, c .before .before .before .before .fail-at .kept .0)
 
 fatal-tagged-requires : tie.Need-fatal-tagged-requires
@@ -60,8 +64,19 @@ fatal-tagged-requires c κs = search needs
 
 put-tagged-requires : tie.Need-put-tagged-requires
 put-tagged-requires c κs =
-    let enough : 8488 ≤ length (c .before .before .before .before .before .before .before .before .before .before .before .before .before .before .before .before .before .before .args .bytes .now) = long-enough (c .before .before .before .before .before .before .before .before .before .before .before .before .before .before .before .before .before .before .args .bytes .now) refl (c .before .before .before .before .before .before .before .before .before .before .before .before .before .before .before .before .before .before .pre .0) in
-    omega (arith, c .before .before .before .before .before .before .before .before .before .fail-at .kept .0, c .before .before .before .before .put-head .kept .0)
+    let enough : 8488
+    ≤ length
+    (c .before .before .before .before .before .before .before .before .before .before .before .before .before .before .before .before .before .before .args .bytes .now)
+    =
+    long-enough
+    (c .before .before .before .before .before .before .before .before .before .before .before .before .before .before .before .before .before .before .args .bytes .now)
+    refl
+    (c .before .before .before .before .before .before .before .before .before .before .before .before .before .before .before .before .before .before .pre .0) in
+    omega (
+      arith,
+      c .before .before .before .before .before .before .before .before .before .fail-at .kept .0,
+      c .before .before .before .before .put-head .kept .0,
+    )
 
 clear-first-requires : tie.Need-clear-first-requires
 clear-first-requires c κs = search needs
@@ -74,15 +89,28 @@ same-length-2 c = search needs
 
 returns : tie.Need-returns
 returns c =
-    let a = c .before .before .before .before .before .before .before .before .before .before .before .before .before .before .before .before .before .before .before .before .before .before .before .before .before .args in
+    let a =
+    c .before .before .before .before .before .before .before .before .before .before .before .before .before .before .before .before .before .before .before .before .before .before .before .before .before .args in
     let s = sessionOf (a .bytes .now) in
     let ring = a .ring .now in
-    let words = c .before .before .before .before .before .before .before .before .before .before .before .before .before .before .before .before .before .before .before .before .ring-words .ensures .0 ∙ ap ringWords (c .before .before .before .before .before .before .before .before .before .before .before .before .before .before .before .before .before .before .before .before .before .config-at .ensures ∙ config-there (a .bytes .now)) in (
-      end-put (a .bytes .now) (a .outcome) (long-enough (a .bytes .now) refl (c .before .before .before .before .before .before .before .before .before .before .before .before .before .before .before .before .before .before .before .before .before .before .before .before .before .pre .0)) (head-is (c .before .before .before .before .before .before .before .before .before .before .before .before .before .before .before .before .before .before)) (c .before .before .before .before .before .before .before .before .before .before .before .before .before .before .before .before .fail-at .ensures) (c .before .before .before .before .before .before .before .before .before .before .before .before .ended-head .ensures)
-          (c .before .before .before .before .before .before .before .before .before .before .before .put-head .ensures) (c .before .before .before .before .before .before .before .fatal-tagged .ensures) (c .before .before .before .before .before .before .put-tagged .ensures),
+    let words =
+    c .before .before .before .before .before .before .before .before .before .before .before .before .before .before .before .before .before .before .before .before .ring-words .ensures .0
+    ∙ ap ringWords
+    (c .before .before .before .before .before .before .before .before .before .before .before .before .before .before .before .before .before .before .before .before .before .config-at .ensures
+    ∙ config-there (a .bytes .now)) in (
+      end-put (a .bytes .now) (a .outcome) (long-enough (a .bytes .now) refl
+          (c .before .before .before .before .before .before .before .before .before .before .before .before .before .before .before .before .before .before .before .before .before .before .before .before .before .pre .0))
+          (head-is
+          (c .before .before .before .before .before .before .before .before .before .before .before .before .before .before .before .before .before .before))
+          (c .before .before .before .before .before .before .before .before .before .before .before .before .before .before .before .before .fail-at .ensures)
+          (c .before .before .before .before .before .before .before .before .before .before .before .before .ended-head .ensures)
+          (c .before .before .before .before .before .before .before .before .before .before .before .put-head .ensures)
+          (c .before .before .before .before .before .before .before .fatal-tagged .ensures)
+          (c .before .before .before .before .before .before .put-tagged .ensures),
       c .before .before .clear-first .ensures
           ∙ ap (λ (n : ℕ). cond (ltb (length ring) n) ring (cleared n ring)) words
-          ∙ ap (λ (b : Bool). cond b ring (cleared (ringWords (s .cfg)) ring)) (le-ltb (length ring) (ringWords (s .cfg)) (c .before .before .before .before .before .before .before .before .before .before .before .before .before .before .before .before .before .before .before .before .before .before .before .before .before .pre .2)),
+          ∙ ap (λ (b : Bool). cond b ring (cleared (ringWords (s .cfg)) ring)) (le-ltb (length ring) (ringWords (s .cfg))
+          (c .before .before .before .before .before .before .before .before .before .before .before .before .before .before .before .before .before .before .before .before .before .before .before .before .before .pre .2)),
     )
 
 pub end-at-spec : {M : Type 1} → statement M

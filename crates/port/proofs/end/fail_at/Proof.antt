@@ -53,8 +53,10 @@ loop-again c =
     let next = c .before .before .put-outcome .last .0 in (
       omega arith,
       c .before .before .put-outcome .kept .0 ∙ now .inv .1,
-      turn-held (a .bytes .now) (now .bytes) next (a .outcome) (now .i) (a .to) (c .before .before .before .before .before .before .before .pre .0) (now .inv .2) (omega arith) (c .before .before .before .before .before .before .before .pre .3) (c .before .before .put-outcome .ensures),
-      turn-left (a .bytes .now) (now .bytes) next (a .outcome) (now .i) (a .to) (c .before .before .before .before .before .before .before .pre .0) (now .inv .2) (omega arith) (c .before .before .before .before .before .before .before .pre .3) (c .before .before .put-outcome .ensures)
+      turn-held (a .bytes .now) (now .bytes) next (a .outcome) (now .i) (a .to) (c .before .before .before .before .before .before .before .pre .0)
+          (now .inv .2) (omega arith) (c .before .before .before .before .before .before .before .pre .3) (c .before .before .put-outcome .ensures),
+      turn-left (a .bytes .now) (now .bytes) next (a .outcome) (now .i) (a .to) (c .before .before .before .before .before .before .before .pre .0)
+          (now .inv .2) (omega arith) (c .before .before .before .before .before .before .before .pre .3) (c .before .before .put-outcome .ensures)
           ∙ now .inv .3,
     )
 

@@ -23,7 +23,11 @@ same-length c = search needs
 returns : tie.Need-returns
 returns c =
     c .before .before .put-request .ensures
-    ∙ ap (λ (q : IsoRequest). sets (c .before .before .before .before .before .before .before .before .args .bytes .now) (c .before .before .before .before .before .before .before .before .args .at) (requestBytes q)) (c .before .before .before .with-outcome .ensures ∙ ap (withOutcome (c .before .before .before .before .before .before .before .before .args .outcome)) (c .before .before .before .before .before .request-at .ensures))
+    ∙ ap (λ (q : IsoRequest).
+    sets (c .before .before .before .before .before .before .before .before .args .bytes .now)
+    (c .before .before .before .before .before .before .before .before .args .at) (requestBytes q)) (c .before .before .before .with-outcome .ensures
+    ∙ ap (withOutcome (c .before .before .before .before .before .before .before .before .args .outcome))
+    (c .before .before .before .before .before .request-at .ensures))
 
 pub put-outcome-spec : {M : Type 1} → statement M
 put-outcome-spec =

@@ -33,7 +33,8 @@ same-length c = search needs
 
 returns : tie.Need-returns
 returns c =
-    let a = c .before .before .before .before .before .before .before .before .before .before .before .before .before .before .before .before .before .before .args in
+    let a =
+    c .before .before .before .before .before .before .before .before .before .before .before .before .before .before .before .before .before .before .args in
     plan-put (a .bytes .now) (a .at) (a .plan) (c .before .before .before .status-tag .result)
     (c .before .before .before .before .before .before .before .before .before .before .before .before .before .before .before .put-u16 .ensures)
     (c .before .before .before .before .before .before .before .before .before .before .before .put-u162 .ensures)

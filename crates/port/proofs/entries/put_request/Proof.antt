@@ -33,7 +33,8 @@ same-length c = search needs
 
 returns : tie.Need-returns
 returns c =
-    let a = c .before .before .before .before .before .before .before .before .before .before .before .before .before .before .before .before .before .before .args in
+    let a =
+    c .before .before .before .before .before .before .before .before .before .before .before .before .before .before .before .before .before .before .args in
     request-put (a .bytes .now) (a .at) (a .request) (c .before .before .before .outcome-tagged .result)
     (c .before .before .before .before .before .before .before .before .before .before .before .before .before .before .before .put-u64 .ensures)
     (c .before .before .before .before .before .before .before .before .before .before .before .put-u32 .ensures)

@@ -29,10 +29,14 @@ any-of-eight-requires-2 c κs = omega arith
 
 returns : tie.Need-returns Inv-loop μ-loop
 returns c =
-    any-group isBadPlanBytes 7 16 (1024 - 16 * (c .before .before .before .before .loop .i + 1)) (1024 - 16 * c .before .before .before .before .loop .i) (c .before .before .before .before .loop .at) (c .before .before .before .before .loop .at + 112) (c .before .before .before .before .before .before .args .bytes .now) (omega arith)
+    any-group isBadPlanBytes 7 16 (1024 - 16 * (c .before .before .before .before .loop .i + 1)) (1024 - 16 * c .before .before .before .before .loop .i)
+    (c .before .before .before .before .loop .at) (c .before .before .before .before .loop .at + 112)
+    (c .before .before .before .before .before .before .args .bytes .now) (omega arith)
     (omega arith)
     (sym (c .if1 .taken)
-    ∙ any-both isBadPlanBytes 7 8 8 (c .before .before .before .before .loop .at) (c .before .before .before .before .loop .at + 56) (c .before .before .before .before .before .before .args .bytes .now) (omega arith) (c .before .before .any-of-eight .ensures) (c .before .any-of-eight2 .ensures))
+    ∙ any-both isBadPlanBytes 7 8 8 (c .before .before .before .before .loop .at) (c .before .before .before .before .loop .at + 56)
+    (c .before .before .before .before .before .before .args .bytes .now) (omega arith) (c .before .before .any-of-eight .ensures)
+    (c .before .any-of-eight2 .ensures))
     ∙ c .before .before .before .before .loop .inv .2
 
 add-at : tie.Need-add-at Inv-loop μ-loop
@@ -48,15 +52,21 @@ loop-again : tie.Need-loop-again Inv-loop μ-loop
 loop-again c = (
   omega arith,
   omega arith,
-  any-group isBadPlanBytes 7 16 (1024 - 16 * (c .before .before .before .before .loop .i + 1)) (1024 - 16 * c .before .before .before .before .loop .i) (c .before .before .before .before .loop .at) (c .before .before .before .before .loop .at + 112) (c .before .before .before .before .before .before .args .bytes .now) (omega arith)
+  any-group isBadPlanBytes 7 16 (1024 - 16 * (c .before .before .before .before .loop .i + 1)) (1024 - 16 * c .before .before .before .before .loop .i)
+      (c .before .before .before .before .loop .at) (c .before .before .before .before .loop .at + 112)
+      (c .before .before .before .before .before .before .args .bytes .now) (omega arith)
       (omega arith)
       (sym (c .if1 .left)
-      ∙ any-both isBadPlanBytes 7 8 8 (c .before .before .before .before .loop .at) (c .before .before .before .before .loop .at + 56) (c .before .before .before .before .before .before .args .bytes .now) (omega arith) (c .before .before .any-of-eight .ensures) (c .before .any-of-eight2 .ensures))
+      ∙ any-both isBadPlanBytes 7 8 8 (c .before .before .before .before .loop .at) (c .before .before .before .before .loop .at + 56)
+      (c .before .before .before .before .before .before .args .bytes .now) (omega arith) (c .before .before .any-of-eight .ensures)
+      (c .before .any-of-eight2 .ensures))
       ∙ c .before .before .before .before .loop .inv .2,
 )
 
 returns-2 : tie.Need-returns-2 Inv-loop μ-loop
-returns-2 c = any-end isBadPlanBytes 7 1024 (16 * c .before .loop .i) (drop (c .before .loop .at) (c .before .before .before .args .bytes .now)) (omega arith) ∙ c .before .loop .inv .2
+returns-2 c =
+    any-end isBadPlanBytes 7 1024 (16 * c .before .loop .i) (drop (c .before .loop .at) (c .before .before .before .args .bytes .now)) (omega arith)
+    ∙ c .before .loop .inv .2
 
 pub any-bad-plan-spec : {M : Type 1} → statement M
 any-bad-plan-spec =

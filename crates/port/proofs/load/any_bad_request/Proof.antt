@@ -46,7 +46,9 @@ loop-again c = (
 )
 
 returns-2 : tie.Need-returns-2 Inv-loop μ-loop
-returns-2 c = any-end isBadRequestBytes 20 64 (c .before .loop .i) (drop (c .before .loop .at) (c .before .before .before .args .bytes .now)) (omega arith) ∙ c .before .loop .inv .2
+returns-2 c =
+    any-end isBadRequestBytes 20 64 (c .before .loop .i) (drop (c .before .loop .at) (c .before .before .before .args .bytes .now)) (omega arith)
+    ∙ c .before .loop .inv .2
 
 pub any-bad-request-spec : {M : Type 1} → statement M
 any-bad-request-spec =

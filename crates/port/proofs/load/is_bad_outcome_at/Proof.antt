@@ -13,7 +13,9 @@ u64-at-requires : tie.Need-u64-at-requires
 u64-at-requires c κs = search needs
 
 returns : tie.Need-returns
-returns c = no-outcome (c .before .before .before .args .bytes .now) (c .before .before .before .args .at) (subst (λ (n : ℕ). n < 65_536) (c .before .u64-at .ensures) (c .if1 .taken))
+returns c =
+    no-outcome (c .before .before .before .args .bytes .now) (c .before .before .before .args .at)
+    (subst (λ (n : ℕ). n < 65_536) (c .before .u64-at .ensures) (c .if1 .taken))
 
 is-bad-request-at-requires : tie.Need-is-bad-request-at-requires
 is-bad-request-at-requires c κs = search needs

@@ -3,8 +3,8 @@ use borrow.Author.Needs.{needs}
 use Rattle.port.proofs.planning.control_numbers.Statement.{statement}
 use Rattle.port.proofs.planning.control_numbers.Tie as tie
 
-answer-number-requires : tie.Need-answer-number-requires
-answer-number-requires c κs = search needs
+plan-number-requires : tie.Need-plan-number-requires
+plan-number-requires c κs = search needs
 
 flag-requires : tie.Need-flag-requires
 flag-requires c κs = search needs
@@ -25,14 +25,14 @@ returns c =
       c .before .stage-numbers2 .ensures,
       c .before .before .stage-numbers .ensures,
       c .before .before .before .flag .ensures,
-      c .before .before .before .before .answer-number .ensures,
+      c .before .before .before .before .plan-number .ensures,
     )
 
 pub control-numbers-spec : {M : Type 1} → statement M
 control-numbers-spec =
     tie.close
     (tie.spec
-    answer-number-requires
+    plan-number-requires
     flag-requires
     stage-numbers-requires
     stage-numbers-requires-2

@@ -9,8 +9,8 @@ use Rattle.port.proofs.planning.data_numbers.Tie as tie
 long : (c : tie.Start) → length (c .args .t1 .stages) ≡ 4
 long c = sym (length-map (c .args .t1 .stages) _) ∙ c .good .0 .1 .1 .1 .1 .1 .0 .1 .0 .1
 
-answer-number-requires : tie.Need-answer-number-requires
-answer-number-requires c κs = search needs
+plan-number-requires : tie.Need-plan-number-requires
+plan-number-requires c κs = search needs
 
 flag-requires : tie.Need-flag-requires
 flag-requires c κs = search needs
@@ -44,7 +44,7 @@ returns c =
     data-counted
     (c .before .before .before .before .before .before .before .before .before .before .before .args .t1)
     (long (c .before .before .before .before .before .before .before .before .before .before .before))
-    (c .before .before .before .before .before .before .before .before .before .answer-number .ensures)
+    (c .before .before .before .before .before .before .before .before .before .plan-number .ensures)
     (c .before .before .before .before .before .before .before .before .flag .ensures)
     (c .before .before .before .before .before .before .stage-numbers .ensures)
     (c .before .before .before .before .stage-numbers2 .ensures)
@@ -55,7 +55,7 @@ pub data-numbers-spec : {M : Type 1} → statement M
 data-numbers-spec =
     tie.close
     (tie.spec
-    answer-number-requires
+    plan-number-requires
     flag-requires
     element-copy-out-stage-numbers
     stage-numbers-requires

@@ -22,7 +22,8 @@ fatal-tagged-requires c κs = search needs
 
 put-tagged-requires : tie.Need-put-tagged-requires
 put-tagged-requires c κs =
-    let enough : 8488 ≤ length (c .before .before .before .args .bytes .now) = long-enough (c .before .before .before .args .bytes .now) refl (c .before .before .before .pre) in
+    let enough : 8488 ≤ length (c .before .before .before .args .bytes .now) =
+    long-enough (c .before .before .before .args .bytes .now) refl (c .before .before .before .pre) in
     omega arith
 
 same-length : tie.Need-same-length
@@ -33,7 +34,8 @@ returns c =
     let xs = c .before .before .before .before .before .before .args .bytes .now in
     c .before .before .put-tagged .ensures
     ∙ ap (λ (t : Tagged). sets xs 34 (taggedBytes t)) (c .before .before .before .fatal-tagged .ensures)
-    ∙ reason-here xs (octets (c .before .before .before .before .before)) (c .before .before .before .before .before .before .pre) (Reason (c .before .before .before .before .before .before .args .reason))
+    ∙ reason-here xs (octets (c .before .before .before .before .before)) (c .before .before .before .before .before .before .pre)
+    (Reason (c .before .before .before .before .before .before .args .reason))
 
 pub halt-at-spec : {M : Type 1} → statement M
 halt-at-spec =

@@ -23,7 +23,9 @@ ring-words-requires c κs = search needs
 returns : tie.Need-returns
 returns c =
     let s = sessionOf (c .before .before .before .before .args .bytes .now) in
-    let short : ltb (c .before .before .before .before .args .words) (ringWords (s .cfg)) ≡ true = sym (ap (ltb (c .before .before .before .before .args .words)) (least-is (c .before))) ∙ lt-ltb (c .before .before .before .before .args .words) (c .before .ring-words .result) (c .if1 .taken) in
+    let short : ltb (c .before .before .before .before .args .words) (ringWords (s .cfg)) ≡ true =
+    sym (ap (ltb (c .before .before .before .before .args .words)) (least-is (c .before)))
+    ∙ lt-ltb (c .before .before .before .before .args .words) (c .before .ring-words .result) (c .if1 .taken) in
     sym (ap (λ (b : Bool). cond b 17 (cond (isBadRecord s) 18 0)) short)
 
 scan-at-requires : tie.Need-scan-at-requires
@@ -32,13 +34,17 @@ scan-at-requires c κs = search needs
 returns-2 : tie.Need-returns-2
 returns-2 c =
     let s = sessionOf (c .before .before .before .before .before .before .args .bytes .now) in
-    let long : ltb (c .before .before .before .before .before .before .args .words) (ringWords (s .cfg)) ≡ false = sym (ap (ltb (c .before .before .before .before .before .before .args .words)) (least-is (c .before .before .before))) ∙ le-ltb (c .before .before .before .before .before .before .args .words) (c .before .before .before .ring-words .result) (c .before .before .if1 .left) in
+    let long : ltb (c .before .before .before .before .before .before .args .words) (ringWords (s .cfg)) ≡ false =
+    sym (ap (ltb (c .before .before .before .before .before .before .args .words)) (least-is (c .before .before .before)))
+    ∙ le-ltb (c .before .before .before .before .before .before .args .words) (c .before .before .before .ring-words .result) (c .before .before .if1 .left) in
     sym (ap₂ (λ (a b : Bool). cond a 17 (cond b 18 0)) long (sym (c .before .scan-at .ensures .bad) ∙ c .if2 .taken))
 
 returns-3 : tie.Need-returns-3
 returns-3 c =
     let s = sessionOf (c .before .before .before .before .before .before .args .bytes .now) in
-    let long : ltb (c .before .before .before .before .before .before .args .words) (ringWords (s .cfg)) ≡ false = sym (ap (ltb (c .before .before .before .before .before .before .args .words)) (least-is (c .before .before .before))) ∙ le-ltb (c .before .before .before .before .before .before .args .words) (c .before .before .before .ring-words .result) (c .before .before .if1 .left) in
+    let long : ltb (c .before .before .before .before .before .before .args .words) (ringWords (s .cfg)) ≡ false =
+    sym (ap (ltb (c .before .before .before .before .before .before .args .words)) (least-is (c .before .before .before)))
+    ∙ le-ltb (c .before .before .before .before .before .before .args .words) (c .before .before .before .ring-words .result) (c .before .before .if1 .left) in
     sym (ap₂ (λ (a b : Bool). cond a 17 (cond b 18 0)) long (sym (c .before .scan-at .ensures .bad) ∙ c .if2 .left))
 
 pub lent-refusal-spec : {M : Type 1} → statement M

@@ -16,11 +16,16 @@ use Rattle.port.proofs.poll.poll_at.Tie as tie
 octets : (c : tie.After-slice-known) → Octets (c .before .args .bytes .now)
 octets c i = omega (arith, c .slice-known .given i)
 
-way-is : (c : tie.After-way-of) → c .way-of .result ≡ pollWay (sessionOf (c .before .before .before .before .before .before .before .args .bytes .now)) (c .before .before .before .before .before .before .before .args .event)
+way-is :
+    (c : tie.After-way-of)
+    → c .way-of .result
+    ≡ pollWay (sessionOf (c .before .before .before .before .before .before .before .args .bytes .now))
+    (c .before .before .before .before .before .before .before .args .event)
 way-is c =
     let xs = c .before .before .before .before .before .before .before .args .bytes .now in
     c .way-of .ensures
-    ∙ ap₂ (λ (h : IsoHead) (f : IsoFatal). wayOf h f (c .before .before .before .before .before .before .before .args .event)) (c .before .before .before .head-at .ensures ∙ head-there xs) (c .before .reason-at .ensures ∙ reason-there xs)
+    ∙ ap₂ (λ (h : IsoHead) (f : IsoFatal). wayOf h f (c .before .before .before .before .before .before .before .args .event))
+    (c .before .before .before .head-at .ensures ∙ head-there xs) (c .before .reason-at .ensures ∙ reason-there xs)
 
 head-at-requires : tie.Need-head-at-requires
 head-at-requires c κs = long-enough (c .before .before .before .args .bytes .now) refl (c .before .before .before .pre .0)
@@ -41,7 +46,11 @@ enum-known-way : tie.Need-enum-known-way
 enum-known-way c = search needs
 
 end-at-requires : tie.Need-end-at-requires
-end-at-requires c κs = (c .before .before .before .before .before .before .before .before .before .before .before .before .pre .0, c .before .before .before .before .before .before .before .before .before .before .before .before .pre .1, c .before .before .before .before .before .before .before .before .before .before .before .before .pre .2)
+end-at-requires c κs = (
+  c .before .before .before .before .before .before .before .before .before .before .before .before .pre .0,
+  c .before .before .before .before .before .before .before .before .before .before .before .before .pre .1,
+  c .before .before .before .before .before .before .before .before .before .before .before .before .pre .2,
+)
 
 said-requires-2 : tie.Need-said-requires-2
 said-requires-2 c κs = search needs
@@ -65,7 +74,10 @@ enum-known-way-3 : tie.Need-enum-known-way-3
 enum-known-way-3 c = search needs
 
 drain-at-requires : tie.Need-drain-at-requires
-drain-at-requires c κs = (c .before .before .before .before .before .before .before .before .before .before .before .before .pre .0, c .before .before .before .before .before .before .before .before .before .before .before .before .pre .1)
+drain-at-requires c κs = (
+  c .before .before .before .before .before .before .before .before .before .before .before .before .pre .0,
+  c .before .before .before .before .before .before .before .before .before .before .before .before .pre .1,
+)
 
 said-requires-5 : tie.Need-said-requires-5
 said-requires-5 c κs = search needs
@@ -77,8 +89,10 @@ returns : tie.Need-returns
 returns c =
     let xs = c .before .before .before .before .before .before .before .before .before .before .args .bytes .now in
     let ring = c .before .before .before .before .before .before .before .before .before .before .args .ring .now in
-    acted xs ring {w = pollWay (sessionOf xs) (c .before .before .before .before .before .before .before .before .before .before .args .event)} (sym (c .before .enum-told .given .1) ∙ way-is (c .before .before .before)) (c .said .ensures .0) (c .said .ensures .1)
-    (same-bytes xs (octets (c .before .before .before .before .before .before .before .before .before)) (c .before .before .before .before .before .before .before .before .before .before .pre .0)) refl
+    acted xs ring {w = pollWay (sessionOf xs) (c .before .before .before .before .before .before .before .before .before .before .args .event)}
+    (sym (c .before .enum-told .given .1) ∙ way-is (c .before .before .before)) (c .said .ensures .0) (c .said .ensures .1)
+    (same-bytes xs (octets (c .before .before .before .before .before .before .before .before .before))
+    (c .before .before .before .before .before .before .before .before .before .before .pre .0)) refl
 
 same-length-2 : tie.Need-same-length-2
 same-length-2 c = search needs
@@ -88,9 +102,14 @@ same-length-3 c = search needs
 
 returns-2 : tie.Need-returns-2
 returns-2 c =
-    let xs = c .before .before .before .before .before .before .before .before .before .before .before .before .before .before .before .before .before .before .args .bytes .now in
-    let ring = c .before .before .before .before .before .before .before .before .before .before .before .before .before .before .before .before .before .before .args .ring .now in
-    acted xs ring {w = pollWay (sessionOf xs) (c .before .before .before .before .before .before .before .before .before .before .before .before .before .before .before .before .before .before .args .event)} (sym (c .before .before .before .before .before .before .before .before .before .way .given .1) ∙ way-is (c .before .before .before .before .before .before .before .before .before .before .before)) (c .said2 .ensures .0) (c .said2 .ensures .1)
+    let xs =
+    c .before .before .before .before .before .before .before .before .before .before .before .before .before .before .before .before .before .before .args .bytes .now in
+    let ring =
+    c .before .before .before .before .before .before .before .before .before .before .before .before .before .before .before .before .before .before .args .ring .now in
+    acted xs ring {w = pollWay (sessionOf xs)
+    (c .before .before .before .before .before .before .before .before .before .before .before .before .before .before .before .before .before .before .args .event)}
+    (sym (c .before .before .before .before .before .before .before .before .before .way .given .1)
+    ∙ way-is (c .before .before .before .before .before .before .before .before .before .before .before)) (c .said2 .ensures .0) (c .said2 .ensures .1)
     (c .before .before .before .before .before .end-at .ensures .0) (c .before .before .before .before .before .end-at .ensures .1)
 
 same-length-4 : tie.Need-same-length-4
@@ -100,7 +119,10 @@ returns-3 : tie.Need-returns-3
 returns-3 c =
     let xs = c .before .before .before .before .before .before .before .before .before .before .before .before .before .before .before .args .bytes .now in
     let ring = c .before .before .before .before .before .before .before .before .before .before .before .before .before .before .before .args .ring .now in
-    acted xs ring {w = pollWay (sessionOf xs) (c .before .before .before .before .before .before .before .before .before .before .before .before .before .before .before .args .event)} (sym (c .before .before .before .before .before .before .way2 .given .1) ∙ way-is (c .before .before .before .before .before .before .before .before)) (c .said3 .ensures .0) (c .said3 .ensures .1)
+    acted xs ring {w = pollWay (sessionOf xs)
+    (c .before .before .before .before .before .before .before .before .before .before .before .before .before .before .before .args .event)}
+    (sym (c .before .before .before .before .before .before .way2 .given .1) ∙ way-is (c .before .before .before .before .before .before .before .before))
+    (c .said3 .ensures .0) (c .said3 .ensures .1)
     (c .before .before .before .halt-at .ensures) refl
 
 same-length-5 : tie.Need-same-length-5
@@ -110,8 +132,10 @@ returns-4 : tie.Need-returns-4
 returns-4 c =
     let xs = c .before .before .before .before .before .before .before .before .before .before .args .bytes .now in
     let ring = c .before .before .before .before .before .before .before .before .before .before .args .ring .now in
-    acted xs ring {w = pollWay (sessionOf xs) (c .before .before .before .before .before .before .before .before .before .before .args .event)} (sym (c .before .enum-told2 .given .1) ∙ way-is (c .before .before .before)) (c .said4 .ensures .0) (c .said4 .ensures .1)
-    (same-bytes xs (octets (c .before .before .before .before .before .before .before .before .before)) (c .before .before .before .before .before .before .before .before .before .before .pre .0)) refl
+    acted xs ring {w = pollWay (sessionOf xs) (c .before .before .before .before .before .before .before .before .before .before .args .event)}
+    (sym (c .before .enum-told2 .given .1) ∙ way-is (c .before .before .before)) (c .said4 .ensures .0) (c .said4 .ensures .1)
+    (same-bytes xs (octets (c .before .before .before .before .before .before .before .before .before))
+    (c .before .before .before .before .before .before .before .before .before .before .pre .0)) refl
 
 same-length-6 : tie.Need-same-length-6
 same-length-6 c = search needs
@@ -121,9 +145,14 @@ same-length-7 c = search needs
 
 returns-5 : tie.Need-returns-5
 returns-5 c =
-    let xs = c .before .before .before .before .before .before .before .before .before .before .before .before .before .before .before .before .before .before .args .bytes .now in
-    let ring = c .before .before .before .before .before .before .before .before .before .before .before .before .before .before .before .before .before .before .args .ring .now in
-    acted xs ring {w = pollWay (sessionOf xs) (c .before .before .before .before .before .before .before .before .before .before .before .before .before .before .before .before .before .before .args .event)} (sym (c .before .before .before .before .before .before .before .before .before .way3 .given .1) ∙ way-is (c .before .before .before .before .before .before .before .before .before .before .before)) (c .said5 .ensures .0) (c .said5 .ensures .1)
+    let xs =
+    c .before .before .before .before .before .before .before .before .before .before .before .before .before .before .before .before .before .before .args .bytes .now in
+    let ring =
+    c .before .before .before .before .before .before .before .before .before .before .before .before .before .before .before .before .before .before .args .ring .now in
+    acted xs ring {w = pollWay (sessionOf xs)
+    (c .before .before .before .before .before .before .before .before .before .before .before .before .before .before .before .before .before .before .args .event)}
+    (sym (c .before .before .before .before .before .before .before .before .before .way3 .given .1)
+    ∙ way-is (c .before .before .before .before .before .before .before .before .before .before .before)) (c .said5 .ensures .0) (c .said5 .ensures .1)
     (c .before .before .before .before .before .drain-at .ensures .0) (c .before .before .before .before .before .drain-at .ensures .1)
 
 pub poll-at-spec : {M : Type 1} → statement M

@@ -33,8 +33,10 @@ returns c =
     let ring = c .before .before .before .before .before .before .args .ring .now in
     let way = pollWay s (c .before .before .before .before .before .before .args .event) in
     let both =
-    stays (c .before .before .before .before .before .before .args .bytes .now) (octets (c .before .before .before .before .before)) (c .before .before .before .before .before .before .pre) (polled s (c .before .before .before .before .before .before .args .event) ring)
-    (lent-refused s (length ring) (c .before .before .lent-refusal .ensures) (λ (n : ℕ). refusedReply n s) (polledBy way s ring) (c .before .if1 .taken)) refl (c .reply-refused .ensures) in (
+    stays (c .before .before .before .before .before .before .args .bytes .now) (octets (c .before .before .before .before .before))
+    (c .before .before .before .before .before .before .pre) (polled s (c .before .before .before .before .before .before .args .event) ring)
+    (lent-refused s (length ring) (c .before .before .lent-refusal .ensures) (λ (n : ℕ). refusedReply n s) (polledBy way s ring) (c .before .if1 .taken)) refl
+    (c .reply-refused .ensures) in (
       both .0,
       both .1,
       sym (lent-refused s (length ring) (c .before .before .lent-refusal .ensures) (λ (n : ℕ). ring) (polledRingBy way s ring) (c .before .if1 .taken)),
@@ -61,11 +63,15 @@ returns-2 c =
     let s = sessionOf (c .before .before .before .before .before .before .before .before .before .before .before .before .before .args .bytes .now) in
     let ring = c .before .before .before .before .before .before .before .before .before .before .before .before .before .args .ring .now in
     let way = pollWay s (c .before .before .before .before .before .before .before .before .before .before .before .before .before .args .event) in
-    let passed = lent-passed s (length ring) (c .before .before .before .before .before .before .before .before .before .lent-refusal .ensures) (c .before .before .before .before .before .before .before .before .if1 .left) in
+    let passed =
+    lent-passed s (length ring) (c .before .before .before .before .before .before .before .before .before .lent-refusal .ensures)
+    (c .before .before .before .before .before .before .before .before .if1 .left) in
     let whole = lent-done s ring (polledBy way s ring) (polledRingBy way s ring) (passed .0) (passed .1) in
     let both =
-    becomes (c .before .before .before .before .before .before .before .before .before .before .before .before .before .args .bytes .now) (polled s (c .before .before .before .before .before .before .before .before .before .before .before .before .before .args .event) ring) (whole .0)
-    (reply-said s ring way (c .reply-port .ensures) (c .before .before .before .before .before .poll-at .ensures .0) (c .before .before .before .before .before .poll-at .ensures .1)) (c .before .before .before .before .before .poll-at .ensures .2) in
+    becomes (c .before .before .before .before .before .before .before .before .before .before .before .before .before .args .bytes .now)
+    (polled s (c .before .before .before .before .before .before .before .before .before .before .before .before .before .args .event) ring) (whole .0)
+    (reply-said s ring way (c .reply-port .ensures) (c .before .before .before .before .before .poll-at .ensures .0)
+    (c .before .before .before .before .before .poll-at .ensures .1)) (c .before .before .before .before .before .poll-at .ensures .2) in
     (both .0, both .1, c .before .before .before .before .before .poll-at .ensures .3 ∙ sym (whole .1))
 
 pub poll-on-spec : {M : Type 1} → statement M

@@ -41,8 +41,10 @@ returns c =
     let s = sessionOf (c .before .before .before .before .before .before .args .bytes .now) in
     let ring = c .before .before .before .before .before .before .args .ring .now in
     let both =
-    stays (c .before .before .before .before .before .before .args .bytes .now) (octets (c .before .before .before .before .before)) (c .before .before .before .before .before .before .pre) (recovered s (length ring))
-    (lent-refused s (length ring) (c .before .before .lent-refusal .ensures) (λ (n : ℕ). refusedReply n s) (done-by s) (c .before .if1 .taken)) refl (c .reply-refused .ensures) in (
+    stays (c .before .before .before .before .before .before .args .bytes .now) (octets (c .before .before .before .before .before))
+    (c .before .before .before .before .before .before .pre) (recovered s (length ring))
+    (lent-refused s (length ring) (c .before .before .lent-refusal .ensures) (λ (n : ℕ). refusedReply n s) (done-by s) (c .before .if1 .taken)) refl
+    (c .reply-refused .ensures) in (
       both .0,
       both .1,
       sym (lent-refused s (length ring) (c .before .before .lent-refusal .ensures) (λ (n : ℕ). ring) (endedRing s ring) (c .before .if1 .taken)),
@@ -68,9 +70,13 @@ returns-2 : tie.Need-returns-2
 returns-2 c =
     let s = sessionOf (c .before .before .before .before .before .before .before .before .before .before .before .before .before .args .bytes .now) in
     let ring = c .before .before .before .before .before .before .before .before .before .before .before .before .before .args .ring .now in
-    let passed = lent-passed s (length ring) (c .before .before .before .before .before .before .before .before .before .lent-refusal .ensures) (c .before .before .before .before .before .before .before .before .if1 .left) in
+    let passed =
+    lent-passed s (length ring) (c .before .before .before .before .before .before .before .before .before .lent-refusal .ensures)
+    (c .before .before .before .before .before .before .before .before .if1 .left) in
     let whole = lent-done s ring (done-by s) (endedRing s ring) (passed .0) (passed .1) in
-    let both = becomes (c .before .before .before .before .before .before .before .before .before .before .before .before .before .args .bytes .now) (recovered s (length ring)) (whole .0) (c .reply-port .ensures) (c .before .before .before .before .before .end-at .ensures .0) in
+    let both =
+    becomes (c .before .before .before .before .before .before .before .before .before .before .before .before .before .args .bytes .now)
+    (recovered s (length ring)) (whole .0) (c .reply-port .ensures) (c .before .before .before .before .before .end-at .ensures .0) in
     (both .0, both .1, c .before .before .before .before .before .end-at .ensures .1 ∙ sym (whole .1))
 
 pub recover-at-spec : {M : Type 1} → statement M

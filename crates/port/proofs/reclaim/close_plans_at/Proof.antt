@@ -66,11 +66,14 @@ loop-again c =
     let now = c .before .before .before .before .before .before .before .loop in
     let xs = a .bytes .now in
     let read = c .before .before .before .before .plan-at .ensures ∙ plan-there (now .bytes) (now .i) blankPlan (omega arith) in
-    let turn = plan-turn xs (sessionOf xs) (long (c .before .before .before .before .before .before .before .before .before)) (requests-many xs) (now .at) (c .before .before .before .before .plan-at .result) (omega arith) (now .inv .2) (c .before .before .put-plan .ensures) in (
+    let turn =
+    plan-turn xs (sessionOf xs) (long (c .before .before .before .before .before .before .before .before .before)) (requests-many xs) (now .at)
+    (c .before .before .before .before .plan-at .result) (omega arith) (now .inv .2) (c .before .before .put-plan .ensures) in (
       omega arith,
       c .before .before .put-plan .kept .0 ∙ now .inv .1,
       turn .1,
-      close-turn (now .at) (now .i) (a .to) (plansOf (now .bytes)) blankPlan (omega arith) (omega arith) (omega (arith, plans-many (now .bytes))) read (turn .0) ∙ now .inv .3,
+      close-turn (now .at) (now .i) (a .to) (plansOf (now .bytes)) blankPlan (omega arith) (omega arith) (omega (arith, plans-many (now .bytes))) read (turn .0)
+          ∙ now .inv .3,
     )
 
 same-length : tie.Need-same-length Inv-loop μ-loop
@@ -82,7 +85,9 @@ returns c =
     let now = c .before .loop in
     now .inv .2
     ∙ ap (λ (l : List IsoPacketPlan). sets xs 0 (saved (withPlans (sessionOf xs) l)))
-    (sym (write-past (λ (vs : List IsoPacketPlan). vs) (now .at) (now .i) (c .before .before .before .args .to) (plansOf (now .bytes)) (plansOf (now .bytes)) refl (omega arith))
+    (sym
+    (write-past (λ (vs : List IsoPacketPlan). vs) (now .at) (now .i) (c .before .before .before .args .to) (plansOf (now .bytes)) (plansOf (now .bytes)) refl
+    (omega arith))
     ∙ now .inv .3)
 
 pub close-plans-at-spec : {M : Type 1} → statement M

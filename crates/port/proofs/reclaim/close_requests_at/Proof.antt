@@ -66,11 +66,15 @@ loop-again c =
     let now = c .before .before .before .before .before .before .before .loop in
     let xs = a .bytes .now in
     let read = c .before .before .before .before .request-at .ensures ∙ request-there (now .bytes) (now .i) blankRequest (omega arith) in
-    let turn = request-turn xs (sessionOf xs) (long (c .before .before .before .before .before .before .before .before .before)) (plans-many xs) (now .at) (c .before .before .before .before .request-at .result) (omega arith) (now .inv .2) (c .before .before .put-request .ensures) in (
+    let turn =
+    request-turn xs (sessionOf xs) (long (c .before .before .before .before .before .before .before .before .before)) (plans-many xs) (now .at)
+    (c .before .before .before .before .request-at .result) (omega arith) (now .inv .2) (c .before .before .put-request .ensures) in (
       omega arith,
       c .before .before .put-request .kept .0 ∙ now .inv .1,
       turn .1,
-      close-turn (now .at) (now .i) (a .to) (requestsOf (now .bytes)) blankRequest (omega arith) (omega arith) (omega (arith, requests-many (now .bytes))) read (turn .0) ∙ now .inv .3,
+      close-turn (now .at) (now .i) (a .to) (requestsOf (now .bytes)) blankRequest (omega arith) (omega arith) (omega (arith, requests-many (now .bytes))) read
+          (turn .0)
+          ∙ now .inv .3,
     )
 
 same-length : tie.Need-same-length Inv-loop μ-loop
@@ -82,7 +86,8 @@ returns c =
     let now = c .before .loop in
     now .inv .2
     ∙ ap (λ (l : List IsoRequest). sets xs 0 (saved (withRequests (sessionOf xs) l)))
-    (sym (write-past (λ (vs : List IsoRequest). vs) (now .at) (now .i) (c .before .before .before .args .to) (requestsOf (now .bytes)) (requestsOf (now .bytes)) refl (omega arith))
+    (sym (write-past (λ (vs : List IsoRequest). vs) (now .at) (now .i) (c .before .before .before .args .to) (requestsOf (now .bytes)) (requestsOf (now .bytes))
+    refl (omega arith))
     ∙ now .inv .3)
 
 pub close-requests-at-spec : {M : Type 1} → statement M

@@ -29,16 +29,32 @@ in-use c = omega (arith, c .pre .2, good c .done-in)
 in-table : (c : tie.Start) → c .args .at < 64
 in-table c = omega (arith, in-use c, good c .count-in)
 
-request-is : (c : tie.After-request-at) → c .request-at .result ≡ getD (requestsOf (c .before .before .before .before .args .bytes .now)) (c .before .before .before .before .args .at) blankRequest
-request-is c = c .request-at .ensures ∙ request-there (c .before .before .before .before .args .bytes .now) (c .before .before .before .before .args .at) blankRequest (in-table (c .before .before .before .before))
+request-is :
+    (c : tie.After-request-at)
+    → c .request-at .result ≡ getD (requestsOf (c .before .before .before .before .args .bytes .now)) (c .before .before .before .before .args .at) blankRequest
+request-is c =
+    c .request-at .ensures
+    ∙ request-there (c .before .before .before .before .args .bytes .now) (c .before .before .before .before .args .at) blankRequest
+    (in-table (c .before .before .before .before))
 
-to-is : (c : tie.After-packets-at) → c .before .before .packets-before .result + c .packets-at .result ≡ plansEnd (c .before .before .before .before .before .before .before .before .args .at) (sessionOf (c .before .before .before .before .before .before .before .before .args .bytes .now))
+to-is :
+    (c : tie.After-packets-at)
+    → c .before .before .packets-before .result + c .packets-at .result
+    ≡ plansEnd (c .before .before .before .before .before .before .before .before .args .at)
+    (sessionOf (c .before .before .before .before .before .before .before .before .args .bytes .now))
 to-is c = omega (arith, c .before .before .packets-before .ensures, c .packets-at .ensures .0)
 
 to-in : (c : tie.After-packets-at) → c .before .before .packets-before .result + c .packets-at .result ≤ 1024
 to-in c =
     let g = good (c .before .before .before .before .before .before .before .before) in
-    omega (arith, to-is c, plans-in (sessionOf (c .before .before .before .before .before .before .before .before .args .bytes .now)) g (c .before .before .before .before .before .before .before .before .args .at) (in-use (c .before .before .before .before .before .before .before .before)), g .all-few)
+    omega (
+      arith,
+      to-is c,
+      plans-in (sessionOf (c .before .before .before .before .before .before .before .before .args .bytes .now)) g
+          (c .before .before .before .before .before .before .before .before .args .at)
+          (in-use (c .before .before .before .before .before .before .before .before)),
+      g .all-few,
+    )
 
 mul-request-at : tie.Need-mul-request-at
 mul-request-at c = search needs
@@ -53,7 +69,8 @@ packets-before-requires : tie.Need-packets-before-requires
 packets-before-requires c κs = (long (c .before .before .before .before .before), omega (arith, in-table (c .before .before .before .before .before)))
 
 packets-at-requires : tie.Need-packets-at-requires
-packets-at-requires c κs = (long (c .before .before .before .before .before .before .before), in-table (c .before .before .before .before .before .before .before))
+packets-at-requires c κs =
+    (long (c .before .before .before .before .before .before .before), in-table (c .before .before .before .before .before .before .before))
 
 add-to : tie.Need-add-to
 add-to c = omega (arith, to-in c)
@@ -63,11 +80,29 @@ is-done-requires c κs = search needs
 
 hand-results-at-requires : tie.Need-hand-results-at-requires
 hand-results-at-requires c κs =
-    let few = good (c .before .before .before .before .before .before .before .before .before .before .before) .request (c .before .before .before .before .before .before .before .before .before .before .before .args .at) (in-use (c .before .before .before .before .before .before .before .before .before .before .before)) .few in
-    (long (c .before .before .before .before .before .before .before .before .before .before .before), omega arith, to-in (c .before .before .before), omega (arith, few, c .before .before .before .packets-at .ensures .0, c .before .before .before .before .before .before .before .before .before .before .before .pre .3))
+    let few =
+    good (c .before .before .before .before .before .before .before .before .before .before .before) .request
+    (c .before .before .before .before .before .before .before .before .before .before .before .args .at)
+    (in-use (c .before .before .before .before .before .before .before .before .before .before .before)) .few in (
+      long (c .before .before .before .before .before .before .before .before .before .before .before),
+      omega arith,
+      to-in (c .before .before .before),
+      omega (
+        arith,
+        few,
+        c .before .before .before .packets-at .ensures .0,
+        c .before .before .before .before .before .before .before .before .before .before .before .pre .3,
+      ),
+    )
 
 remove-at-requires : tie.Need-remove-at-requires
-remove-at-requires c κs = (c .before .before .before .before .before .before .before .before .before .before .before .before .before .before .before .pre .0, c .before .before .before .before .before .before .before .before .before .before .before .before .before .before .before .pre .1, c .before .before .before .before .before .before .before .before .before .before .before .before .before .before .before .pre .2, c .before .before .before .before .before .before .before .before .before .packets-before .ensures, to-is (c .before .before .before .before .before .before .before))
+remove-at-requires c κs = (
+  c .before .before .before .before .before .before .before .before .before .before .before .before .before .before .before .pre .0,
+  c .before .before .before .before .before .before .before .before .before .before .before .before .before .before .before .pre .1,
+  c .before .before .before .before .before .before .before .before .before .before .before .before .before .before .before .pre .2,
+  c .before .before .before .before .before .before .before .before .before .packets-before .ensures,
+  to-is (c .before .before .before .before .before .before .before),
+)
 
 handed-answer-requires : tie.Need-handed-answer-requires
 handed-answer-requires c κs = search needs
@@ -80,12 +115,19 @@ same-length-2 c = search needs
 
 returns : tie.Need-returns
 returns c =
-    let a = c .before .before .before .before .before .before .before .before .before .before .before .before .before .before .before .before .before .before .before .args in
+    let a =
+    c .before .before .before .before .before .before .before .before .before .before .before .before .before .before .before .before .before .before .before .args in
     let read = request-is (c .before .before .before .before .before .before .before .before .before .before .before .before .before .before .before) in (
       c .handed-answer .ensures ∙ ap handedAnswer read,
       c .before .before .before .remove-at .ensures,
-      handed-in-place (sessionOf (a .bytes .now)) (a .at) (c .before .before .before .before .before .before .before .before .before .before .before .before .before .packets-before .result) (c .before .before .before .before .before .before .before .before .before .before .before .before .before .packets-before .result + c .before .before .before .before .before .before .before .before .before .before .before .packets-at .result) (a .results .now)
-          (c .before .before .before .before .before .before .before .before .before .before .before .before .before .packets-before .ensures) (to-is (c .before .before .before .before .before .before .before .before .before .before .before)) read (c .before .before .before .before .before .before .before .before .before .is-done .ensures) (c .before .before .before .before .before .before .before .hand-results-at .ensures),
+      handed-in-place (sessionOf (a .bytes .now)) (a .at)
+          (c .before .before .before .before .before .before .before .before .before .before .before .before .before .packets-before .result)
+          (c .before .before .before .before .before .before .before .before .before .before .before .before .before .packets-before .result
+          + c .before .before .before .before .before .before .before .before .before .before .before .packets-at .result) (a .results .now)
+          (c .before .before .before .before .before .before .before .before .before .before .before .before .before .packets-before .ensures)
+          (to-is (c .before .before .before .before .before .before .before .before .before .before .before)) read
+          (c .before .before .before .before .before .before .before .before .before .is-done .ensures)
+          (c .before .before .before .before .before .before .before .hand-results-at .ensures),
     )
 
 pub hand-out-at-spec : {M : Type 1} → statement M

@@ -28,7 +28,8 @@ returns : tie.Need-returns Inv-loop μ-loop
 returns c =
     let a = c .before .before .before .args in
     let results = a .results .now in
-    sym (ap (λ (b : Bool). cond b (sets results 0 (map resultWord (slice (a .from) (a .to) (plansOf (a .bytes .now))))) results) (not-true (a .done) (c .if1 .taken)))
+    sym (ap (λ (b : Bool). cond b (sets results 0 (map resultWord (slice (a .from) (a .to) (plansOf (a .bytes .now))))) results)
+    (not-true (a .done) (c .if1 .taken)))
 
 loop-holds : tie.Need-loop-holds Inv-loop μ-loop
 loop-holds c = (omega arith, omega arith, refl, refl)
@@ -85,7 +86,8 @@ returns-2 c =
     let plans = plansOf (a .bytes .now) in
     sym (write-past (map resultWord) (now .at) (now .i) (a .to) plans (now .results) refl (omega arith))
     ∙ now .inv .3
-    ∙ sym (ap (λ (b : Bool). cond b (sets results 0 (map resultWord (slice (a .from) (a .to) plans))) results) (not-false (a .done) (c .before .before .if1 .left)))
+    ∙ sym
+    (ap (λ (b : Bool). cond b (sets results 0 (map resultWord (slice (a .from) (a .to) plans))) results) (not-false (a .done) (c .before .before .if1 .left)))
 
 pub hand-results-at-spec : {M : Type 1} → statement M
 hand-results-at-spec =

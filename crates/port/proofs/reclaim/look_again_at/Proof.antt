@@ -31,8 +31,15 @@ good c = let xs = c .args .bytes .now in sound (sessionOf xs) (requests-many xs)
 head-is : (c : tie.After-head-at) → c .head-at .result ≡ sessionOf (c .before .before .before .before .args .bytes .now) .head
 head-is c = c .head-at .ensures ∙ head-there (c .before .before .before .before .args .bytes .now)
 
-place-is : (c : tie.After-place-at) → c .place-at .result ≡ requestAt (c .before .before .before .before .before .before .args .id) (sessionOf (c .before .before .before .before .before .before .args .bytes .now))
-place-is c = c .place-at .ensures ∙ ap (λ (h : IsoHead). placeOf (c .before .before .before .before .before .before .args .id) (slice 0 (h .count) (requestsOf (c .before .before .before .before .before .before .args .bytes .now)))) (head-is (c .before .before))
+place-is :
+    (c : tie.After-place-at)
+    → c .place-at .result
+    ≡ requestAt (c .before .before .before .before .before .before .args .id) (sessionOf (c .before .before .before .before .before .before .args .bytes .now))
+place-is c =
+    c .place-at .ensures
+    ∙ ap (λ (h : IsoHead).
+    placeOf (c .before .before .before .before .before .before .args .id)
+    (slice 0 (h .count) (requestsOf (c .before .before .before .before .before .before .args .bytes .now)))) (head-is (c .before .before))
 
 -- bytes that nothing is stored into
 same : (c : tie.After-slice-known) → c .before .args .bytes .now ≡ sets (c .before .args .bytes .now) 0 (saved (sessionOf (c .before .args .bytes .now)))
@@ -42,10 +49,18 @@ head-at-requires : tie.Need-head-at-requires
 head-at-requires c κs = long (c .before .before .before)
 
 place-at-requires : tie.Need-place-at-requires
-place-at-requires c κs = (long (c .before .before .before .before .before), omega (arith, ap (λ (h : IsoHead). h .count) (head-is (c .before)), good (c .before .before .before .before .before) .count-in))
+place-at-requires c κs = (
+  long (c .before .before .before .before .before),
+  omega (arith, ap (λ (h : IsoHead). h .count) (head-is (c .before)), good (c .before .before .before .before .before) .count-in),
+)
 
 hand-out-at-requires : tie.Need-hand-out-at-requires
-hand-out-at-requires c κs = (c .before .before .before .before .before .before .before .before .before .before .pre .0, c .before .before .before .before .before .before .before .before .before .before .pre .1, omega (arith, c .before .before .if1 .taken, ap (λ (h : IsoHead). h .done) (head-is (c .before .before .before .before .before .before))), c .before .before .before .before .before .before .before .before .before .before .pre .2)
+hand-out-at-requires c κs = (
+  c .before .before .before .before .before .before .before .before .before .before .pre .0,
+  c .before .before .before .before .before .before .before .before .before .before .pre .1,
+  omega (arith, c .before .before .if1 .taken, ap (λ (h : IsoHead). h .done) (head-is (c .before .before .before .before .before .before))),
+  c .before .before .before .before .before .before .before .before .before .before .pre .2,
+)
 
 same-length : tie.Need-same-length
 same-length c = search needs
@@ -60,12 +75,26 @@ returns c =
     let s = sessionOf xs in
     let at = c .before .before .before .before .before .before .before .before .before .place-at .result in
     let out = c .before .before .before .before .hand-out-at .ensures in
-    let less : at < s .head .done = omega (arith, c .before .before .before .before .before .before .before .if1 .taken, ap (λ (h : IsoHead). h .done) (head-is (c .before .before .before .before .before .before .before .before .before .before .before))) in
-    let g : Sound (removed at s) = removed-sound at s (good (c .before .before .before .before .before .before .before .before .before .before .before .before .before .before .before)) less in
-    let held : sessionOf (c .before .before .before .before .hand-out-at .last .0) ≡ removed at s = ap sessionOf (out .1) ∙ there xs (removed at s) (long (c .before .before .before .before .before .before .before .before .before .before .before .before .before .before .before)) (g .requests-long) (g .plans-long) in (
-      λ taken halt. again-found (a .id) s (place-is (c .before .before .before .before .before .before .before .before .before)) taken halt (a .results .now) less (out .0) held refl (out .2) .0,
+    let less : at < s .head .done =
+    omega (
+      arith,
+      c .before .before .before .before .before .before .before .if1 .taken,
+      ap (λ (h : IsoHead). h .done) (head-is (c .before .before .before .before .before .before .before .before .before .before .before)),
+    ) in
+    let g : Sound (removed at s) =
+    removed-sound at s (good (c .before .before .before .before .before .before .before .before .before .before .before .before .before .before .before))
+    less in
+    let held : sessionOf (c .before .before .before .before .hand-out-at .last .0) ≡ removed at s =
+    ap sessionOf (out .1)
+    ∙ there xs (removed at s) (long (c .before .before .before .before .before .before .before .before .before .before .before .before .before .before .before))
+    (g .requests-long) (g .plans-long) in (
+      λ taken halt.
+          again-found (a .id) s (place-is (c .before .before .before .before .before .before .before .before .before)) taken halt (a .results .now) less
+          (out .0)
+          held refl (out .2) .0,
       out .1 ∙ ap (λ (t : IsoChannelState). sets xs 0 (saved t)) (sym held),
-      again-found (a .id) s (place-is (c .before .before .before .before .before .before .before .before .before)) false false (a .results .now) less (out .0) held refl (out .2) .1,
+      again-found (a .id) s (place-is (c .before .before .before .before .before .before .before .before .before)) false false (a .results .now) less (out .0)
+          held refl (out .2) .1,
     )
 
 same-length-3 : tie.Need-same-length-3
@@ -76,7 +105,8 @@ returns-2 c =
     let a = c .before .before .before .before .before .before .before .before .before .before .args in
     let s = sessionOf (a .bytes .now) in
     let eh = head-is (c .before .before .before .before .before .before) in
-    let past : s .head .done ≤ c .before .before .before .before .place-at .result = omega (arith, c .before .before .if1 .left, ap (λ (h : IsoHead). h .done) eh) in
+    let past : s .head .done ≤ c .before .before .before .before .place-at .result =
+    omega (arith, c .before .before .if1 .left, ap (λ (h : IsoHead). h .done) eh) in
     let less : c .before .before .before .before .place-at .result < s .head .count = omega (arith, c .if2 .taken, ap (λ (h : IsoHead). h .count) eh) in (
       λ taken halt. again-pending (a .id) s (place-is (c .before .before .before .before)) taken halt (a .results .now) past less refl .0,
       same (c .before .before .before .before .before .before .before .before .before),
@@ -91,7 +121,8 @@ returns-3 c =
     let a = c .before .before .before .before .before .before .before .before .before .before .args in
     let s = sessionOf (a .bytes .now) in
     let eh = head-is (c .before .before .before .before .before .before) in
-    let past : s .head .done ≤ c .before .before .before .before .place-at .result = omega (arith, c .before .before .if1 .left, ap (λ (h : IsoHead). h .done) eh) in
+    let past : s .head .done ≤ c .before .before .before .before .place-at .result =
+    omega (arith, c .before .before .if1 .left, ap (λ (h : IsoHead). h .done) eh) in
     let over : s .head .count ≤ c .before .before .before .before .place-at .result = omega (arith, c .if2 .left, ap (λ (h : IsoHead). h .count) eh) in (
       λ taken halt. again-unknown (a .id) s (place-is (c .before .before .before .before)) taken halt (a .results .now) past over refl .0,
       same (c .before .before .before .before .before .before .before .before .before),

@@ -28,14 +28,24 @@ good c = let xs = c .args .bytes .now in sound (sessionOf xs) (requests-many xs)
 head-is : (c : tie.After-head-at) → c .head-at .result ≡ sessionOf (c .before .before .before .before .args .bytes .now) .head
 head-is c = c .head-at .ensures ∙ head-there (c .before .before .before .before .args .bytes .now)
 
-place-is : (c : tie.After-place-at) → c .place-at .result ≡ requestAt (c .before .before .before .before .before .before .args .id) (sessionOf (c .before .before .before .before .before .before .args .bytes .now))
-place-is c = c .place-at .ensures ∙ ap (λ (h : IsoHead). placeOf (c .before .before .before .before .before .before .args .id) (slice 0 (h .count) (requestsOf (c .before .before .before .before .before .before .args .bytes .now)))) (head-is (c .before .before))
+place-is :
+    (c : tie.After-place-at)
+    → c .place-at .result
+    ≡ requestAt (c .before .before .before .before .before .before .args .id) (sessionOf (c .before .before .before .before .before .before .args .bytes .now))
+place-is c =
+    c .place-at .ensures
+    ∙ ap (λ (h : IsoHead).
+    placeOf (c .before .before .before .before .before .before .args .id)
+    (slice 0 (h .count) (requestsOf (c .before .before .before .before .before .before .args .bytes .now)))) (head-is (c .before .before))
 
 head-at-requires : tie.Need-head-at-requires
 head-at-requires c κs = long (c .before .before .before)
 
 place-at-requires : tie.Need-place-at-requires
-place-at-requires c κs = (long (c .before .before .before .before .before), omega (arith, ap (λ (h : IsoHead). h .count) (head-is (c .before)), good (c .before .before .before .before .before) .count-in))
+place-at-requires c κs = (
+  long (c .before .before .before .before .before),
+  omega (arith, ap (λ (h : IsoHead). h .count) (head-is (c .before)), good (c .before .before .before .before .before) .count-in),
+)
 
 same-length : tie.Need-same-length
 same-length c = search needs
@@ -45,9 +55,12 @@ returns c =
     let a = c .before .before .before .before .before .before .before .before .args in
     let xs = a .bytes .now in
     let s = sessionOf xs in
-    let less : c .before .before .place-at .result < s .head .done = omega (arith, c .if1 .taken, ap (λ (h : IsoHead). h .done) (head-is (c .before .before .before .before))) in
+    let less : c .before .before .place-at .result < s .head .done =
+    omega (arith, c .if1 .taken, ap (λ (h : IsoHead). h .done) (head-is (c .before .before .before .before))) in
     let stays = looked-found (a .id) s (place-is (c .before .before)) (a .event) (a .ring .now) less refl in
-    let same = sym (loaded-saved xs (λ i. omega (arith, c .before .before .before .before .before .before .before .slice-known .given i)) (c .before .before .before .before .before .before .before .before .pre .0)) in (
+    let same =
+    sym (loaded-saved xs (λ i. omega (arith, c .before .before .before .before .before .before .before .slice-known .given i))
+    (c .before .before .before .before .before .before .before .before .pre .0)) in (
       record {
         taken = ap (λ (r : IsoReply). r .taken) (stays .0);
         halt = ap (λ (r : IsoReply). r .halt) (stays .0);
@@ -69,9 +82,16 @@ returns-2 : tie.Need-returns-2
 returns-2 c =
     let a = c .before .before .before .before .before .before .before .before .before .before .before .before .before .before .before .args in
     let s = sessionOf (a .bytes .now) in
-    let past : s .head .done ≤ c .before .before .before .before .before .before .before .before .before .place-at .result = omega (arith, c .before .before .before .before .before .before .before .if1 .left, ap (λ (h : IsoHead). h .done) (head-is (c .before .before .before .before .before .before .before .before .before .before .before))) in
+    let past : s .head .done ≤ c .before .before .before .before .before .before .before .before .before .place-at .result =
+    omega (
+      arith,
+      c .before .before .before .before .before .before .before .if1 .left,
+      ap (λ (h : IsoHead). h .done) (head-is (c .before .before .before .before .before .before .before .before .before .before .before)),
+    ) in
     let said = c .before .before .before .before .poll-at .ensures in
-    let polls = looked-polled (a .id) s (place-is (c .before .before .before .before .before .before .before .before .before)) (a .event) (a .ring .now) past refl refl (said .3) in (
+    let polls =
+    looked-polled (a .id) s (place-is (c .before .before .before .before .before .before .before .before .before)) (a .event) (a .ring .now) past refl refl
+    (said .3) in (
       record {
         taken = said .0 ∙ ap (λ (r : IsoReply). r .taken) (polls .0);
         halt = said .1 ∙ ap (λ (r : IsoReply). r .halt) (polls .0);

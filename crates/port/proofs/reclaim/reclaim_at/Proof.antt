@@ -35,11 +35,22 @@ same c = sym (loaded-saved (c .before .args .bytes .now) (λ i. omega (arith, c 
 
 -- the test of 17, by the words that the code counted
 test-short :
-    (c : tie.After-ring-words) {b : Bool} → (ltb (length (c .before .before .before .before .before .before .args .ring .now)) (c .ring-words .result) || ltb (length (c .before .before .before .before .before .before .args .results .now)) 255) ≡ b
-    → isShort (sessionOf (c .before .before .before .before .before .before .args .bytes .now)) (length (c .before .before .before .before .before .before .args .ring .now)) (length (c .before .before .before .before .before .before .args .results .now)) ≡ b
+    (c : tie.After-ring-words) {b : Bool}
+    → (ltb (length (c .before .before .before .before .before .before .args .ring .now)) (c .ring-words .result)
+    || ltb (length (c .before .before .before .before .before .before .args .results .now)) 255)
+    ≡ b
+    → isShort (sessionOf (c .before .before .before .before .before .before .args .bytes .now))
+    (length (c .before .before .before .before .before .before .args .ring .now))
+    (length (c .before .before .before .before .before .before .args .results .now))
+    ≡ b
 test-short c e =
-    let words = c .ring-words .ensures .0 ∙ ap ringWords (c .before .config-at .ensures ∙ config-there (c .before .before .before .before .before .before .args .bytes .now)) in
-    ap (λ (n : ℕ). ltb (length (c .before .before .before .before .before .before .args .ring .now)) n || ltb (length (c .before .before .before .before .before .before .args .results .now)) 255) (sym words) ∙ e
+    let words =
+    c .ring-words .ensures .0
+    ∙ ap ringWords (c .before .config-at .ensures ∙ config-there (c .before .before .before .before .before .before .args .bytes .now)) in
+    ap (λ (n : ℕ).
+    ltb (length (c .before .before .before .before .before .before .args .ring .now)) n
+    || ltb (length (c .before .before .before .before .before .before .args .results .now)) 255) (sym words)
+    ∙ e
 
 config-at-requires : tie.Need-config-at-requires
 config-at-requires c κs = long (c .before .before .before .before)
@@ -56,8 +67,11 @@ same-length c = search needs
 returns : tie.Need-returns
 returns c =
     let a = c .before .before .before .before .before .before .before .before .args in
-    let told = reclaim-short (sessionOf (a .bytes .now)) (a .id) (a .event) (a .ring .now) (a .results .now) (test-short (c .before .before) (c .before .if1 .taken)) refl in
-    refused-in-place (a .bytes .now) (a .ring .now) (a .results .now) (a .id) (a .event) (same (c .before .before .before .before .before .before .before)) (c .reclaim-refused .ensures) told
+    let told =
+    reclaim-short (sessionOf (a .bytes .now)) (a .id) (a .event) (a .ring .now) (a .results .now) (test-short (c .before .before) (c .before .if1 .taken))
+    refl in
+    refused-in-place (a .bytes .now) (a .ring .now) (a .results .now) (a .id) (a .event) (same (c .before .before .before .before .before .before .before))
+    (c .reclaim-refused .ensures) told
 
 scan-at-requires : tie.Need-scan-at-requires
 scan-at-requires c κs = long (c .before .before .before .before .before .before .before .before)
@@ -72,26 +86,46 @@ returns-2 : tie.Need-returns-2
 returns-2 c =
     let a = c .before .before .before .before .before .before .before .before .before .before .before .args in
     let bad = sym (c .before .before .scan-at .ensures .bad) ∙ c .before .if2 .taken in
-    let told = reclaim-bad (sessionOf (a .bytes .now)) (a .id) (a .event) (a .ring .now) (a .results .now) (test-short (c .before .before .before .before .before) (c .before .before .before .before .if1 .left)) bad refl in
-    refused-in-place (a .bytes .now) (a .ring .now) (a .results .now) (a .id) (a .event) (same (c .before .before .before .before .before .before .before .before .before .before)) (c .reclaim-refused2 .ensures) told
+    let told =
+    reclaim-bad (sessionOf (a .bytes .now)) (a .id) (a .event) (a .ring .now) (a .results .now)
+    (test-short (c .before .before .before .before .before) (c .before .before .before .before .if1 .left)) bad refl in
+    refused-in-place (a .bytes .now) (a .ring .now) (a .results .now) (a .id) (a .event)
+    (same (c .before .before .before .before .before .before .before .before .before .before)) (c .reclaim-refused2 .ensures) told
 
 look-at-requires : tie.Need-look-at-requires
 look-at-requires c κs =
     let a = c .before .before .before .before .before .before .before .before .before .before .before .before .args in
     let s = sessionOf (a .bytes .now) in
-    let enough = neither (ltb (length (a .ring .now)) (ringWords (s .cfg))) (ltb (length (a .results .now)) 255) (test-short (c .before .before .before .before .before .before) (c .before .before .before .before .before .if1 .left)) in
-    (c .before .before .before .before .before .before .before .before .before .before .before .before .pre, sym (c .before .before .before .scan-at .ensures .bad) ∙ c .before .before .if2 .left, ltb-false (length (a .ring .now)) (ringWords (s .cfg)) (enough .0))
+    let enough =
+    neither (ltb (length (a .ring .now)) (ringWords (s .cfg))) (ltb (length (a .results .now)) 255)
+    (test-short (c .before .before .before .before .before .before) (c .before .before .before .before .before .if1 .left)) in (
+      c .before .before .before .before .before .before .before .before .before .before .before .before .pre,
+      sym (c .before .before .before .scan-at .ensures .bad) ∙ c .before .before .if2 .left,
+      ltb-false (length (a .ring .now)) (ringWords (s .cfg)) (enough .0),
+    )
 
 look-again-at-requires : tie.Need-look-again-at-requires
 look-again-at-requires c κs =
-    let a = c .before .before .before .before .before .before .before .before .before .before .before .before .before .before .before .before .before .before .before .args in
+    let a =
+    c .before .before .before .before .before .before .before .before .before .before .before .before .before .before .before .before .before .before .before .args in
     let xs = a .bytes .now in
     let s = sessionOf xs in
-    let enough = neither (ltb (length (a .ring .now)) (ringWords (s .cfg))) (ltb (length (a .results .now)) 255) (test-short (c .before .before .before .before .before .before .before .before .before .before .before .before .before) (c .before .before .before .before .before .before .before .before .before .before .before .before .if1 .left)) in
-    let g = good (c .before .before .before .before .before .before .before .before .before .before .before .before .before .before .before .before .before .before .before) (sym (c .before .before .before .before .before .before .before .before .before .before .scan-at .ensures .bad) ∙ c .before .before .before .before .before .before .before .before .before .if2 .left) in
+    let enough =
+    neither (ltb (length (a .ring .now)) (ringWords (s .cfg))) (ltb (length (a .results .now)) 255)
+    (test-short (c .before .before .before .before .before .before .before .before .before .before .before .before .before)
+    (c .before .before .before .before .before .before .before .before .before .before .before .before .if1 .left)) in
+    let g =
+    good
+    (c .before .before .before .before .before .before .before .before .before .before .before .before .before .before .before .before .before .before .before)
+    (sym (c .before .before .before .before .before .before .before .before .before .before .scan-at .ensures .bad)
+    ∙ c .before .before .before .before .before .before .before .before .before .if2 .left) in
     let act = c .before .before .before .before .before .before .look-at .ensures .0 in (
-      looked-layout xs (a .ring .now) (a .results .now) (a .id) (a .event) (long (c .before .before .before .before .before .before .before .before .before .before .before .before .before .before .before .before .before .before .before)) g act,
-      looked-good xs (a .ring .now) (a .results .now) (a .id) (a .event) (long (c .before .before .before .before .before .before .before .before .before .before .before .before .before .before .before .before .before .before .before)) g act,
+      looked-layout xs (a .ring .now) (a .results .now) (a .id) (a .event) (long
+          (c .before .before .before .before .before .before .before .before .before .before .before .before .before .before .before .before .before .before .before))
+          g act,
+      looked-good xs (a .ring .now) (a .results .now) (a .id) (a .event) (long
+          (c .before .before .before .before .before .before .before .before .before .before .before .before .before .before .before .before .before .before .before))
+          g act,
       ltb-false (length (a .results .now)) 255 (enough .1),
     )
 
@@ -109,11 +143,23 @@ same-length-5 c = search needs
 
 returns-3 : tie.Need-returns-3
 returns-3 c =
-    let a = c .before .before .before .before .before .before .before .before .before .before .before .before .before .before .before .before .before .before .before .before .before .before .before .before .before .args in
-    let fine = sym (c .before .before .before .before .before .before .before .before .before .before .before .before .before .before .before .before .scan-at .ensures .bad) ∙ c .before .before .before .before .before .before .before .before .before .before .before .before .before .before .before .if2 .left in
+    let a =
+    c .before .before .before .before .before .before .before .before .before .before .before .before .before .before .before .before .before .before .before .before .before .before .before .before .before .args in
+    let fine =
+    sym
+    (c .before .before .before .before .before .before .before .before .before .before .before .before .before .before .before .before .scan-at .ensures .bad)
+    ∙ c .before .before .before .before .before .before .before .before .before .before .before .before .before .before .before .if2 .left in
     let again = c .before .before .before .before .before .look-again-at .ensures in
-    done-in-place (a .bytes .now) (a .ring .now) (a .results .now) (a .id) (a .event) (long (c .before .before .before .before .before .before .before .before .before .before .before .before .before .before .before .before .before .before .before .before .before .before .before .before .before)) (good (c .before .before .before .before .before .before .before .before .before .before .before .before .before .before .before .before .before .before .before .before .before .before .before .before .before) fine) (c .before .before .before .before .before .before .before .before .before .before .before .before .look-at .ensures .0)
-    (test-short (c .before .before .before .before .before .before .before .before .before .before .before .before .before .before .before .before .before .before .before) (c .before .before .before .before .before .before .before .before .before .before .before .before .before .before .before .before .before .before .if1 .left)) fine (c .before .before .before .before .before .before .before .before .before .before .before .before .look-at .ensures .1) (again .0) (again .1) (again .2) (c .reclaim-port .ensures)
+    done-in-place (a .bytes .now) (a .ring .now) (a .results .now) (a .id) (a .event) (long
+    (c .before .before .before .before .before .before .before .before .before .before .before .before .before .before .before .before .before .before .before .before .before .before .before .before .before))
+    (good
+    (c .before .before .before .before .before .before .before .before .before .before .before .before .before .before .before .before .before .before .before .before .before .before .before .before .before)
+    fine) (c .before .before .before .before .before .before .before .before .before .before .before .before .look-at .ensures .0)
+    (test-short
+    (c .before .before .before .before .before .before .before .before .before .before .before .before .before .before .before .before .before .before .before)
+    (c .before .before .before .before .before .before .before .before .before .before .before .before .before .before .before .before .before .before .if1 .left))
+    fine (c .before .before .before .before .before .before .before .before .before .before .before .before .look-at .ensures .1) (again .0) (again .1)
+    (again .2) (c .reclaim-port .ensures)
 
 pub reclaim-at-spec : {M : Type 1} → statement M
 reclaim-at-spec =

@@ -48,26 +48,66 @@ close-plans-at-requires : tie.Need-close-plans-at-requires
 close-plans-at-requires c κs =
     let a = c .before .before .before .before .before .before .before .before .before .before .args in
     let xs = a .bytes .now in
-    let all = c .before .before .before .before .before .packets-before .ensures ∙ ap (λ (h : IsoHead). packetsOf (slice 0 (h .count) (requestsOf xs))) (head-is (c .before .before .before .before .before .before .before)) in
-    (closed-layout xs (a .at) (a .from) (a .to) (c .before .before .before .before .before .packets-before .result) (long (c .before .before .before .before .before .before .before .before .before .before)) (head-is (c .before .before .before .before .before .before .before)) (c .before .before .before .before .before .before .before .before .before .before .pre .3) (c .before .before .before .before .before .before .before .before .before .before .pre .4) (c .before .before .before .before .before .packets-before .ensures) (c .before .before .before .close-requests-at .ensures), omega (arith, c .before .before .before .before .before .before .before .before .before .before .pre .3, c .before .before .before .before .before .before .before .before .before .before .pre .4), omega (arith, all, good (c .before .before .before .before .before .before .before .before .before .before) .all-few))
+    let all =
+    c .before .before .before .before .before .packets-before .ensures
+    ∙ ap (λ (h : IsoHead). packetsOf (slice 0 (h .count) (requestsOf xs))) (head-is (c .before .before .before .before .before .before .before)) in (
+      closed-layout xs (a .at) (a .from) (a .to) (c .before .before .before .before .before .packets-before .result)
+          (long (c .before .before .before .before .before .before .before .before .before .before))
+          (head-is (c .before .before .before .before .before .before .before))
+          (c .before .before .before .before .before .before .before .before .before .before .pre .3)
+          (c .before .before .before .before .before .before .before .before .before .before .pre .4)
+          (c .before .before .before .before .before .packets-before .ensures) (c .before .before .before .close-requests-at .ensures),
+      omega (
+        arith,
+        c .before .before .before .before .before .before .before .before .before .before .pre .3,
+        c .before .before .before .before .before .before .before .before .before .before .pre .4,
+      ),
+      omega (arith, all, good (c .before .before .before .before .before .before .before .before .before .before) .all-few),
+    )
 
 one-less-requires : tie.Need-one-less-requires
 one-less-requires c κs =
     let eh = head-is (c .before .before .before .before .before .before .before .before .before .before .before) in
-    let g = good (c .before .before .before .before .before .before .before .before .before .before .before .before .before .before) in
-    (omega (arith, ap (λ (h : IsoHead). h .done) eh, c .before .before .before .before .before .before .before .before .before .before .before .before .before .before .pre .2), omega (arith, ap (λ (h : IsoHead). h .count) eh, c .before .before .before .before .before .before .before .before .before .before .before .before .before .before .pre .2, g .done-in))
+    let g = good (c .before .before .before .before .before .before .before .before .before .before .before .before .before .before) in (
+      omega (
+        arith,
+        ap (λ (h : IsoHead). h .done) eh,
+        c .before .before .before .before .before .before .before .before .before .before .before .before .before .before .pre .2,
+      ),
+      omega (
+        arith,
+        ap (λ (h : IsoHead). h .count) eh,
+        c .before .before .before .before .before .before .before .before .before .before .before .before .before .before .pre .2,
+        g .done-in,
+      ),
+    )
 
 put-head-requires : tie.Need-put-head-requires
-put-head-requires c κs = omega (arith, long (c .before .before .before .before .before .before .before .before .before .before .before .before .before .before .before), c .before .before .before .before .before .before .before .before .close-requests-at .kept .0, c .before .before .before .before .close-plans-at .kept .0)
+put-head-requires c κs =
+    omega (
+      arith,
+      long (c .before .before .before .before .before .before .before .before .before .before .before .before .before .before .before),
+      c .before .before .before .before .before .before .before .before .close-requests-at .kept .0,
+      c .before .before .before .before .close-plans-at .kept .0,
+    )
 
 same-length : tie.Need-same-length
 same-length c = search needs
 
 returns : tie.Need-returns
 returns c =
-    let a = c .before .before .before .before .before .before .before .before .before .before .before .before .before .before .before .before .before .before .args in
-    bytes-removed (a .bytes .now) (a .at) (a .from) (a .to) (c .before .before .before .before .before .before .before .before .before .before .before .before .before .packets-before .result) (long (c .before .before .before .before .before .before .before .before .before .before .before .before .before .before .before .before .before .before)) (head-is (c .before .before .before .before .before .before .before .before .before .before .before .before .before .before .before)) (c .before .before .before .before .before .before .before .before .before .before .before .before .before .before .before .before .before .before .pre .3) (c .before .before .before .before .before .before .before .before .before .before .before .before .before .before .before .before .before .before .pre .4) (c .before .before .before .before .before .before .before .before .before .before .before .before .before .packets-before .ensures)
-    (c .before .before .before .before .before .before .before .before .before .before .before .close-requests-at .ensures) (c .before .before .before .before .before .before .before .close-plans-at .ensures) (c .before .before .before .one-less .ensures) (c .before .before .put-head .ensures)
+    let a =
+    c .before .before .before .before .before .before .before .before .before .before .before .before .before .before .before .before .before .before .args in
+    bytes-removed (a .bytes .now) (a .at) (a .from) (a .to)
+    (c .before .before .before .before .before .before .before .before .before .before .before .before .before .packets-before .result)
+    (long (c .before .before .before .before .before .before .before .before .before .before .before .before .before .before .before .before .before .before))
+    (head-is (c .before .before .before .before .before .before .before .before .before .before .before .before .before .before .before))
+    (c .before .before .before .before .before .before .before .before .before .before .before .before .before .before .before .before .before .before .pre .3)
+    (c .before .before .before .before .before .before .before .before .before .before .before .before .before .before .before .before .before .before .pre .4)
+    (c .before .before .before .before .before .before .before .before .before .before .before .before .before .packets-before .ensures)
+    (c .before .before .before .before .before .before .before .before .before .before .before .close-requests-at .ensures)
+    (c .before .before .before .before .before .before .before .close-plans-at .ensures) (c .before .before .before .one-less .ensures)
+    (c .before .before .put-head .ensures)
 
 pub remove-at-spec : {M : Type 1} → statement M
 remove-at-spec =

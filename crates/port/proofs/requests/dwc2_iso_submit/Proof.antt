@@ -14,7 +14,11 @@ same-length : tie.Need-same-length
 same-length c = search needs
 
 returns : tie.Need-returns
-returns c = submit-refused (c .before .before .before .before .before .before .before .args .session .now) (c .before .before .before .before .before .before .before .args .transfer) (c .before .before .before .before .before .before .before .args .lengths .now) (c .before .before .before .before .before .before .before .args .ring .now) (c .before .before .layout-refusal .ensures) (c .before .if1 .taken) (c .submit-refused .ensures)
+returns c =
+    submit-refused (c .before .before .before .before .before .before .before .args .session .now)
+    (c .before .before .before .before .before .before .before .args .transfer) (c .before .before .before .before .before .before .before .args .lengths .now)
+    (c .before .before .before .before .before .before .before .args .ring .now) (c .before .before .layout-refusal .ensures) (c .before .if1 .taken)
+    (c .submit-refused .ensures)
 
 submit-refused-requires-2 : tie.Need-submit-refused-requires-2
 submit-refused-requires-2 c κs = search needs
@@ -24,7 +28,11 @@ same-length-2 c = search needs
 
 returns-2 : tie.Need-returns-2
 returns-2 c =
-    submit-kind (c .before .before .before .before .before .before .before .before .before .args .session .now) (c .before .before .before .before .before .before .before .before .before .args .transfer) (c .before .before .before .before .before .before .before .before .before .args .lengths .now) (c .before .before .before .before .before .before .before .before .before .args .ring .now) (c .before .before .before .before .layout-refusal .ensures) (c .before .before .before .if1 .left) (c .before .if2 .taken)
+    submit-kind (c .before .before .before .before .before .before .before .before .before .args .session .now)
+    (c .before .before .before .before .before .before .before .before .before .args .transfer)
+    (c .before .before .before .before .before .before .before .before .before .args .lengths .now)
+    (c .before .before .before .before .before .before .before .before .before .args .ring .now) (c .before .before .before .before .layout-refusal .ensures)
+    (c .before .before .before .if1 .left) (c .before .if2 .taken)
     (c .submit-refused2 .ensures)
 
 transfer-of-requires : tie.Need-transfer-of-requires
@@ -41,8 +49,16 @@ same-length-4 c = search needs
 
 returns-3 : tie.Need-returns-3
 returns-3 c =
-    submit-done (c .before .before .before .before .before .before .before .before .before .before .before .before .before .before .before .before .args .session .now) (c .before .before .before .before .before .before .before .before .before .before .before .before .before .before .before .before .args .transfer) (c .before .before .before .before .before .before .before .before .before .before .before .before .before .before .before .before .args .lengths .now) (c .before .before .before .before .before .before .before .before .before .before .before .before .before .before .before .before .args .ring .now) (c .before .before .before .before .before .before .before .before .before .before .before .layout-refusal .ensures) (c .before .before .before .before .before .before .before .before .before .before .if1 .left) (c .before .before .before .before .before .before .before .before .if2 .left)
-    (c .before .before .before .before .before .before .before .transfer-of .ensures) (c .before .before .before .before .submit-at .ensures .0) (c .before .before .before .before .submit-at .ensures .1) (c .before .before .before .before .submit-at .ensures .2)
+    submit-done
+    (c .before .before .before .before .before .before .before .before .before .before .before .before .before .before .before .before .args .session .now)
+    (c .before .before .before .before .before .before .before .before .before .before .before .before .before .before .before .before .args .transfer)
+    (c .before .before .before .before .before .before .before .before .before .before .before .before .before .before .before .before .args .lengths .now)
+    (c .before .before .before .before .before .before .before .before .before .before .before .before .before .before .before .before .args .ring .now)
+    (c .before .before .before .before .before .before .before .before .before .before .before .layout-refusal .ensures)
+    (c .before .before .before .before .before .before .before .before .before .before .if1 .left)
+    (c .before .before .before .before .before .before .before .before .if2 .left)
+    (c .before .before .before .before .before .before .before .transfer-of .ensures) (c .before .before .before .before .submit-at .ensures .0)
+    (c .before .before .before .before .submit-at .ensures .1) (c .before .before .before .before .submit-at .ensures .2)
 
 pub dwc2-iso-submit-spec : {M : Type 1} → statement M
 dwc2-iso-submit-spec =

@@ -33,10 +33,15 @@ cursor-first h =
     }
 
 -- the test of the code is the definition's
-some : (c : tie.After-has-reason) → (not (eqb (c .before .before .before .before .head-at .result .count) 0) || c .has-reason .result) ≡ (not (eqb (sessionOf (c .before .before .before .before .before .before .before .before .before .before .args .bytes .now) .head .count) 0) || hasReason (sessionOf (c .before .before .before .before .before .before .before .before .before .before .args .bytes .now) .fatal))
+some :
+    (c : tie.After-has-reason)
+    → (not (eqb (c .before .before .before .before .head-at .result .count) 0) || c .has-reason .result)
+    ≡ (not (eqb (sessionOf (c .before .before .before .before .before .before .before .before .before .before .args .bytes .now) .head .count) 0)
+    || hasReason (sessionOf (c .before .before .before .before .before .before .before .before .before .before .args .bytes .now) .fatal))
 some c =
     let xs = c .before .before .before .before .before .before .before .before .before .before .args .bytes .now in
-    ap (λ (b : Bool). not (eqb (c .before .before .before .before .head-at .result .count) 0) || b) (c .has-reason .ensures ∙ ap hasReason (c .before .before .reason-at .ensures ∙ reason-there xs))
+    ap (λ (b : Bool). not (eqb (c .before .before .before .before .head-at .result .count) 0) || b)
+    (c .has-reason .ensures ∙ ap hasReason (c .before .before .reason-at .ensures ∙ reason-there xs))
     ∙ ap (λ (h : IsoHead). not (eqb (h .count) 0) || hasReason (sessionOf xs .fatal)) (c .before .before .before .before .head-at .ensures ∙ head-there xs)
 
 scan-at-requires : tie.Need-scan-at-requires
@@ -58,7 +63,9 @@ head-at-requires : tie.Need-head-at-requires
 head-at-requires c κs = long-enough (c .before .before .before .before .before .args .bytes .now) refl (c .before .before .before .before .before .pre)
 
 reason-at-requires : tie.Need-reason-at-requires
-reason-at-requires c κs = long-enough (c .before .before .before .before .before .before .before .args .bytes .now) refl (c .before .before .before .before .before .before .before .pre)
+reason-at-requires c κs =
+    long-enough (c .before .before .before .before .before .before .before .args .bytes .now) refl
+    (c .before .before .before .before .before .before .before .pre)
 
 has-reason-requires : tie.Need-has-reason-requires
 has-reason-requires c κs = search needs
@@ -72,11 +79,16 @@ same-length-2 c = search needs
 returns-2 : tie.Need-returns-2
 returns-2 c =
     let xs = c .before .before .before .before .before .before .before .before .before .before .before .before .args .bytes .now in
-    stays xs (octets (c .before .before .before .before .before .before .before .before .before .before .before)) (c .before .before .before .before .before .before .before .before .before .before .before .before .pre) (resetReply (sessionOf xs))
-    (reset-full (sessionOf xs) (sym (c .before .before .before .before .before .before .before .before .before .scan-at .ensures .bad) ∙ c .before .before .before .before .before .before .before .before .if1 .left) (ap not (sym (some (c .before .before)) ∙ c .before .if2 .taken))) refl (c .reply-refused2 .ensures)
+    stays xs (octets (c .before .before .before .before .before .before .before .before .before .before .before))
+    (c .before .before .before .before .before .before .before .before .before .before .before .before .pre) (resetReply (sessionOf xs))
+    (reset-full (sessionOf xs) (sym (c .before .before .before .before .before .before .before .before .before .scan-at .ensures .bad)
+    ∙ c .before .before .before .before .before .before .before .before .if1 .left) (ap not (sym (some (c .before .before)) ∙ c .before .if2 .taken))) refl
+    (c .reply-refused2 .ensures)
 
 put-head-requires : tie.Need-put-head-requires
-put-head-requires c κs = long-enough (c .before .before .before .before .before .before .before .before .before .before .before .before .args .bytes .now) refl (c .before .before .before .before .before .before .before .before .before .before .before .before .pre)
+put-head-requires c κs =
+    long-enough (c .before .before .before .before .before .before .before .before .before .before .before .before .args .bytes .now) refl
+    (c .before .before .before .before .before .before .before .before .before .before .before .before .pre)
 
 reply-port-requires : tie.Need-reply-port-requires
 reply-port-requires c κs = search needs
@@ -86,13 +98,19 @@ same-length-3 c = search needs
 
 returns-3 : tie.Need-returns-3
 returns-3 c =
-    let xs = c .before .before .before .before .before .before .before .before .before .before .before .before .before .before .before .before .args .bytes .now in
+    let xs =
+    c .before .before .before .before .before .before .before .before .before .before .before .before .before .before .before .before .args .bytes .now in
     let s = sessionOf xs in
     becomes xs (resetReply s)
-    (reset-done s (sym (c .before .before .before .before .before .before .before .before .before .before .before .before .before .scan-at .ensures .bad) ∙ c .before .before .before .before .before .before .before .before .before .before .before .before .if1 .left) (ap not (sym (some (c .before .before .before .before .before .before)) ∙ c .before .before .before .before .before .if2 .left))) (c .reply-port .ensures)
+    (reset-done s (sym (c .before .before .before .before .before .before .before .before .before .before .before .before .before .scan-at .ensures .bad)
+    ∙ c .before .before .before .before .before .before .before .before .before .before .before .before .if1 .left)
+    (ap not (sym (some (c .before .before .before .before .before .before)) ∙ c .before .before .before .before .before .if2 .left))) (c .reply-port .ensures)
     (c .before .before .before .put-head .ensures
-    ∙ head-here xs (octets (c .before .before .before .before .before .before .before .before .before .before .before .before .before .before .before)) (c .before .before .before .before .before .before .before .before .before .before .before .before .before .before .before .before .pre) (cursor-first (c .before .before .before .before .before .before .before .before .before .before .head-at .result))
-    ∙ ap (λ (h : IsoHead). sets xs 0 (saved (session (s .cfg) (cursor-first h) (s .fatal) (s .requests) (s .plans)))) (c .before .before .before .before .before .before .before .before .before .before .head-at .ensures ∙ head-there xs))
+    ∙ head-here xs (octets (c .before .before .before .before .before .before .before .before .before .before .before .before .before .before .before))
+    (c .before .before .before .before .before .before .before .before .before .before .before .before .before .before .before .before .pre)
+    (cursor-first (c .before .before .before .before .before .before .before .before .before .before .head-at .result))
+    ∙ ap (λ (h : IsoHead). sets xs 0 (saved (session (s .cfg) (cursor-first h) (s .fatal) (s .requests) (s .plans))))
+    (c .before .before .before .before .before .before .before .before .before .before .head-at .ensures ∙ head-there xs))
 
 pub reset-at-spec : {M : Type 1} → statement M
 reset-at-spec =

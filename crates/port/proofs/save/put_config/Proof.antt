@@ -30,7 +30,8 @@ same-length c = search needs
 
 returns : tie.Need-returns
 returns c =
-    let a = c .before .before .before .before .before .before .before .before .before .before .before .before .before .before .before .before .before .before .before .before .args in
+    let a =
+    c .before .before .before .before .before .before .before .before .before .before .before .before .before .before .before .before .before .before .before .before .args in
     config-put (a .bytes .now) (a .cfg)
     (c .before .before .before .before .before .before .before .before .before .before .before .before .before .before .before .before .before .speed-tag .ensures)
     (c .before .before .before .before .before .before .before .before .before .before .before .before .before .before .before .before .direction-tag .ensures)

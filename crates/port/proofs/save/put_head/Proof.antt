@@ -30,7 +30,8 @@ same-length c = search needs
 
 returns : tie.Need-returns
 returns c =
-    let early = c .before .before .before .before .before .before .before .before .before .before .before .before .before .before .before .before .before .before in
+    let early =
+    c .before .before .before .before .before .before .before .before .before .before .before .before .before .before .before .before .before .before in
     let a = early .before .before .before .before .before .before .before .before .args in
     head-put (a .bytes .now) (a .head)
     (early .before .before .before .before .before .flag-tag .ensures)

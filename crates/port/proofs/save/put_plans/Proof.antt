@@ -47,11 +47,12 @@ loop-again : tie.Need-loop-again Inv-loop μ-loop
 loop-again c =
     let a = c .before .before .before .before .before .before .before .before .args in
     let now = c .before .before .before .before .before .before .loop in
-    let many : length (a .t2) ≡ 1024 = long ((c .before .before .before .before .before .before .before .before)) in (
+    let many : length (a .t2) ≡ 1024 = long (c .before .before .before .before .before .before .before .before) in (
       omega arith,
       omega arith,
       c .before .before .put-plan .kept .0 ∙ now .inv .2,
-      write-more planBytes 7 (now .i) (now .at) (a .t2) blankPlan (getD (a .t2) (now .i) blankPlan) (now .bytes) (omega arith) refl (length-plan _) (c .before .before .put-plan .ensures)
+      write-more planBytes 7 (now .i) (now .at) (a .t2) blankPlan (getD (a .t2) (now .i) blankPlan) (now .bytes) (omega arith) refl (length-plan _)
+          (c .before .before .put-plan .ensures)
           ∙ now .inv .3,
     )
 
@@ -61,7 +62,7 @@ same-length c = c .before .loop .inv .2
 returns : tie.Need-returns Inv-loop μ-loop
 returns c =
     let a = c .before .before .before .args in
-    let many : length (a .t2) ≡ 1024 = long ((c .before .before .before)) in
+    let many : length (a .t2) ≡ 1024 = long (c .before .before .before) in
     sym (write-end planBytes 7 (c .before .loop .i) (c .before .loop .at) (a .t2) (c .before .loop .bytes) (omega arith)) ∙ c .before .loop .inv .3
 
 pub put-plans-spec : {M : Type 1} → statement M

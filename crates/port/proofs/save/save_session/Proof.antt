@@ -35,7 +35,8 @@ same-length c = search needs
 
 returns : tie.Need-returns
 returns c =
-    let early = c .before .before .before .before .before .before .before .before .before .before .before .before .before .before .before .before .before .before .before in
+    let early =
+    c .before .before .before .before .before .before .before .before .before .before .before .before .before .before .before .before .before .before .before in
     let a = early .before .before .before .before .before .before .before .before .before .before .before .args in
     session-put (a .bytes .now) (a .session)
     (long (early .before .before .before .before .before .before .before .before .before .before .before))

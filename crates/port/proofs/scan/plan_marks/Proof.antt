@@ -28,7 +28,8 @@ Inv-loop bytes all pending limit slots bad held₀ at₀ j₀ held at j =
     × (anyBadPlan limit slots (slice 0 all (sessionOf bytes .plans)) ≡ anyBadPlan limit slots (slice j all (sessionOf bytes .plans)))
     × (length held ≡ 256)
     × ((k : ℕ) → k < 256
-    → (getD held k false || isHeld (slice ((all - pending) + (j - (all - pending))) all (sessionOf bytes .plans)) k) ≡ isHeld (slice (all - pending) all (sessionOf bytes .plans)) k)
+    → (getD held k false || isHeld (slice ((all - pending) + (j - (all - pending))) all (sessionOf bytes .plans)) k)
+    ≡ isHeld (slice (all - pending) all (sessionOf bytes .plans)) k)
 
 abbrev μ-loop : tie.MeasureT-loop
 μ-loop bytes all pending limit slots bad held₀ at₀ j₀ held at j = all - j
@@ -37,7 +38,9 @@ within : (c : tie.Start Inv-loop μ-loop) → c .args .all ≤ length (sessionOf
 within c = omega (arith, c .pre .1, plans-many (c .args .bytes .now))
 
 -- what is read is the entry of the table
-here : (c : tie.After-plan-at Inv-loop μ-loop) → c .plan-at .result ≡ getD (sessionOf (c .before .before .before .before .args .bytes .now) .plans) (c .before .before .loop .j) blankPlan
+here :
+    (c : tie.After-plan-at Inv-loop μ-loop)
+    → c .plan-at .result ≡ getD (sessionOf (c .before .before .before .before .args .bytes .now) .plans) (c .before .before .loop .j) blankPlan
 here c =
     let xs = c .before .before .before .before .args .bytes .now in
     c .plan-at .ensures
@@ -48,7 +51,12 @@ here c =
 slot-below : (c : tie.Else1 Inv-loop μ-loop) → c .before .before .plan-at .result .«desc_index» < 256
 slot-below c =
     let good = sym (c .before .is-bad-plan .ensures) ∙ c .if1 .left in
-    omega (arith, good-plan (c .before .before .before .before .before .before .args .limit) (c .before .before .before .before .before .before .args .slots) (c .before .before .plan-at .result) good .slot, c .before .before .before .before .before .before .pre .3)
+    omega (
+      arith,
+      good-plan (c .before .before .before .before .before .before .args .limit) (c .before .before .before .before .before .before .args .slots)
+          (c .before .before .plan-at .result) good .slot,
+      c .before .before .before .before .before .before .pre .3,
+    )
 
 loop-holds : tie.Need-loop-holds Inv-loop μ-loop
 loop-holds c =
@@ -68,8 +76,12 @@ returns : tie.Need-returns Inv-loop μ-loop
 returns c =
     let a = c .before .before .before .before .before .before .before .args in
     let l = sessionOf (a .bytes .now) .plans in
-    let found = sym (ap (isBadPlan (a .limit) (a .slots)) (here (c .before .before .before))) ∙ sym (c .before .before .is-bad-plan .ensures) ∙ c .before .if1 .taken in
-    let some = c .before .before .before .before .before .loop .inv .2 ∙ plan-here (a .limit) (a .slots) (c .before .before .before .before .before .loop .j) (a .all) l (omega arith) (within (c .before .before .before .before .before .before .before)) found in
+    let found =
+    sym (ap (isBadPlan (a .limit) (a .slots)) (here (c .before .before .before))) ∙ sym (c .before .before .is-bad-plan .ensures) ∙ c .before .if1 .taken in
+    let some =
+    c .before .before .before .before .before .loop .inv .2
+    ∙ plan-here (a .limit) (a .slots) (c .before .before .before .before .before .loop .j) (a .all) l (omega arith)
+    (within (c .before .before .before .before .before .before .before)) found in
     let is-bad = ap (λ (r : RecordScan). r .bad) (c .bad-scan .ensures) in
     record {
       bad = is-bad ∙ sym (ap (λ (b : Bool). b || a .bad) some);
@@ -114,7 +126,9 @@ loop-again c =
       now .inv .2 ∙ plan-next (a .limit) (a .slots) (now .j) (a .all) l less fits good,
       ⊎-elim (λ w. ap length (w .2) ∙ simp length-set (now .inv .3)) (λ w. ap length (w .1) ∙ now .inv .3) (c .if2 .came),
       λ k h. ⊎-elim
-          (λ w. mark-pending (now .held) (c .if2 .held) l from (now .j) (a .all) slot k (w .0 .taken) less fits at (mark-set (now .held) (c .if2 .held) slot k h (now .inv .3) (w .2)))
+          (λ w.
+          mark-pending (now .held) (c .if2 .held) l from (now .j) (a .all) slot k (w .0 .taken) less fits at
+          (mark-set (now .held) (c .if2 .held) slot k h (now .inv .3) (w .2)))
           (λ w. mark-done (now .held) (c .if2 .held) l from (now .j) (a .all) k (w .0 .left) (w .1))
           (c .if2 .came)
           ∙ now .inv .4 k h,
@@ -143,9 +157,13 @@ returns-2 c =
       bad = sym (ap (λ (b : Bool). b || a .bad) none);
       all = λ e. refl;
       pending = λ e. refl;
-      tail = λ e. ap (λ (p : IsoPacketPlan). p .«desc_index») (c .plan-at2 .ensures ∙ plan-there (a .bytes .now) (c .before .rest .result) blankPlan (omega (arith, c .before .before .before .before .before .pre .1, c .before .rest .ensures)))
+      tail = λ e.
+          ap (λ (p : IsoPacketPlan). p .«desc_index») (c .plan-at2 .ensures
+          ∙ plan-there (a .bytes .now) (c .before .rest .result) blankPlan
+          (omega (arith, c .before .before .before .before .before .pre .1, c .before .rest .ensures)))
           ∙ ap (λ (k : ℕ). getD l k blankPlan .«desc_index») (c .before .rest .ensures);
-      held = λ e k h. marks-all (now .held) l (from + (now .j - from)) (a .all) k (omega (arith, c .before .before .before .before .before .pre .2)) ∙ now .inv .4 k h;
+      held = λ e k h.
+          marks-all (now .held) l (from + (now .j - from)) (a .all) k (omega (arith, c .before .before .before .before .before .pre .2)) ∙ now .inv .4 k h;
     }
 
 pub plan-marks-spec : {M : Type 1} → statement M

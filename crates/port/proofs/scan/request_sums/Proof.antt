@@ -35,7 +35,9 @@ within : (c : tie.Start Inv-loop μ-loop) → c .args .count ≤ length (session
 within c = omega (arith, c .pre .1, requests-many (c .args .bytes .now))
 
 -- what is read is the entry of the table
-here : (c : tie.After-request-at Inv-loop μ-loop) → c .request-at .result ≡ getD (sessionOf (c .before .before .before .before .args .bytes .now) .requests) (c .before .before .loop .i) blankRequest
+here :
+    (c : tie.After-request-at Inv-loop μ-loop)
+    → c .request-at .result ≡ getD (sessionOf (c .before .before .before .before .args .bytes .now) .requests) (c .before .before .loop .i) blankRequest
 here c =
     let xs = c .before .before .before .before .args .bytes .now in
     c .request-at .ensures
@@ -68,7 +70,10 @@ returns c =
     let l = sessionOf (a .bytes .now) .requests in
     let bad = sym (ap isBadRequest (here (c .before .before))) ∙ sym (c .before .is-bad-request .ensures) ∙ c .if1 .taken in
     record {
-      bad = sym (c .before .before .before .before .loop .inv .4 ∙ request-here (c .before .before .before .before .loop .i) (a .count) l (omega arith) (within (c .before .before .before .before .before .before)) bad);
+      bad =
+          sym (c .before .before .before .before .loop .inv .4
+          ∙ request-here (c .before .before .before .before .loop .i) (a .count) l (omega arith) (within (c .before .before .before .before .before .before))
+          bad);
       all = λ e. absurd (never e);
       pending = λ e. absurd (never e);
     }
@@ -77,13 +82,27 @@ wide-requires : tie.Need-wide-requires Inv-loop μ-loop
 wide-requires c κs = search needs
 
 add-all : tie.Need-add-all Inv-loop μ-loop
-add-all c = omega (arith, c .before .before .before .before .before .before .before .pre .1, c .before .before .before .before .before .loop .inv .2, c .wide .ensures .1)
+add-all c =
+    omega (
+      arith,
+      c .before .before .before .before .before .before .before .pre .1,
+      c .before .before .before .before .before .loop .inv .2,
+      c .wide .ensures .1,
+    )
 
 wide-from-requires : tie.Need-wide-from-requires Inv-loop μ-loop
 wide-from-requires c κs = search needs
 
 add-pending : tie.Need-add-pending Inv-loop μ-loop
-add-pending c = omega (arith, c .before .before .before .before .before .before .before .before .pre .1, c .before .before .before .before .before .before .loop .inv .3, c .wide-from .ensures .1, c .before .wide .ensures .0, c .before .wide .ensures .1)
+add-pending c =
+    omega (
+      arith,
+      c .before .before .before .before .before .before .before .before .pre .1,
+      c .before .before .before .before .before .before .loop .inv .3,
+      c .wide-from .ensures .1,
+      c .before .wide .ensures .0,
+      c .before .wide .ensures .1,
+    )
 
 add-at : tie.Need-add-at Inv-loop μ-loop
 add-at c = omega (arith, c .before .before .before .before .before .before .before .before .pre .1)
@@ -102,7 +121,8 @@ loop-again c =
     let is = here (c .before .before .before .before) in
     let good = sym (ap isBadRequest is) ∙ sym (c .before .before .before .is-bad-request .ensures) ∙ c .before .before .if1 .left in
     let few = good-request (getD l (now .i) blankRequest) good .few in
-    let packets : c .before .before .before .before .request-at .result .packets ≡ getD l (now .i) blankRequest .packets = ap (λ (r : IsoRequest). r .packets) is in
+    let packets : c .before .before .before .before .request-at .result .packets ≡ getD l (now .i) blankRequest .packets =
+    ap (λ (r : IsoRequest). r .packets) is in
     let counted : c .wide-from .result ≡ cond (ltb (now .i) (a .done)) 0 (getD l (now .i) blankRequest .packets) =
     c .wide-from .ensures .0 ∙ ap (cond (ltb (now .i) (a .done)) 0) packets in
     let less : now .i < a .count = omega arith in

@@ -3,11 +3,11 @@ use borrow.Author.Needs.{needs}
 use Rattle.port.proofs.setup.setup_numbers.Statement.{statement}
 use Rattle.port.proofs.setup.setup_numbers.Tie as tie
 
-answer-number-requires : tie.Need-answer-number-requires
-answer-number-requires c κs = search needs
+plan-number-requires : tie.Need-plan-number-requires
+plan-number-requires c κs = search needs
 
 returns : tie.Need-returns
-returns c = rw (c .answer-number .ensures)
+returns c = rw (c .plan-number .ensures)
 
 pub setup-numbers-spec : {M : Type 1} → statement M
-setup-numbers-spec = tie.close (tie.spec answer-number-requires returns)
+setup-numbers-spec = tie.close (tie.spec plan-number-requires returns)

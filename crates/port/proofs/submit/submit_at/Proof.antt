@@ -23,16 +23,40 @@ octets : (c : tie.After-slice-known) → Octets (c .before .args .bytes .now)
 octets c i = omega (arith, c .slice-known .given i)
 
 -- the parts that were read, with the tables
-read-is : (c : tie.After-fatal-of) → whole (c .before .before .before .before .before .config-at .result) (c .before .before .before .head-at .result) (c .fatal-of .result) (sessionOf (c .before .before .before .before .before .before .before .before .before .before .args .bytes .now) .requests) (sessionOf (c .before .before .before .before .before .before .before .before .before .before .args .bytes .now) .plans) ≡ sessionOf (c .before .before .before .before .before .before .before .before .before .before .args .bytes .now)
-read-is c = parts-read (c .before .before .before .before .before .before .before .before .before .before .args .bytes .now) (c .before .before .before .before .before .config-at .ensures) (c .before .before .before .head-at .ensures) (c .before .tagged-at .ensures) (c .fatal-of .ensures)
+read-is :
+    (c : tie.After-fatal-of)
+    → whole (c .before .before .before .before .before .config-at .result) (c .before .before .before .head-at .result) (c .fatal-of .result)
+    (sessionOf (c .before .before .before .before .before .before .before .before .before .before .args .bytes .now) .requests)
+    (sessionOf (c .before .before .before .before .before .before .before .before .before .before .args .bytes .now) .plans)
+    ≡ sessionOf (c .before .before .before .before .before .before .before .before .before .before .args .bytes .now)
+read-is c =
+    parts-read (c .before .before .before .before .before .before .before .before .before .before .args .bytes .now)
+    (c .before .before .before .before .before .config-at .ensures) (c .before .before .before .head-at .ensures) (c .before .tagged-at .ensures)
+    (c .fatal-of .ensures)
 
-walked : (c : tie.After-scan-at) → Scanned (whole (c .before .before .before .before .before .before .before .config-at .result) (c .before .before .before .before .before .head-at .result) (c .before .before .fatal-of .result) (sessionOf (c .before .before .before .before .before .before .before .before .before .before .before .before .args .bytes .now) .requests) (sessionOf (c .before .before .before .before .before .before .before .before .before .before .before .before .args .bytes .now) .plans)) (c .scan-at .result)
+walked :
+    (c : tie.After-scan-at)
+    → Scanned (whole (c .before .before .before .before .before .before .before .config-at .result) (c .before .before .before .before .before .head-at .result)
+    (c .before .before .fatal-of .result)
+    (sessionOf (c .before .before .before .before .before .before .before .before .before .before .before .before .args .bytes .now) .requests)
+    (sessionOf (c .before .before .before .before .before .before .before .before .before .before .before .before .args .bytes .now) .plans))
+    (c .scan-at .result)
 walked c = subst⁻¹ (λ (s : IsoChannelState). Scanned s (c .scan-at .result)) (read-is (c .before .before)) (c .scan-at .ensures)
 
-parted : (c : tie.After-submit-parts) → Parted (sessionOf (c .before .before .before .before .before .before .before .before .before .before .before .before .before .before .args .bytes .now)) (c .before .before .before .before .before .before .before .before .before .before .before .before .before .before .args .transfer) (c .before .before .before .before .before .before .before .before .before .before .before .before .before .before .args .lengths .now) (c .before .before .before .before .before .before .before .before .before .before .before .before .before .before .args .ring .now) (c .submit-parts .result)
+parted :
+    (c : tie.After-submit-parts)
+    → Parted (sessionOf (c .before .before .before .before .before .before .before .before .before .before .before .before .before .before .args .bytes .now))
+    (c .before .before .before .before .before .before .before .before .before .before .before .before .before .before .args .transfer)
+    (c .before .before .before .before .before .before .before .before .before .before .before .before .before .before .args .lengths .now)
+    (c .before .before .before .before .before .before .before .before .before .before .before .before .before .before .args .ring .now)
+    (c .submit-parts .result)
 parted c =
     let xs = c .before .before .before .before .before .before .before .before .before .before .before .before .before .before .args .bytes .now in
-    subst (λ (s : IsoChannelState). Parted s (c .before .before .before .before .before .before .before .before .before .before .before .before .before .before .args .transfer) (c .before .before .before .before .before .before .before .before .before .before .before .before .before .before .args .lengths .now) (c .before .before .before .before .before .before .before .before .before .before .before .before .before .before .args .ring .now) (c .submit-parts .result)) (read-is (c .before .before .before .before))
+    subst (λ (s : IsoChannelState).
+    Parted s (c .before .before .before .before .before .before .before .before .before .before .before .before .before .before .args .transfer)
+    (c .before .before .before .before .before .before .before .before .before .before .before .before .before .before .args .lengths .now)
+    (c .before .before .before .before .before .before .before .before .before .before .before .before .before .before .args .ring .now)
+    (c .submit-parts .result)) (read-is (c .before .before .before .before))
     (c .submit-parts .ensures (sessionOf xs .requests) (sessionOf xs .plans) (walked (c .before .before)) .0)
 
 config-at-requires : tie.Need-config-at-requires
@@ -55,11 +79,21 @@ submit-parts-requires c κs = search needs
 
 put-added-requires : tie.Need-put-added-requires
 put-added-requires c κs =
-    let p = parted (c .before .before .before) in
-    (c .before .before .before .before .before .before .before .before .before .before .before .before .before .before .before .before .before .pre, ap (λ (s : IsoChannelState). s .head) (read-is (c .before .before .before .before .before .before .before)), p .some-slots, p .fitting)
+    let p = parted (c .before .before .before) in (
+      c .before .before .before .before .before .before .before .before .before .before .before .before .before .before .before .before .before .pre,
+      ap (λ (s : IsoChannelState). s .head) (read-is (c .before .before .before .before .before .before .before)),
+      p .some-slots,
+      p .fitting,
+    )
 
 put-head-requires : tie.Need-put-head-requires
-put-head-requires c κs = omega (arith, long (c .before .before .before .before .before .before .before .before .before .before .before .before .before .before .before .before .before .before .before .before .before .before), c .before .before .before .before .put-added .kept .0)
+put-head-requires c κs =
+    omega (
+      arith,
+      long
+          (c .before .before .before .before .before .before .before .before .before .before .before .before .before .before .before .before .before .before .before .before .before .before),
+      c .before .before .before .before .put-added .kept .0,
+    )
 
 submit-port-requires : tie.Need-submit-port-requires
 submit-port-requires c κs = search needs
@@ -72,14 +106,31 @@ same-length-2 c = search needs
 
 returns : tie.Need-returns
 returns c =
-    let xs = c .before .before .before .before .before .before .before .before .before .before .before .before .before .before .before .before .before .before .before .before .before .before .before .before .before .before .before .args .bytes .now in
-    let L = c .before .before .before .before .before .before .before .before .before .before .before .before .before .before .before .before .before .before .before .before .before .before .before .before .before .before .before .args .lengths .now in
+    let xs =
+    c .before .before .before .before .before .before .before .before .before .before .before .before .before .before .before .before .before .before .before .before .before .before .before .before .before .before .before .args .bytes .now in
+    let L =
+    c .before .before .before .before .before .before .before .before .before .before .before .before .before .before .before .before .before .before .before .before .before .before .before .before .before .before .before .args .lengths .now in
     let r = c .before .before .before .before .before .before .before .before .before .before .before .before .before .submit-parts .result in
     let p = parted (c .before .before .before .before .before .before .before .before .before .before .before .before .before) in (
       c .submit-port .ensures ∙ ap submittedPort (p .joins),
-      numbers-put xs (octets (c .before .before .before .before .before .before .before .before .before .before .before .before .before .before .before .before .before .before .before .before .before .before .before .before .before .before)) (c .before .before .before .before .before .before .before .before .before .before .before .before .before .before .before .before .before .before .before .before .before .before .before .before .before .before .before .pre) L r (c .before .before .before .before .before .before .before .before .before .before .before .before .before .before .before .before .before .before .before .before .before .before .before .before .before .before .before .args .transfer) (c .before .before .before .before .before .before .before .before .before .before .before .before .before .before .before .before .before .before .before .before .before .before .before .before .before .before .before .args .ring .now) (c .before .before .before .before .before .before .before .before .before .put-added .ensures) (c .before .before .before .before .put-head .ensures) (p .joins),
-      c .before .before .before .before .before .before .before .before .before .before .before .before .before .submit-parts .ensures (sessionOf xs .requests) (sessionOf xs .plans) (walked (c .before .before .before .before .before .before .before .before .before .before .before .before .before .before .before)) .1
-          ∙ ap (λ (s : IsoChannelState). submittedRing s (c .before .before .before .before .before .before .before .before .before .before .before .before .before .before .before .before .before .before .before .before .before .before .before .before .before .before .before .args .transfer) L (c .before .before .before .before .before .before .before .before .before .before .before .before .before .before .before .before .before .before .before .before .before .before .before .before .before .before .before .args .ring .now)) (read-is (c .before .before .before .before .before .before .before .before .before .before .before .before .before .before .before .before .before)),
+      numbers-put xs (octets
+          (c .before .before .before .before .before .before .before .before .before .before .before .before .before .before .before .before .before .before .before .before .before .before .before .before .before .before))
+          (c .before .before .before .before .before .before .before .before .before .before .before .before .before .before .before .before .before .before .before .before .before .before .before .before .before .before .before .pre)
+          L r
+          (c .before .before .before .before .before .before .before .before .before .before .before .before .before .before .before .before .before .before .before .before .before .before .before .before .before .before .before .args .transfer)
+          (c .before .before .before .before .before .before .before .before .before .before .before .before .before .before .before .before .before .before .before .before .before .before .before .before .before .before .before .args .ring .now)
+          (c .before .before .before .before .before .before .before .before .before .put-added .ensures) (c .before .before .before .before .put-head .ensures)
+          (p .joins),
+      c .before .before .before .before .before .before .before .before .before .before .before .before .before .submit-parts .ensures (sessionOf xs .requests)
+          (sessionOf xs .plans)
+          (walked (c .before .before .before .before .before .before .before .before .before .before .before .before .before .before .before)) .1
+          ∙ ap (λ (s : IsoChannelState).
+          submittedRing s
+          (c .before .before .before .before .before .before .before .before .before .before .before .before .before .before .before .before .before .before .before .before .before .before .before .before .before .before .before .args .transfer)
+          L
+          (c .before .before .before .before .before .before .before .before .before .before .before .before .before .before .before .before .before .before .before .before .before .before .before .before .before .before .before .args .ring .now))
+          (read-is
+          (c .before .before .before .before .before .before .before .before .before .before .before .before .before .before .before .before .before)),
     )
 
 pub submit-at-spec : {M : Type 1} → statement M

@@ -11,7 +11,9 @@ returns : tie.Need-returns
 returns c = sym (ap (λ (n : ℕ). fatalOf (tagged n (c .before .before .args .t .kind) (c .before .before .args .t .word))) (c .if1 .taken))
 
 returns-2 : tie.Need-returns-2
-returns-2 c = sym (ap (λ (n : ℕ). fatalOf (tagged n (c .before .before .before .before .args .t .kind) (c .before .before .before .before .args .t .word))) (c .if2 .taken))
+returns-2 c =
+    sym
+    (ap (λ (n : ℕ). fatalOf (tagged n (c .before .before .before .before .args .t .kind) (c .before .before .before .before .args .t .word))) (c .if2 .taken))
 
 fault-of-requires : tie.Need-fault-of-requires
 fault-of-requires c κs = search needs

@@ -13,7 +13,9 @@ returns : tie.Need-returns
 returns c = sym (ap (λ (n : ℕ). outcomeOf (tagged n (c .before .before .args .t .kind) (c .before .before .args .t .word))) (c .if1 .taken))
 
 returns-2 : tie.Need-returns-2
-returns-2 c = sym (ap (λ (n : ℕ). outcomeOf (tagged n (c .before .before .before .before .args .t .kind) (c .before .before .before .before .args .t .word))) (c .if2 .taken))
+returns-2 c =
+    sym
+    (ap (λ (n : ℕ). outcomeOf (tagged n (c .before .before .before .before .args .t .kind) (c .before .before .before .before .args .t .word))) (c .if2 .taken))
 
 returns-3 : tie.Need-returns-3
 returns-3 c =
@@ -26,7 +28,8 @@ fault-of-requires c κs = search needs
 returns-4 : tie.Need-returns-4
 returns-4 c =
     let a = c .before .before .before .before .before .before .before .before .before .args in
-    ap (λ (k : Dwc2TransferFault). Fault k (a .t .word)) (c .fault-of .ensures) ∙ sym (ap (λ (n : ℕ). outcomeOf (tagged n (a .t .kind) (a .t .word))) (c .before .if4 .taken))
+    ap (λ (k : Dwc2TransferFault). Fault k (a .t .word)) (c .fault-of .ensures)
+    ∙ sym (ap (λ (n : ℕ). outcomeOf (tagged n (a .t .kind) (a .t .word))) (c .before .if4 .taken))
 
 returns-5 : tie.Need-returns-5
 returns-5 c =

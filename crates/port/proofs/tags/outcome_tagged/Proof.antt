@@ -34,7 +34,9 @@ returns-3 : tie.Need-returns-3
 returns-3 c = sym (ap outcomeTagged (c .enum-told3 .given .1))
 
 returns-4 : tie.Need-returns-4
-returns-4 c = ap (λ (k : ℕ). tagged 3 k (c .before .before .outcome .given .0 .1 .0)) (c .fault-tag .ensures) ∙ sym (ap outcomeTagged (c .before .before .outcome .given .1))
+returns-4 c =
+    ap (λ (k : ℕ). tagged 3 k (c .before .before .outcome .given .0 .1 .0)) (c .fault-tag .ensures)
+    ∙ sym (ap outcomeTagged (c .before .before .outcome .given .1))
 
 returns-5 : tie.Need-returns-5
 returns-5 c = sym (ap outcomeTagged (c .before .outcome2 .given .1))

@@ -19,7 +19,8 @@ returns : tie.Need-returns
 returns c = sym (ap reasonTagged (c .enum-told .given .1))
 
 returns-2 : tie.Need-returns-2
-returns-2 c = ap (λ (k : ℕ). tagged 2 k (c .before .before .reason .given .0 .1 .0)) (c .fault-tag .ensures) ∙ sym (ap reasonTagged (c .before .before .reason .given .1))
+returns-2 c =
+    ap (λ (k : ℕ). tagged 2 k (c .before .before .reason .given .0 .1 .0)) (c .fault-tag .ensures) ∙ sym (ap reasonTagged (c .before .before .reason .given .1))
 
 pub reason-tagged-spec : {M : Type 1} → statement M
 reason-tagged-spec =

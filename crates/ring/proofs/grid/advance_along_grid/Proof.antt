@@ -1,7 +1,7 @@
 -- `advance_along_grid` is its definition at the step, the gap and the size that its callees answer: a slot that the ring has is its own
 -- remainder.
 use mathlib.Core.Path.{_≡_, _∙_, sym, ap, ap₂}
-use Prim.Native.Nat.{ℕ, _+_, _%_, _<_, max}
+use Prim.Native.Nat.{ℕ, _+_, _%_, _<_}
 use native.Mathlib.Nat.{mod-lt, mod-eq-of-lt}
 use native.Mathlib.Omega.{arith}
 use Rattle.ring.specs.RingSums.{gridStep, gridGap, gridSlot}
@@ -33,7 +33,8 @@ cast-result c = search needs
 -- the remainder by the size is the definition's
 slot : (c : tie.After-at-least-one) →
     (c .before .before .before .args .target + c .before .grid-gap .result) % c .at-least-one .result
-    ≡ gridSlot (c .before .before .before .args .td-last) (c .before .before .before .args .target) (c .before .before .before .args .interval) (c .before .before .before .args .ring)
+    ≡ gridSlot (c .before .before .before .args .td-last) (c .before .before .before .args .target) (c .before .before .before .args .interval)
+    (c .before .before .before .args .ring)
 slot c =
     let a = c .before .before .before .args in
     let gap : c .before .grid-gap .result ≡ gridGap (gridStep (a .interval) (a .ring)) (a .td-last) (a .target) =

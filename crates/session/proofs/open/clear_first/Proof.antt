@@ -23,7 +23,8 @@ returns-2 : tie.Need-returns-2
 returns-2 c =
     let a = c .before .before .before .before .before .before .args in
     c .before .before .clear-ring .ensures
-    ∙ sym (ap (λ (b : Bool). cond b (a .ring .now) (cleared (a .words) (a .ring .now))) (le-ltb (length (a .ring .now)) (a .words) (c .before .before .before .before .if1 .left)))
+    ∙ sym (ap (λ (b : Bool). cond b (a .ring .now) (cleared (a .words) (a .ring .now)))
+    (le-ltb (length (a .ring .now)) (a .words) (c .before .before .before .before .if1 .left)))
 
 pub clear-first-spec : {M : Type 1} → statement M
 clear-first-spec = tie.close (tie.spec returns clear-ring-requires same-length returns-2)

@@ -11,10 +11,16 @@ use Rattle.session.proofs.poll.way_of.Statement.{statement}
 use Rattle.session.proofs.poll.way_of.Tie as tie
 
 returns : tie.Need-returns
-returns c = first-way (c .before .before .before .args .event .unplugged) Nothing (End Disconnected) (wayByFault (hcintFault (c .before .before .before .args .event .hcint)) (c .before .before .before .args .fatal) (c .before .before .before .args .event .hcint)) (c .if1 .taken)
+returns c =
+    first-way (c .before .before .before .args .event .unplugged) Nothing (End Disconnected)
+    (wayByFault (hcintFault (c .before .before .before .args .event .hcint)) (c .before .before .before .args .fatal)
+    (c .before .before .before .args .event .hcint)) (c .if1 .taken)
 
 returns-2 : tie.Need-returns-2
-returns-2 c = second-way Nothing (End Disconnected) (wayByFault (hcintFault (c .before .before .before .before .args .event .hcint)) (c .before .before .before .before .args .fatal) (c .before .before .before .before .args .event .hcint)) (c .before .if1 .left) (c .if2 .taken)
+returns-2 c =
+    second-way Nothing (End Disconnected)
+    (wayByFault (hcintFault (c .before .before .before .before .args .event .hcint)) (c .before .before .before .before .args .fatal)
+    (c .before .before .before .before .args .event .hcint)) (c .before .if1 .left) (c .if2 .taken)
 
 hcint-fault-requires : tie.Need-hcint-fault-requires
 hcint-fault-requires c κs = search needs
@@ -23,7 +29,13 @@ way-by-fault-requires : tie.Need-way-by-fault-requires
 way-by-fault-requires c κs = search needs
 
 returns-3 : tie.Need-returns-3
-returns-3 c = third-way Nothing (End Disconnected) (wayByFault (hcintFault (c .before .before .before .before .before .before .args .event .hcint)) (c .before .before .before .before .before .before .args .fatal) (c .before .before .before .before .before .before .args .event .hcint)) (c .before .before .before .if1 .left) (c .before .before .if2 .left) (c .way-by-fault .ensures ∙ ap (λ (f : HcintFault). wayByFault f (c .before .before .before .before .before .before .args .fatal) (c .before .before .before .before .before .before .args .event .hcint)) (c .before .hcint-fault .ensures))
+returns-3 c =
+    third-way Nothing (End Disconnected) (wayByFault (hcintFault (c .before .before .before .before .before .before .args .event .hcint))
+    (c .before .before .before .before .before .before .args .fatal) (c .before .before .before .before .before .before .args .event .hcint))
+    (c .before .before .before .if1 .left) (c .before .before .if2 .left) (c .way-by-fault .ensures
+    ∙ ap (λ (f : HcintFault).
+    wayByFault f (c .before .before .before .before .before .before .args .fatal) (c .before .before .before .before .before .before .args .event .hcint))
+    (c .before .hcint-fault .ensures))
 
 pub way-of-spec : {M : Type 1} → statement M
 way-of-spec =

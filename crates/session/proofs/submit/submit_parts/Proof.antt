@@ -29,7 +29,11 @@ step-of-requires c κs = search needs
 slot-after-requires : tie.Need-slot-after-requires
 slot-after-requires c κs = (
   c .before .slots-of .ensures .1,
-  few-added (c .before .before .before .before .before .before .before .before .before .submit-way .result) (length (c .before .before .before .before .before .before .before .before .before .before .before .before .before .args .lengths .now)) (c .before .before .added-packets .result) 255 (c .before .before .added-packets .ensures) (λ e. c .before .before .before .before .before .before .before .before .before .submit-way .ensures .1 (gate (c .before .before .before .before .before .before .before .before .before .submit-way .result) e) .0),
+  few-added (c .before .before .before .before .before .before .before .before .before .submit-way .result)
+      (length (c .before .before .before .before .before .before .before .before .before .before .before .before .before .args .lengths .now))
+      (c .before .before .added-packets .result) 255 (c .before .before .added-packets .ensures) (λ e.
+      c .before .before .before .before .before .before .before .before .before .submit-way .ensures .1
+      (gate (c .before .before .before .before .before .before .before .before .before .submit-way .result) e) .0),
 )
 
 answer-of-requires : tie.Need-answer-of-requires
@@ -39,7 +43,12 @@ start-if-requires : tie.Need-start-if-requires
 start-if-requires c κs = search needs
 
 head-after-requires : tie.Need-head-after-requires
-head-after-requires c κs = λ e. omega (arith, c .before .before .before .before .before .before .before .before .before .before .before .before .before .submit-way .ensures .1 (gate (c .before .before .before .before .before .before .before .before .before .before .before .before .before .submit-way .result) e) .1)
+head-after-requires c κs = λ e.
+    omega (
+      arith,
+      c .before .before .before .before .before .before .before .before .before .before .before .before .before .submit-way .ensures .1
+          (gate (c .before .before .before .before .before .before .before .before .before .before .before .before .before .submit-way .result) e) .1,
+    )
 
 cast-t21 : tie.Need-cast-t21
 cast-t21 c = search needs
@@ -49,16 +58,27 @@ same-length c = search needs
 
 returns : tie.Need-returns
 returns c = λ requests plans w.
-    let a = c .before .before .before .before .before .before .before .before .before .before .before .before .before .before .before .before .before .before .before .args in
+    let a =
+    c .before .before .before .before .before .before .before .before .before .before .before .before .before .before .before .before .before .before .before .args in
     let s = whole (a .cfg) (a .head) (a .fatal) requests plans in
     let L = a .lengths .now in
     let ring = a .ring .now in
     let way = c .before .before .before .before .before .before .before .before .before .before .before .before .before .before .before .submit-way .result in
     let insert = c .before .before .before .before .before .before .before .before .before .before .before .before .before .insert-of .result in
-    let way-is = c .before .before .before .before .before .before .before .before .before .before .before .before .before .before .before .submit-way .ensures .0 requests plans w in (
-      parted s (a .transfer) L ring (a .scan) way insert w way-is (c .before .before .before .before .before .before .before .before .before .before .before .before .before .insert-of .ensures) _ (c .before .before .before .before .before .slot-after .result) refl refl (c .before .before .before .before .before .before .before .slots-of .ensures) (c .before .before .before .before .before .before .step-of .ensures)
-          (c .before .before .before .before .before .before .before .before .added-packets .ensures) (c .before .before .before .before .before .slot-after .ensures) (c .before .before .before .before .answer-of .ensures) (c .before .before .start-if .ensures) (c .before .head-after .ensures),
-      c .before .before .before .before .before .before .before .before .before .before .before .store-by .ensures ∙ ring-parted s (a .transfer) L ring (a .scan) way insert w way-is (c .before .before .before .before .before .before .before .before .before .before .before .before .before .insert-of .ensures),
+    let way-is =
+    c .before .before .before .before .before .before .before .before .before .before .before .before .before .before .before .submit-way .ensures .0 requests
+    plans w in (
+      parted s (a .transfer) L ring (a .scan) way insert w way-is
+          (c .before .before .before .before .before .before .before .before .before .before .before .before .before .insert-of .ensures) _
+          (c .before .before .before .before .before .slot-after .result) refl refl
+          (c .before .before .before .before .before .before .before .slots-of .ensures)
+          (c .before .before .before .before .before .before .step-of .ensures)
+          (c .before .before .before .before .before .before .before .before .added-packets .ensures)
+          (c .before .before .before .before .before .slot-after .ensures) (c .before .before .before .before .answer-of .ensures)
+          (c .before .before .start-if .ensures) (c .before .head-after .ensures),
+      c .before .before .before .before .before .before .before .before .before .before .before .store-by .ensures
+          ∙ ring-parted s (a .transfer) L ring (a .scan) way insert w way-is
+          (c .before .before .before .before .before .before .before .before .before .before .before .before .before .insert-of .ensures),
     )
 
 pub submit-parts-spec : {M : Type 1} → statement M

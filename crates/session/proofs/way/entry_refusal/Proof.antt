@@ -26,11 +26,12 @@ ring-words-requires c κs = search needs
 
 returns : tie.Need-returns
 returns c =
-    let e1 : ltb (c .before .before .args .words) (ringWords (c .before .before .args .cfg)) ≡ true = lt-ltb _ _ (subst (λ (n : ℕ). c .before .before .args .words < n) (c .before .ring-words .ensures .0) (c .if1 .taken)) in
+    let e1 : ltb (c .before .before .args .words) (ringWords (c .before .before .args .cfg)) ≡ true =
+    lt-ltb _ _ (subst (λ (n : ℕ). c .before .before .args .words < n) (c .before .ring-words .ensures .0) (c .if1 .taken)) in
     (λ requests plans w. entry-short _ e1, λ z. absurd (omega arith))
 
 returns-2 : tie.Need-returns-2
-returns-2 c = (λ requests plans w. entry-bad _ (long ((c .before))) (sym (w .bad) ∙ c .if2 .taken), λ z. absurd (omega arith))
+returns-2 c = (λ requests plans w. entry-bad _ (long (c .before)) (sym (w .bad) ∙ c .if2 .taken), λ z. absurd (omega arith))
 
 room-requires : tie.Need-room-requires
 room-requires c κs = search needs
@@ -58,25 +59,43 @@ returns-3 c =
     let a = c .before .before .before .before .before .before .before .before .before .before .before .before .before .before .args in
     let n = a .n in
     let alone = eqb (a .head .done) (a .head .count) in
-    let most : c .before .before .before .before .before .before .before .before .before .wide .result ≡ room (a .cfg) = c .before .before .before .before .before .before .before .before .before .wide .ensures .0 ∙ c .before .before .before .before .before .before .before .before .before .before .room .ensures in
+    let most : c .before .before .before .before .before .before .before .before .before .wide .result ≡ room (a .cfg) =
+    c .before .before .before .before .before .before .before .before .before .wide .ensures .0
+    ∙ c .before .before .before .before .before .before .before .before .before .before .room .ensures in
     let last = leb 64 (a .head .count) || ltb (c .before .before .before .before .before .before .rest2 .result) n in (
       λ requests plans w.
           let s = whole (a .cfg) (a .head) (a .fatal) requests plans in
-          let bad : isBadRecord s ≡ false = sym (w .bad) ∙ c .before .before .before .before .before .before .before .before .before .before .before .if2 .left in
+          let bad : isBadRecord s ≡ false =
+          sym (w .bad) ∙ c .before .before .before .before .before .before .before .before .before .before .before .if2 .left in
           let found = w .found bad in
           let over : ltb (c .before .before .before .before .before .before .before .before .rest .result) n ≡ isOver s n =
-          ap (λ (k : ℕ). ltb k n) (c .before .before .before .before .before .before .before .before .rest .ensures ∙ ap₂ (λ (r p : ℕ). r - p) most (found .pending)) ∙ rest-test (room (a .cfg)) (pendingPackets s) n (good-sums s bad .1) in
+          ap (λ (k : ℕ). ltb k n)
+          (c .before .before .before .before .before .before .before .before .rest .ensures ∙ ap₂ (λ (r p : ℕ). r - p) most (found .pending))
+          ∙ rest-test (room (a .cfg)) (pendingPackets s) n (good-sums s bad .1) in
           let full : last ≡ (ltb 64 (a .head .count + 1) || ltb 1024 (allPackets s + n)) =
-          ap (λ (k : ℕ). leb 64 (a .head .count) || ltb k n) (c .before .before .before .before .before .before .rest2 .ensures ∙ ap (λ (x : ℕ). 1024 - x) (found .all)) ∙ full-test (a .head .count) (allPackets s) n (good-sums s bad .0) in
+          ap (λ (k : ℕ). leb 64 (a .head .count) || ltb k n)
+          (c .before .before .before .before .before .before .rest2 .ensures ∙ ap (λ (x : ℕ). 1024 - x) (found .all))
+          ∙ full-test (a .head .count) (allPackets s) n (good-sums s bad .0) in
           c .entry-number .ensures
-          ∙ entry-equal (not (a .transfer .isochronous)) (eqb n 0) (not (a .transfer .«has_buffer»)) alone (c .before .before .before .before .before .has-reason .ensures) (c .before .before .before .before .is-low .ensures) over full
-          ∙ entry-rest _ (long ((c .before .before .before .before .before .before .before .before .before .before .before .before))) bad,
+          ∙ entry-equal (not (a .transfer .isochronous)) (eqb n 0) (not (a .transfer .«has_buffer»)) alone
+          (c .before .before .before .before .before .has-reason .ensures) (c .before .before .before .before .is-low .ensures) over full
+          ∙ entry-rest _ (long (c .before .before .before .before .before .before .before .before .before .before .before .before)) bad,
       λ z.
           let over = ltb (c .before .before .before .before .before .before .before .before .rest .result) n in
-          let off = not-over (c .before .before .before .before .before .has-reason .result) (c .before .before .before .before .is-low .result) (not (a .transfer .isochronous)) (eqb n 0) (not (a .transfer .«has_buffer»)) (over && alone) over last (sym (c .entry-number .ensures) ∙ z) in (
-            omega (arith, ltb-false (c .before .before .before .before .before .before .before .before .rest .result) n (off .0), c .before .before .before .before .before .before .before .before .rest .ensures, most, room-few (a .cfg)),
-            leb-false 64 (a .head .count) (neither (leb 64 (a .head .count)) (ltb (c .before .before .before .before .before .before .rest2 .result) n) (off .1) .0),
-            ltb-false (a .words) (ringWords (a .cfg)) (long ((c .before .before .before .before .before .before .before .before .before .before .before .before))),
+          let off =
+          not-over (c .before .before .before .before .before .has-reason .result) (c .before .before .before .before .is-low .result)
+          (not (a .transfer .isochronous)) (eqb n 0) (not (a .transfer .«has_buffer»)) (over && alone) over last (sym (c .entry-number .ensures) ∙ z) in (
+            omega (
+              arith,
+              ltb-false (c .before .before .before .before .before .before .before .before .rest .result) n (off .0),
+              c .before .before .before .before .before .before .before .before .rest .ensures,
+              most,
+              room-few (a .cfg),
+            ),
+            leb-false 64 (a .head .count)
+                (neither (leb 64 (a .head .count)) (ltb (c .before .before .before .before .before .before .rest2 .result) n) (off .1) .0),
+            ltb-false (a .words) (ringWords (a .cfg))
+                (long (c .before .before .before .before .before .before .before .before .before .before .before .before)),
           ),
     )
 

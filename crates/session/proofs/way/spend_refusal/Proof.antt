@@ -40,15 +40,20 @@ returns c =
     let n = length (a .lengths .now) in
     let sum-is = c .before .before .before .before .before .before .before .before .sum-of .ensures in
     let no-channel = not (a .head .live) && not (a .transfer .«channel_free») in
-    let beyond : c .before .is-beyond .result ≡ isBeyond (a .transfer .base) (sum (a .lengths .now)) = c .before .is-beyond .ensures ∙ ap (isBeyond (a .transfer .base)) sum-is in (
+    let beyond : c .before .is-beyond .result ≡ isBeyond (a .transfer .base) (sum (a .lengths .now)) =
+    c .before .is-beyond .ensures ∙ ap (isBeyond (a .transfer .base)) sum-is in (
       λ requests plans w.
           let s = whole (a .cfg) (a .head) (a .fatal) requests plans in
           c .spend-number .ensures
           ∙ spend-equal no-channel (ap (λ (x : ℕ). not (eqb x (a .transfer .«buffer_len»))) sum-is) beyond
           (c .before .before .before .clash .ensures (pendingPlans s) (w .held)
-          ∙ ap (λ (i : ℕ). isGuarded (a .cfg .mode) && anyHeld (pendingPlans s) (slotsFrom (slots (a .cfg)) i (stepOf (a .cfg)) 0 n)) (c .before .before .before .before .before .insert-of .ensures ∙ ap (λ (tail : ℕ). insertAt (a .cfg) (a .head) (a .transfer) tail (a .ring .now)) (w .tail))),
+          ∙ ap (λ (i : ℕ). isGuarded (a .cfg .mode) && anyHeld (pendingPlans s) (slotsFrom (slots (a .cfg)) i (stepOf (a .cfg)) 0 n))
+          (c .before .before .before .before .before .insert-of .ensures
+          ∙ ap (λ (tail : ℕ). insertAt (a .cfg) (a .head) (a .transfer) tail (a .ring .now)) (w .tail))),
       λ z.
-          let off = not-beyond (not (eqb (c .before .before .before .before .before .before .before .before .sum-of .result) (a .transfer .«buffer_len»))) (c .before .is-beyond .result) no-channel (c .before .before .before .clash .result) (sym (c .spend-number .ensures) ∙ z) in
+          let off =
+          not-beyond (not (eqb (c .before .before .before .before .before .before .before .before .sum-of .result) (a .transfer .«buffer_len»)))
+          (c .before .is-beyond .result) no-channel (c .before .before .before .clash .result) (sym (c .spend-number .ensures) ∙ z) in
           ltb-false 4294967295 (a .transfer .base + sum (a .lengths .now)) (sym beyond ∙ off),
     )
 

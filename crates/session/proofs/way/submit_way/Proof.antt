@@ -21,22 +21,43 @@ abbrev of : (c : tie.Start) → List IsoRequest → List IsoPacketPlan → IsoCh
 of c requests plans = whole (c .args .cfg) (c .args .head) (c .args .fatal) requests plans
 
 -- no test of the first ten held, so the packets are few, and there is room for the request and a ring for them
-entry : (c : tie.Else1) → (length (c .before .before .before .before .args .lengths .now) ≤ 255) × (c .before .before .before .before .args .head .count < 64) × (ringWords (c .before .before .before .before .args .cfg) ≤ length (c .before .before .before .before .args .ring .now))
+entry :
+    (c : tie.Else1)
+    → (length (c .before .before .before .before .args .lengths .now) ≤ 255) × (c .before .before .before .before .args .head .count < 64)
+    × (ringWords (c .before .before .before .before .args .cfg) ≤ length (c .before .before .before .before .args .ring .now))
 entry c = c .before .entry-refusal .ensures .1 (c .if1 .left)
 
 none :
-    (c : tie.Else1) (requests : List IsoRequest) (plans : List IsoPacketPlan) → Scanned (of ((c .before .before .before .before)) requests plans) (c .before .before .before .before .args .scan)
-    → entryRefusal (of ((c .before .before .before .before)) requests plans) (c .before .before .before .before .args .transfer) (length (c .before .before .before .before .args .lengths .now)) (length (c .before .before .before .before .args .ring .now)) ≡ 0
+    (c : tie.Else1) (requests : List IsoRequest) (plans : List IsoPacketPlan)
+    → Scanned (of (c .before .before .before .before) requests plans) (c .before .before .before .before .args .scan)
+    → entryRefusal (of (c .before .before .before .before) requests plans) (c .before .before .before .before .args .transfer)
+    (length (c .before .before .before .before .args .lengths .now)) (length (c .before .before .before .before .args .ring .now))
+    ≡ 0
 none c requests plans w = sym (c .before .entry-refusal .ensures .0 requests plans w) ∙ c .if1 .left
 
-long-is : (c : tie.After-first-long) (requests : List IsoRequest) (plans : List IsoPacketPlan) → c .first-long .result ≡ tooLong (of ((c .before .before .before .before .before .before)) requests plans) (c .before .before .before .before .before .before .args .lengths .now)
-long-is c requests plans = c .first-long .ensures ∙ ap (λ (limit : ℕ). firstLong limit (c .before .before .before .before .before .before .args .lengths .now)) (c .before .iso-max-xfer-size .ensures)
+long-is :
+    (c : tie.After-first-long) (requests : List IsoRequest) (plans : List IsoPacketPlan)
+    → c .first-long .result
+    ≡ tooLong (of (c .before .before .before .before .before .before) requests plans) (c .before .before .before .before .before .before .args .lengths .now)
+long-is c requests plans =
+    c .first-long .ensures
+    ∙ ap (λ (limit : ℕ). firstLong limit (c .before .before .before .before .before .before .args .lengths .now)) (c .before .iso-max-xfer-size .ensures)
 
 spend-is :
-    (c : tie.After-spend-refusal) (requests : List IsoRequest) (plans : List IsoPacketPlan) → Scanned (of ((c .before .before .before .before .before .before .before .before)) requests plans) (c .before .before .before .before .before .before .before .before .args .scan)
-    → c .spend-refusal .result ≡ spendRefusal (of ((c .before .before .before .before .before .before .before .before)) requests plans) (c .before .before .before .before .before .before .before .before .args .transfer) (c .before .before .before .before .before .before .before .before .args .lengths .now) (c .before .before .before .before .before .before .before .before .args .ring .now)
+    (c : tie.After-spend-refusal) (requests : List IsoRequest) (plans : List IsoPacketPlan)
+    → Scanned (of (c .before .before .before .before .before .before .before .before) requests plans)
+    (c .before .before .before .before .before .before .before .before .args .scan)
+    → c .spend-refusal .result
+    ≡ spendRefusal (of (c .before .before .before .before .before .before .before .before) requests plans)
+    (c .before .before .before .before .before .before .before .before .args .transfer)
+    (c .before .before .before .before .before .before .before .before .args .lengths .now)
+    (c .before .before .before .before .before .before .before .before .args .ring .now)
 spend-is c requests plans w =
-    c .spend-refusal .ensures .0 requests plans (w .found (entered (of ((c .before .before .before .before .before .before .before .before)) requests plans) (c .before .before .before .before .before .before .before .before .args .transfer) (length (c .before .before .before .before .before .before .before .before .args .lengths .now)) (length (c .before .before .before .before .before .before .before .before .args .ring .now)) (none ((c .before .before .before .before)) requests plans w) .record-good))
+    c .spend-refusal .ensures .0 requests plans (w .found (entered (of (c .before .before .before .before .before .before .before .before) requests plans)
+    (c .before .before .before .before .before .before .before .before .args .transfer)
+    (length (c .before .before .before .before .before .before .before .before .args .lengths .now))
+    (length (c .before .before .before .before .before .before .before .before .args .ring .now))
+    (none (c .before .before .before .before) requests plans w) .record-good))
 
 entry-refusal-requires : tie.Need-entry-refusal-requires
 entry-refusal-requires c κs = search needs
@@ -45,9 +66,11 @@ returns : tie.Need-returns
 returns c = (
   λ requests plans w.
       let a = c .before .before .before .before .args in
-      let s = of ((c .before .before .before .before)) requests plans in
+      let s = of (c .before .before .before .before) requests plans in
       let n = length (a .lengths .now) in
-      refuse-way (c .before .entry-refusal .result) (entryRefusal s (a .transfer) n (length (a .ring .now))) (tooLong s (a .lengths .now)) n (spendRefusal s (a .transfer) (a .lengths .now) (a .ring .now)) (gateWay s (a .transfer) n) (c .before .entry-refusal .ensures .0 requests plans w) (c .if1 .taken),
+      refuse-way (c .before .entry-refusal .result) (entryRefusal s (a .transfer) n (length (a .ring .now))) (tooLong s (a .lengths .now)) n
+      (spendRefusal s (a .transfer) (a .lengths .now) (a .ring .now)) (gateWay s (a .transfer) n) (c .before .entry-refusal .ensures .0 requests plans w)
+      (c .if1 .taken),
   λ g. absurd g,
 )
 
@@ -58,43 +81,51 @@ first-long-requires : tie.Need-first-long-requires
 first-long-requires c κs = search needs
 
 cast-t16 : tie.Need-cast-t16
-cast-t16 c = omega (arith, entry ((c .before .before .before)) .0, c .if2 .taken)
+cast-t16 c = omega (arith, entry (c .before .before .before) .0, c .if2 .taken)
 
 returns-2 : tie.Need-returns-2
 returns-2 c = (
   λ requests plans w.
       let a = c .before .before .before .before .before .before .before .args in
-      let s = of ((c .before .before .before .before .before .before .before)) requests plans in
+      let s = of (c .before .before .before .before .before .before .before) requests plans in
       let n = length (a .lengths .now) in
-      long-way (c .before .first-long .result) (entryRefusal s (a .transfer) n (length (a .ring .now))) (tooLong s (a .lengths .now)) n (spendRefusal s (a .transfer) (a .lengths .now) (a .ring .now)) (gateWay s (a .transfer) n) (none ((c .before .before .before)) requests plans w) (long-is ((c .before)) requests plans) (c .if2 .taken),
+      long-way (c .before .first-long .result) (entryRefusal s (a .transfer) n (length (a .ring .now))) (tooLong s (a .lengths .now)) n
+      (spendRefusal s (a .transfer) (a .lengths .now) (a .ring .now)) (gateWay s (a .transfer) n) (none (c .before .before .before) requests plans w)
+      (long-is (c .before) requests plans) (c .if2 .taken),
   λ g. absurd g,
 )
 
 spend-refusal-requires : tie.Need-spend-refusal-requires
-spend-refusal-requires c κs = omega (arith, entry ((c .before .before .before)) .0)
+spend-refusal-requires c κs = omega (arith, entry (c .before .before .before) .0)
 
 returns-3 : tie.Need-returns-3
 returns-3 c = (
   λ requests plans w.
       let a = c .before .before .before .before .before .before .before .before .before .args in
-      let s = of ((c .before .before .before .before .before .before .before .before .before)) requests plans in
+      let s = of (c .before .before .before .before .before .before .before .before .before) requests plans in
       let n = length (a .lengths .now) in
-      spend-way (c .before .spend-refusal .result) (c .before .before .before .first-long .result) (entryRefusal s (a .transfer) n (length (a .ring .now))) (tooLong s (a .lengths .now)) n (spendRefusal s (a .transfer) (a .lengths .now) (a .ring .now)) (gateWay s (a .transfer) n) (none ((c .before .before .before .before .before)) requests plans w) (long-is ((c .before .before .before)) requests plans) (c .before .before .if2 .left) (spend-is ((c .before)) requests plans w) (c .if3 .taken),
+      spend-way (c .before .spend-refusal .result) (c .before .before .before .first-long .result) (entryRefusal s (a .transfer) n (length (a .ring .now)))
+      (tooLong s (a .lengths .now)) n (spendRefusal s (a .transfer) (a .lengths .now) (a .ring .now)) (gateWay s (a .transfer) n)
+      (none (c .before .before .before .before .before) requests plans w) (long-is (c .before .before .before) requests plans) (c .before .before .if2 .left)
+      (spend-is (c .before) requests plans w) (c .if3 .taken),
   λ g. absurd g,
 )
 
 gate-way-requires : tie.Need-gate-way-requires
-gate-way-requires c κs = omega (arith, entry ((c .before .before .before .before .before)) .0)
+gate-way-requires c κs = omega (arith, entry (c .before .before .before .before .before) .0)
 
 returns-4 : tie.Need-returns-4
 returns-4 c = (
   λ requests plans w.
       let a = c .before .before .before .before .before .before .before .before .before .before .args in
-      let s = of ((c .before .before .before .before .before .before .before .before .before .before)) requests plans in
+      let s = of (c .before .before .before .before .before .before .before .before .before .before) requests plans in
       let n = length (a .lengths .now) in
-      gated-way (c .before .before .before .before .first-long .result) (entryRefusal s (a .transfer) n (length (a .ring .now))) (tooLong s (a .lengths .now)) n (spendRefusal s (a .transfer) (a .lengths .now) (a .ring .now)) (c .gate-way .result) (gateWay s (a .transfer) n) (none ((c .before .before .before .before .before .before)) requests plans w) (long-is ((c .before .before .before .before)) requests plans) (c .before .before .before .if2 .left) (sym (spend-is ((c .before .before)) requests plans w) ∙ c .before .if3 .left) (c .gate-way .ensures),
+      gated-way (c .before .before .before .before .first-long .result) (entryRefusal s (a .transfer) n (length (a .ring .now))) (tooLong s (a .lengths .now)) n
+      (spendRefusal s (a .transfer) (a .lengths .now) (a .ring .now)) (c .gate-way .result) (gateWay s (a .transfer) n)
+      (none (c .before .before .before .before .before .before) requests plans w) (long-is (c .before .before .before .before) requests plans)
+      (c .before .before .before .if2 .left) (sym (spend-is (c .before .before) requests plans w) ∙ c .before .if3 .left) (c .gate-way .ensures),
   λ g.
-      let e = entry ((c .before .before .before .before .before .before)) in
+      let e = entry (c .before .before .before .before .before .before) in
       (e .0, e .1, e .2, c .before .before .spend-refusal .ensures .1 (c .before .if3 .left)),
 )
 

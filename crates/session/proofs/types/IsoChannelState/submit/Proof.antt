@@ -24,7 +24,8 @@ abbrev Inv-loop : tie.InvT-loop
 Inv-loop lengths ring self₀ head parts n slots step slot₀ to₀ i₀ self slot to i =
     (i ≤ n) × (slot ≡ slotAt slots (parts .insert) step i) × (to ≡ to₀ + i) × (length (self .plans) ≡ 1024)
     × (self ≡ whole (self₀ .cfg) (self₀ .head) (self₀ .fatal) (self₀ .requests) (self .plans))
-    × (sets (self .plans) to (plansFrom slots (parts .insert) step i (drop i (take n lengths))) ≡ sets (self₀ .plans) to₀ (plansFrom slots (parts .insert) step 0 (take n lengths)))
+    × (sets (self .plans) to (plansFrom slots (parts .insert) step i (drop i (take n lengths)))
+    ≡ sets (self₀ .plans) to₀ (plansFrom slots (parts .insert) step 0 (take n lengths)))
 
 abbrev μ-loop : tie.MeasureT-loop
 μ-loop lengths ring self₀ head parts n slots step slot₀ to₀ i₀ self slot to i = n - i
@@ -34,11 +35,20 @@ long-plans : (c : tie.Start Inv-loop μ-loop) → length (c .args .t1 .plans) �
 long-plans c = sym (length-map (c .args .t1 .plans) _) ∙ c .good .0 .1 .1 .1 .1 .1 .1 .0 .1 .0 .1
 
 -- the parts are the submission's
-parted : (c : tie.After-submit-parts Inv-loop μ-loop) → Parted (c .before .before .before .before .before .before .before .args .t1) (c .before .before .before .before .before .before .before .args .transfer) (c .before .before .before .before .before .before .before .args .lengths .now) (c .before .before .before .before .before .before .before .args .ring .now) (c .submit-parts .result)
-parted c = c .submit-parts .ensures (c .before .before .before .before .before .before .before .args .t1 .requests) (c .before .before .before .before .before .before .before .args .t1 .plans) (c .before .before .scan .ensures) .0
+parted :
+    (c : tie.After-submit-parts Inv-loop μ-loop)
+    → Parted (c .before .before .before .before .before .before .before .args .t1) (c .before .before .before .before .before .before .before .args .transfer)
+    (c .before .before .before .before .before .before .before .args .lengths .now)
+    (c .before .before .before .before .before .before .before .args .ring .now) (c .submit-parts .result)
+parted c =
+    c .submit-parts .ensures (c .before .before .before .before .before .before .before .args .t1 .requests)
+    (c .before .before .before .before .before .before .before .args .t1 .plans) (c .before .before .scan .ensures) .0
 
 -- where packets are added, they fit
-fits : (c : tie.After-submit-parts Inv-loop μ-loop) → 0 < c .submit-parts .result .added → Fitting (c .before .before .before .before .before .before .before .args .t1) (c .submit-parts .result) (c .before .before .before .before .before .before .before .args .lengths .now)
+fits :
+    (c : tie.After-submit-parts Inv-loop μ-loop) → 0 < c .submit-parts .result .added
+    → Fitting (c .before .before .before .before .before .before .before .args .t1) (c .submit-parts .result)
+    (c .before .before .before .before .before .before .before .args .lengths .now)
 fits c = parted c .fitting
 
 scan-requires : tie.Need-scan-requires Inv-loop μ-loop
@@ -52,8 +62,14 @@ rem-slot c = omega (arith, parted (c .before .before .before) .some-slots)
 
 loop-holds : tie.Need-loop-holds Inv-loop μ-loop
 loop-holds c =
-    let r = c .before .before .before .submit-parts .result in
-    (omega arith, sym (first-slot (r .slots) (r .insert) (r .step)), omega arith, long-plans (c .before .before .before .before .before .before .before .before .before .before), refl, refl)
+    let r = c .before .before .before .submit-parts .result in (
+      omega arith,
+      sym (first-slot (r .slots) (r .insert) (r .step)),
+      omega arith,
+      long-plans (c .before .before .before .before .before .before .before .before .before .before),
+      refl,
+      refl,
+    )
 
 mul-t24 : tie.Need-mul-t24 Inv-loop μ-loop
 mul-t24 c = omega (arith, fits (c .before .before .before .before .before) (omega arith) .few)
@@ -70,7 +86,13 @@ mul-t30 : tie.Need-mul-t30 Inv-loop μ-loop
 mul-t30 c = omega (arith, fits (c .before .before .before .before .before .before) (omega arith) .plans, c .before .before .loop .inv .2)
 
 element-set-from-self : tie.Need-element-set-from-self Inv-loop μ-loop
-element-set-from-self c = omega (arith, fits (c .before .before .before .before .before .before) (omega arith) .plans, c .before .before .loop .inv .2, c .before .before .loop .inv .3)
+element-set-from-self c =
+    omega (
+      arith,
+      fits (c .before .before .before .before .before .before) (omega arith) .plans,
+      c .before .before .loop .inv .2,
+      c .before .before .loop .inv .3,
+    )
 
 next-slot-requires : tie.Need-next-slot-requires Inv-loop μ-loop
 next-slot-requires c κs = search needs
@@ -91,10 +113,14 @@ loop-again c =
     let now = c .before .before .before .loop in
     let many : r .added ≤ length L = omega (arith, fits (c .before .before .before .before .before .before .before) (omega arith) .every) in (
       omega arith,
-      slot-more (r .slots) (r .insert) (r .step) (now .i) (now .slot) (c .next-slot .result) (now .inv .1) (c .next-slot .ensures ∙ ap (λ (k : ℕ). (now .slot + r .step) % k) (some-slots (r .slots) (parted (c .before .before .before .before .before .before .before) .some-slots))),
+      slot-more (r .slots) (r .insert) (r .step) (now .i) (now .slot) (c .next-slot .result) (now .inv .1) (c .next-slot .ensures
+          ∙ ap (λ (k : ℕ). (now .slot + r .step) % k) (some-slots (r .slots) (parted (c .before .before .before .before .before .before .before) .some-slots))),
       omega arith,
       length-set (now .self .plans) _ _ ∙ now .inv .3,
-      ap (λ (s : IsoChannelState). whole (s .cfg) (s .head) (s .fatal) (s .requests) (set (now .self .plans) (now .to) (newPlan (getD L (now .i) 0) (now .slot)))) (now .inv .4),
+      ap
+          (λ (s : IsoChannelState).
+          whole (s .cfg) (s .head) (s .fatal) (s .requests) (set (now .self .plans) (now .to) (newPlan (getD L (now .i) 0) (now .slot))))
+          (now .inv .4),
       plans-next (r .slots) (r .insert) (r .step) (now .i) (r .added) L (now .self .plans) (now .to) (now .slot) (omega arith) many (now .inv .1) ∙ now .inv .5,
     )
 
@@ -122,13 +148,24 @@ returns c =
     let L = c .before .before .before .before .before .before .before .before .before .before .before .before .before .before .before .args .lengths .now in
     let r = c .before .before .before .before .before .before .before .before .submit-parts .result in
     let now = c .before .before .before .before .loop in
-    let put : now .self .plans ≡ plansWith s r L = plans-past (r .slots) (r .insert) (r .step) (now .i) (r .added) L (now .self .plans) (now .to) (omega arith) ∙ now .inv .5 in
+    let put : now .self .plans ≡ plansWith s r L =
+    plans-past (r .slots) (r .insert) (r .step) (now .i) (r .added) L (now .self .plans) (now .to) (omega arith) ∙ now .inv .5 in
     let push : Pushed s L r (c .before .before .if1 .self) (now .self .plans) =
     ⊎-elim
-    (λ w. inl (w .0 .taken, w .3 ∙ ap₂ (λ (x : IsoChannelState) (q : IsoRequest). whole (x .cfg) (x .head) (x .fatal) (set (x .requests) (s .head .count) q) (x .plans)) (now .inv .4) (w .1 .ensures)))
+    (λ w.
+    inl (
+      w .0 .taken,
+      w .3
+          ∙ ap₂ (λ (x : IsoChannelState) (q : IsoRequest). whole (x .cfg) (x .head) (x .fatal) (set (x .requests) (s .head .count) q) (x .plans))
+          (now .inv .4) (w .1 .ensures),
+    ))
     (λ w. inr (w .0 .left, w .1 ∙ now .inv .4))
-    (c .before .before .if1 .came) in
-    (joined-by s L r (c .before .before .if1 .self) (now .self .plans) push put ∙ parted (c .before .before .before .before .before .before .before .before) .joins, c .before .before .before .before .before .before .before .before .submit-parts .ensures (s .requests) (s .plans) (c .before .before .before .before .before .before .before .before .before .before .scan .ensures) .1)
+    (c .before .before .if1 .came) in (
+      joined-by s L r (c .before .before .if1 .self) (now .self .plans) push put
+          ∙ parted (c .before .before .before .before .before .before .before .before) .joins,
+      c .before .before .before .before .before .before .before .before .submit-parts .ensures (s .requests) (s .plans)
+          (c .before .before .before .before .before .before .before .before .before .before .scan .ensures) .1,
+    )
 
 pub submit-spec : {M : Type 1} → statement M
 submit-spec =
