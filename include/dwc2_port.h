@@ -5,14 +5,7 @@
  * global state. Each lent array is a pointer and a count of its elements; the pointer is aligned for its elements and not null
  * (also where the count is 0), and arrays lent to one call do not overlap.
  *
- * Refusal numbers (document 01, "Refusal numbers"); 0 is none:
- *    1 the session is ending              2 low speed                       3 not isochronous
- *    4 no packets                         5 no buffer                       6 over capacity, none pending
- *    7 over capacity with those pending   8 over 64 requests, 1,024 packets 9 a packet too long (gives its index)
- *   10 lengths and buffer differ         11 address limit                  12 no channel to be had
- *   13 slot held (guarded mode)          14 unplugged at a gate            15 unknown number
- *   16 reset while not empty             17 a lent array is short          18 a number or a record beyond its limits
- *   19 control length over 65,535        20 more than 1,024 descriptors
+ * dwc2_names.h has the refusal numbers and the numbers that name things.
  *
  * Yes/no inputs: 0 is no, any other number is yes. Yes/no outputs are 0 or 1.
  */
@@ -22,43 +15,11 @@
 #include <stddef.h>
 #include <stdint.h>
 
+#include "dwc2_names.h"
+
 #ifdef __cplusplus
 extern "C" {
 #endif
-
-/* ---- Numbers that name things. Any other number is refused with 18. */
-
-#define DWC2_SPEED_HIGH 0u
-#define DWC2_SPEED_FULL 1u
-#define DWC2_SPEED_LOW 2u
-
-#define DWC2_DIRECTION_OUT 0u
-#define DWC2_DIRECTION_IN 1u
-
-#define DWC2_MODE_COMPATIBLE 0u
-#define DWC2_MODE_GUARDED 1u
-
-/* The kind of an endpoint or request, as HCCHAR's type. */
-#define DWC2_KIND_CONTROL 0u
-#define DWC2_KIND_ISOCHRONOUS 1u
-#define DWC2_KIND_BULK 2u
-#define DWC2_KIND_INTERRUPT 3u
-
-/* How a completed request ended. */
-#define DWC2_OUTCOME_DONE 0u
-#define DWC2_OUTCOME_DISCONNECTED 1u
-#define DWC2_OUTCOME_CANCELLED 2u
-#define DWC2_OUTCOME_FAULT 3u           /* with a fault and an interrupt word */
-#define DWC2_OUTCOME_UNEXPECTED_HALT 4u /* with an interrupt word */
-
-/* A fault is named by its bit of HCINT; 0 is none. */
-#define DWC2_FAULT_NONE 0u
-#define DWC2_FAULT_AHB 2u
-#define DWC2_FAULT_STALL 3u
-#define DWC2_FAULT_TRANSACTION 7u
-#define DWC2_FAULT_BABBLE 8u
-#define DWC2_FAULT_FRAME_OVERRUN 9u
-#define DWC2_FAULT_DATA_TOGGLE 10u
 
 /* ---- The camera session ("the session", document 01).
  *
@@ -68,8 +29,8 @@ extern "C" {
  * Every call that takes a session tests its bytes first:
  *    17  fewer than DWC2_ISO_SESSION_BYTES bytes;
  *    18  a wrong mark or version, or a byte that names nothing (docs/LAYOUT.md, "What is refused").
- * Refused so, a call answers that number and zeros, and alters nothing. Else it acts on the session as document 01 says, answers,
- * and writes the session back. The call's own 17 (its other arrays), 18 (the record) and the rest follow in 01's order. A refusal
+ * Refused so, a call answers that number and zeros, and alters nothing. Else it acts on the session where it stands, as document 01
+ * says, and answers. The call's own 17 (its other arrays), 18 (the record) and the rest follow in 01's order. A refusal
  * that leaves the session as it was leaves its bytes as they were.
  *
  * The ring: 32-bit words, 2 a slot, the status of slot s at word 2s and its address at 2s + 1; R slots, 256 at high speed, else

@@ -13,9 +13,9 @@ use Rattle.session.specs.Session.{blankRequest, allPackets, packetsOf}
 use Rattle.session.specs.Reclaim.{isDone, resultWord, plansBegin, plansEnd, closedUp, oneLess, removed, handedResults}
 use Rattle.session.proofs.Laws.Lists.{amend-next}
 use Rattle.session.proofs.Laws.Handed.{removed-by}
+use Rattle.session.specs.Scan.{whole}
 use Rattle.port.specs.Layout.{headBytes, layoutNumber, sessionOf, saved}
 use Rattle.port.specs.Places.{plansOf, withRequests, withPlans}
-use Rattle.port.proofs.Laws.Loaded.{session}
 use Rattle.port.proofs.Laws.Placed.{head-put, requests-many, plans-many}
 use Rattle.port.proofs.Laws.Walks.{there, layout-there, saved-over}
 
@@ -63,7 +63,7 @@ module _ (xs : List ℕ) (at from to all : ℕ) {head : IsoHead} (long : 8488 �
         → d ≡ sets c 15 (headBytes next)
         → d ≡ sets xs 0 (saved (removed at s))
     bytes-removed {c} ec en ed =
-        let both : IsoChannelState = session (s .cfg) (s .head) (s .fatal) left table in
+        let both : IsoChannelState = whole (s .cfg) (s .head) (s .fatal) left table in
         let count-is : left ≡ closedUp at (at + 1) (s .head .count) (s .requests) =
         ap (λ (h : IsoHead). closedUp at (at + 1) (h .count) (s .requests)) eh in
         let put : c ≡ sets xs 0 (saved both) =

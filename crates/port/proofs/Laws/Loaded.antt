@@ -10,14 +10,11 @@ use Rattle.session.specs.declared.types.IsoHead.{IsoHead}
 use Rattle.session.specs.declared.types.IsoFatal.{IsoFatal}
 use Rattle.session.specs.declared.types.IsoRequest.{IsoRequest}
 use Rattle.session.specs.declared.types.IsoPacketPlan.{IsoPacketPlan}
-use Rattle.session.specs.declared.types.IsoChannelState.{IsoChannelState}
+use Rattle.session.specs.Scan.{whole}
 use Rattle.port.specs.declared.tags.Tagged.{Tagged}
 use Rattle.port.specs.Tags.{taggedOf, fatalOf}
 use Rattle.port.specs.Layout.{configOf, headOf, requestOf, planOf, tableOf, anyOf}
 use Rattle.port.specs.Layout.{isBadMark, isBadHead, isBadRequestBytes, isBadPlanBytes, isBadLayout, layoutNumber, sessionOf}
-
-abbrev pub session : IsoConfig → IsoHead → IsoFatal → List IsoRequest → List IsoPacketPlan → IsoChannelState
-session cfg head fatal requests plans = record { cfg = cfg; head = head; fatal = fatal; requests = requests; plans = plans }
 
 pub session-at :
     (xs : List ℕ) {cfg : IsoConfig} {head : IsoHead} {fatal : IsoFatal} {t : Tagged} {requests : List IsoRequest} {plans : List IsoPacketPlan}
@@ -27,7 +24,7 @@ pub session-at :
     → fatal ≡ fatalOf t
     → requests ≡ tableOf requestOf 20 64 (drop 40 xs)
     → plans ≡ tableOf planOf 7 1024 (drop 1320 xs)
-    → session cfg head fatal requests plans ≡ sessionOf xs
+    → whole cfg head fatal requests plans ≡ sessionOf xs
 unfolding sessionOf
 session-at xs ec eh et ef er ep = rw (ec, eh, ef, et, er, ep)
 

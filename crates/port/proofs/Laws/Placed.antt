@@ -11,12 +11,12 @@ use Rattle.session.specs.declared.types.IsoFatal.{IsoFatal}
 use Rattle.session.specs.declared.types.IsoRequest.{IsoRequest}
 use Rattle.session.specs.declared.types.IsoPacketPlan.{IsoPacketPlan}
 use Rattle.session.specs.declared.types.IsoChannelState.{IsoChannelState}
+use Rattle.session.specs.Scan.{whole}
 use Rattle.port.specs.Bytes.{u16Bytes, u32Bytes, u64Bytes}
 use Rattle.port.specs.Tags.{taggedBytes, fatalTagged}
 use Rattle.port.specs.Layout.{markBytes, configBytes, headBytes, requestBytes, requestOf, planBytes, planOf, tableBytes, tableOf, saved, sessionOf}
 use Rattle.port.proofs.Laws.Entries.{length-request, length-plan}
 use Rattle.port.proofs.Laws.Tables.{length-table, length-bytes}
-use Rattle.port.proofs.Laws.Loaded.{session}
 use Rattle.port.proofs.Laws.Saved.{front, length-front, length-requests}
 
 -- ---- reading
@@ -120,7 +120,7 @@ module _ (xs : List ℕ) (s : IsoChannelState)
 
   pub plan-put :
       (i : ℕ) (p : IsoPacketPlan) → i < 1024
-      → sets (sets xs 0 (saved s)) (1320 + 7 * i) (planBytes p) ≡ sets xs 0 (saved (session (s .cfg) (s .head) (s .fatal) (s .requests) (set (s .plans) i p)))
+      → sets (sets xs 0 (saved s)) (1320 + 7 * i) (planBytes p) ≡ sets xs 0 (saved (whole (s .cfg) (s .head) (s .fatal) (s .requests) (set (s .plans) i p)))
   unfolding saved front
   plan-put i p h =
       let a : List ℕ = front s ++ tableBytes requestBytes (s .requests) in
@@ -134,7 +134,7 @@ module _ (xs : List ℕ) (s : IsoChannelState)
 
   pub request-put :
       (i : ℕ) (r : IsoRequest) → i < 64
-      → sets (sets xs 0 (saved s)) (40 + 20 * i) (requestBytes r) ≡ sets xs 0 (saved (session (s .cfg) (s .head) (s .fatal) (set (s .requests) i r) (s .plans)))
+      → sets (sets xs 0 (saved s)) (40 + 20 * i) (requestBytes r) ≡ sets xs 0 (saved (whole (s .cfg) (s .head) (s .fatal) (set (s .requests) i r) (s .plans)))
   unfolding saved front
   request-put i r h =
       table-put requestBytes 20 length-request xs (front s) (tableBytes planBytes (s .plans)) (s .requests) i (40 + 20 * i) r (omega arith)
@@ -154,7 +154,7 @@ module _ (xs : List ℕ) (s : IsoChannelState)
 
   pub head-put :
       (h : IsoHead)
-      → sets (sets xs 0 (saved s)) 15 (headBytes h) ≡ sets xs 0 (saved (session (s .cfg) h (s .fatal) (s .requests) (s .plans)))
+      → sets (sets xs 0 (saved s)) 15 (headBytes h) ≡ sets xs 0 (saved (whole (s .cfg) h (s .fatal) (s .requests) (s .plans)))
   unfolding saved
   head-put h =
       let a : List ℕ = markBytes ++ configBytes (s .cfg) in
@@ -170,7 +170,7 @@ module _ (xs : List ℕ) (s : IsoChannelState)
 
   pub reason-put :
       (f : IsoFatal)
-      → sets (sets xs 0 (saved s)) 34 (taggedBytes (fatalTagged f)) ≡ sets xs 0 (saved (session (s .cfg) (s .head) f (s .requests) (s .plans)))
+      → sets (sets xs 0 (saved s)) 34 (taggedBytes (fatalTagged f)) ≡ sets xs 0 (saved (whole (s .cfg) (s .head) f (s .requests) (s .plans)))
   unfolding saved
   reason-put f =
       let a : List ℕ = markBytes ++ configBytes (s .cfg) ++ headBytes (s .head) in

@@ -17,10 +17,10 @@ use Rattle.session.proofs.Laws.Lists.{slice-next, slice-after-set, slice-pushed
 use Rattle.session.proofs.Laws.Sums.{packets-append}
 use Rattle.session.proofs.Laws.Record.{Sound}
 use Rattle.session.proofs.Laws.Settled.{oldest-in, settled-by}
+use Rattle.session.specs.Scan.{whole}
 use Rattle.port.specs.Layout.{headBytes, requestBytes, requestOf, sessionOf, saved}
 use Rattle.port.specs.Places.{plansOf, withPlans}
 use Rattle.port.proofs.Laws.Entries.{request}
-use Rattle.port.proofs.Laws.Loaded.{session}
 use Rattle.port.proofs.Laws.Placed.{request-there, request-put, head-put, requests-many, plans-many}
 use Rattle.port.proofs.Laws.Walks.{there}
 
@@ -111,7 +111,7 @@ module _ (xs ring : List ℕ) (from to : ℕ) (dir : Direction) (long : 8488 ≤
         ∙ ap (λ (k : IsoHead). requestOf (drop (40 + 20 * k .done) b)) eh
         ∙ request-there b done blankRequest in-use
         ∙ ap (λ (t : IsoChannelState). getD (t .requests) done blankRequest) held in
-        let put : c ≡ sets xs 0 (saved (session (s .cfg) (s .head) (s .fatal) (set (s .requests) done (new (oldest s))) table)) =
+        let put : c ≡ sets xs 0 (saved (whole (s .cfg) (s .head) (s .fatal) (set (s .requests) done (new (oldest s))) table)) =
         ec
         ∙ ap (λ (k : IsoHead). sets b (40 + 20 * k .done) (requestBytes (new r))) eh
         ∙ ap (λ (q : IsoRequest). sets b (40 + 20 * done) (requestBytes (new q))) read
@@ -122,7 +122,7 @@ module _ (xs ring : List ℕ) (from to : ℕ) (dir : Direction) (long : 8488 ≤
         ex
         ∙ ap (λ (k : IsoHead). sets c 15 (headBytes k)) (en ∙ ap oneMore eh)
         ∙ ap (λ (m : List ℕ). sets m 15 (headBytes (oneMore (s .head)))) put
-        ∙ head-put xs (session (s .cfg) (s .head) (s .fatal) (set (s .requests) done (new (oldest s))) table) long
+        ∙ head-put xs (whole (s .cfg) (s .head) (s .fatal) (set (s .requests) done (new (oldest s))) table) long
         (length-set (s .requests) done (new (oldest s)) ∙ requests-many xs) table-many (oneMore (s .head))
         ∙ ap (λ (t : IsoChannelState). sets xs 0 (saved t))
         (settled-by s ring from to ef et total table (omega (arith, et, plans-end, plans-many xs)) same sum)

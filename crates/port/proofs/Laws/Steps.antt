@@ -25,6 +25,7 @@ use Rattle.session.specs.Numbers.{answerNumber}
 use Rattle.session.specs.Poll.{polledBy, polledRingBy}
 use Rattle.session.specs.End.{withOutcome, endedRequests, ended}
 use Rattle.session.proofs.Laws.Lists.{amend-next}
+use Rattle.session.specs.Scan.{whole}
 use Rattle.port.specs.declared.answers.PortReply.{PortReply}
 use Rattle.port.specs.declared.tags.Tagged.{Tagged}
 use Rattle.port.specs.Tags.{flagTag, taggedBytes, fatalTagged}
@@ -35,7 +36,6 @@ use Rattle.port.specs.Places.{requestsOf, withRequests}
 use Rattle.port.proofs.Canonical.{loaded-saved}
 use Rattle.port.proofs.Laws.Calls.{long-enough}
 use Rattle.port.proofs.Laws.Kept.{Octets}
-use Rattle.port.proofs.Laws.Loaded.{session}
 use Rattle.port.proofs.Laws.Placed.{request-there, request-put, head-put, reason-put, requests-many, plans-many}
 use Rattle.port.proofs.Laws.Walks.{request-turn}
 
@@ -51,14 +51,14 @@ module _ (xs : List ℕ) (octets : Octets xs) (z : layoutNumber xs ≡ 0) where
   pub head-here :
       (h : IsoHead)
       → sets xs 15 (headBytes h)
-      ≡ sets xs 0 (saved (session (sessionOf xs .cfg) h (sessionOf xs .fatal) (sessionOf xs .requests) (sessionOf xs .plans)))
+      ≡ sets xs 0 (saved (whole (sessionOf xs .cfg) h (sessionOf xs .fatal) (sessionOf xs .requests) (sessionOf xs .plans)))
   head-here h =
       ap (λ (m : List ℕ). sets m 15 (headBytes h)) same-bytes ∙ head-put xs (sessionOf xs) long (requests-many xs) (plans-many xs) h
 
   pub reason-here :
       (f : IsoFatal)
       → sets xs 34 (taggedBytes (fatalTagged f))
-      ≡ sets xs 0 (saved (session (sessionOf xs .cfg) (sessionOf xs .head) f (sessionOf xs .requests) (sessionOf xs .plans)))
+      ≡ sets xs 0 (saved (whole (sessionOf xs .cfg) (sessionOf xs .head) f (sessionOf xs .requests) (sessionOf xs .plans)))
   reason-here f =
       ap (λ (m : List ℕ). sets m 34 (taggedBytes (fatalTagged f))) same-bytes ∙ reason-put xs (sessionOf xs) long (requests-many xs) (plans-many xs) f
 
@@ -127,7 +127,7 @@ end-put xs o enough eh ea ee eb et ec =
     let many : length failed ≡ 64 =
     length-sets (s .requests) (s .head .done) (map (withOutcome o) (slice (s .head .done) (s .head .count) (s .requests))) ∙ requests-many xs in
     let first : IsoChannelState = withRequests s failed in
-    let second : IsoChannelState = session (s .cfg) (endedHead (s .head)) (s .fatal) failed (s .plans) in
+    let second : IsoChannelState = whole (s .cfg) (endedHead (s .head)) (s .fatal) failed (s .plans) in
     let a-is =
     ea
     ∙ ap (λ (k : IsoHead). sets xs 0 (saved (withRequests s (sets (s .requests) (k .done) (map (withOutcome o) (slice (k .done) (k .count) (s .requests)))))))

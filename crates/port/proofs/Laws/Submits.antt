@@ -24,13 +24,14 @@ use Rattle.session.specs.Submit.{newRequest, submitted}
 use Rattle.session.specs.Parts.{requestsWith, plansWith, joined, Fitting}
 use Rattle.session.proofs.Laws.Stores.{newPlan, length-plansFrom, getD-plansFrom}
 use Rattle.session.proofs.Laws.Submits.{pushed}
+use Rattle.session.specs.Scan.{whole}
 use Rattle.port.specs.declared.tags.Tagged.{Tagged}
 use Rattle.port.specs.Tags.{taggedOf, fatalOf}
 use Rattle.port.specs.Layout.{configOf, headOf, headBytes, requestBytes, planBytes, tableBytes, layoutNumber, sessionOf, saved}
 use Rattle.port.specs.Submit.{grown}
 use Rattle.port.proofs.Laws.Runs.{sets-append}
 use Rattle.port.proofs.Laws.Entries.{length-plan}
-use Rattle.port.proofs.Laws.Loaded.{session, session-at}
+use Rattle.port.proofs.Laws.Loaded.{session-at}
 use Rattle.port.proofs.Laws.Calls.{long-enough}
 use Rattle.port.proofs.Laws.Kept.{Octets}
 use Rattle.port.proofs.Laws.Placed.{plan-put, request-put, head-put, requests-many, plans-many}
@@ -54,11 +55,11 @@ plans-put :
     (xs : List ℕ) (s : IsoChannelState) → 8488 ≤ length xs → length (s .requests) ≡ 64 → length (s .plans) ≡ 1024
     → (ps : List IsoPacketPlan) (i : ℕ) → i + length ps ≤ 1024
     → sets (sets xs 0 (saved s)) (1320 + 7 * i) (tableBytes planBytes ps)
-    ≡ sets xs 0 (saved (session (s .cfg) (s .head) (s .fatal) (s .requests) (sets (s .plans) i ps)))
+    ≡ sets xs 0 (saved (whole (s .cfg) (s .head) (s .fatal) (s .requests) (sets (s .plans) i ps)))
 unfolding tableBytes
 plans-put xs s enough h k [] i fits = refl
 plans-put xs s enough h k (p ∷ ps) i fits =
-    let next : IsoChannelState = session (s .cfg) (s .head) (s .fatal) (s .requests) (set (s .plans) i p) in
+    let next : IsoChannelState = whole (s .cfg) (s .head) (s .fatal) (s .requests) (set (s .plans) i p) in
     let on : 1320 + 7 * i + length (planBytes p) ≡ 1320 + 7 * suc i = omega (arith, length-plan p) in
     sym (sets-append (planBytes p) (sets xs 0 (saved s)) (1320 + 7 * i) (tableBytes planBytes ps))
     ∙ ap₂ (λ (m : List ℕ) (to : ℕ). sets m to (tableBytes planBytes ps)) (plan-put xs s enough h k i p (omega arith)) on
@@ -70,7 +71,7 @@ plans-put xs s enough h k (p ∷ ps) i fits =
 pub parts-read :
     (xs : List ℕ) {cfg : IsoConfig} {head : IsoHead} {fatal : IsoFatal} {t : Tagged} → cfg ≡ configOf xs → head ≡ headOf xs → t ≡ taggedOf (drop 34 xs)
     → fatal ≡ fatalOf t
-    → session cfg head fatal (sessionOf xs .requests) (sessionOf xs .plans) ≡ sessionOf xs
+    → whole cfg head fatal (sessionOf xs .requests) (sessionOf xs .plans) ≡ sessionOf xs
 unfolding sessionOf
 parts-read xs ec eh et ef = session-at xs ec eh et ef refl refl
 
@@ -87,7 +88,7 @@ module _ (xs : List ℕ) (octets : Octets xs) (z : layoutNumber xs ≡ 0) (lengt
   packets n = plansFrom (r .slots) (r .insert) (r .step) 0 (take n lengths)
 
   abbrev planned : IsoChannelState
-  planned = session (s .cfg) (s .head) (s .fatal) (s .requests) (plansWith s r lengths)
+  planned = whole (s .cfg) (s .head) (s .fatal) (s .requests) (plansWith s r lengths)
 
   long : 8488 ≤ length xs
   long = long-enough xs refl z
@@ -102,7 +103,7 @@ module _ (xs : List ℕ) (octets : Octets xs) (z : layoutNumber xs ≡ 0) (lengt
   none-put h =
       let none : r .added ≡ 0 = omega arith in
       sym (loaded-saved xs octets z)
-      ∙ sym (ap (λ (n : ℕ). sets xs 0 (saved (session (s .cfg) (s .head) (s .fatal) (requestsWith s n) (sets (s .plans) (r .to) (packets n))))) none)
+      ∙ sym (ap (λ (n : ℕ). sets xs 0 (saved (whole (s .cfg) (s .head) (s .fatal) (requestsWith s n) (sets (s .plans) (r .to) (packets n))))) none)
 
   pub some-put :
       {head : IsoHead} {q : IsoRequest} {one two : List ℕ} → head ≡ s .head → 0 < r .added → Fitting s r lengths
@@ -123,7 +124,7 @@ module _ (xs : List ℕ) (octets : Octets xs) (z : layoutNumber xs ≡ 0) (lengt
       ∙ ap₂ (λ (m : List ℕ) (h : IsoHead). sets m (40 + 20 * h .count) (requestBytes q)) put eh
       ∙ ap (λ (x : IsoRequest). sets (sets xs 0 (saved planned)) (40 + 20 * s .head .count) (requestBytes x)) asked
       ∙ request-put xs planned long (requests-many xs) planned-long (s .head .count) new (fit .requests)
-      ∙ ap (λ (l : List IsoRequest). sets xs 0 (saved (session (s .cfg) (s .head) (s .fatal) l (plansWith s r lengths)))) (sym (pushed s (r .added) some))
+      ∙ ap (λ (l : List IsoRequest). sets xs 0 (saved (whole (s .cfg) (s .head) (s .fatal) l (plansWith s r lengths)))) (sym (pushed s (r .added) some))
 
   pub numbers-put :
       (t : IsoTransfer) (ring : List ℕ) {two three : List ℕ} → two ≡ sets xs 0 (saved (grown s r lengths)) → three ≡ sets two 15 (headBytes (r .head))

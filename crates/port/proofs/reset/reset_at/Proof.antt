@@ -9,10 +9,10 @@ use Rattle.session.specs.declared.types.IsoHead.{IsoHead}
 use Rattle.session.specs.Session.{hasReason}
 use Rattle.session.specs.Poll.{resetReply}
 use Rattle.session.proofs.Laws.Replies.{reset-bad, reset-full, reset-done}
+use Rattle.session.specs.Scan.{whole}
 use Rattle.port.specs.Layout.{sessionOf, saved}
 use Rattle.port.proofs.Laws.Calls.{long-enough}
 use Rattle.port.proofs.Laws.Kept.{Octets}
-use Rattle.port.proofs.Laws.Loaded.{session}
 use Rattle.port.proofs.Laws.Scans.{head-there, reason-there}
 use Rattle.port.proofs.Laws.Steps.{head-here, stays, becomes}
 use Rattle.port.proofs.reset.reset_at.Statement.{statement}
@@ -109,7 +109,7 @@ returns-3 c =
     ∙ head-here xs (octets (c .before .before .before .before .before .before .before .before .before .before .before .before .before .before .before))
     (c .before .before .before .before .before .before .before .before .before .before .before .before .before .before .before .before .pre)
     (cursor-first (c .before .before .before .before .before .before .before .before .before .before .head-at .result))
-    ∙ ap (λ (h : IsoHead). sets xs 0 (saved (session (s .cfg) (cursor-first h) (s .fatal) (s .requests) (s .plans))))
+    ∙ ap (λ (h : IsoHead). sets xs 0 (saved (whole (s .cfg) (cursor-first h) (s .fatal) (s .requests) (s .plans))))
     (c .before .before .before .before .before .before .before .before .before .before .head-at .ensures ∙ head-there xs))
 
 pub reset-at-spec : {M : Type 1} → statement M
