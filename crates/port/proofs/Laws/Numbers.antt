@@ -34,10 +34,6 @@ pub length-u32 : (x : ℕ) → length (u32Bytes x) ≡ 4
 unfolding u32Bytes u16Bytes
 length-u32 x = refl
 
-pub length-u64 : (x : ℕ) → length (u64Bytes x) ≡ 8
-unfolding u64Bytes u32Bytes u16Bytes
-length-u64 x = refl
-
 pub u16-put : (xs : List ℕ) (at x : ℕ) → set (set xs at (x % 256)) (at + 1) (x / 256) ≡ sets xs at (u16Bytes x)
 unfolding u16Bytes
 u16-put xs at x = ap (λ (n : ℕ). set (set xs at (x % 256)) n (x / 256)) (add-one at)

@@ -15,7 +15,7 @@ use Rattle.session.specs.Scan.{whole}
 use Rattle.port.specs.Bytes.{u16Bytes, u32Bytes, u64Bytes}
 use Rattle.port.specs.Tags.{taggedBytes, fatalTagged}
 use Rattle.port.specs.Layout.{markBytes, configBytes, headBytes, requestBytes, requestOf, planBytes, planOf, tableBytes, tableOf, saved, sessionOf}
-use Rattle.port.proofs.Laws.Entries.{length-request, length-plan}
+use Rattle.port.proofs.Laws.Entries.{length-request, length-plan, length-tagged}
 use Rattle.port.proofs.Laws.Tables.{length-table, length-bytes}
 use Rattle.port.proofs.Laws.Saved.{front, length-front, length-requests}
 
@@ -148,10 +148,6 @@ module _ (xs : List ℕ) (s : IsoChannelState)
   unfolding headBytes u64Bytes u32Bytes u16Bytes
   length-head h = refl
 
-  length-reason : (f : IsoFatal) → length (taggedBytes (fatalTagged f)) ≡ 6
-  unfolding taggedBytes u32Bytes u16Bytes
-  length-reason f = refl
-
   pub head-put :
       (h : IsoHead)
       → sets (sets xs 0 (saved s)) 15 (headBytes h) ≡ sets xs 0 (saved (whole (s .cfg) h (s .fatal) (s .requests) (s .plans)))
@@ -181,6 +177,6 @@ module _ (xs : List ℕ) (s : IsoChannelState)
       ap (λ (m : List ℕ). sets (sets xs 0 m) 34 (taggedBytes (fatalTagged f))) (apart b)
       ∙ replaced xs a b (q ++ p) (taggedBytes (fatalTagged f)) 34
       (length-append (markBytes ++ configBytes (s .cfg)) (headBytes (s .head)) ∙ omega (arith, length-to-head, length-head (s .head)))
-      (length-reason f ∙ sym (length-reason (s .fatal)))
+      (length-tagged (fatalTagged f) ∙ sym (length-tagged (fatalTagged (s .fatal))))
       (subst (λ (m : List ℕ). length m ≤ length xs) (apart b) (omega (arith, length-saved)))
       ∙ ap (sets xs 0) (sym (apart (taggedBytes (fatalTagged f))))

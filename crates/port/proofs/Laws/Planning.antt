@@ -6,7 +6,6 @@ use mathlib.Core.Path.{_≡_, refl, sym, ap, _∙_}
 use Prim.Native.Nat.{ℕ}
 use native.Mathlib.Omega.{arith}
 use lib.ListN.{length, getD}
-use Rattle.plan.specs.declared.setup.SetupPacket.{SetupPacket}
 use Rattle.plan.specs.declared.types.ControlRequest.{ControlRequest}
 use Rattle.plan.specs.declared.types.DataRequest.{DataRequest}
 use Rattle.plan.specs.declared.types.Dwc2ControlPlan.{Dwc2ControlPlan}
@@ -25,7 +24,6 @@ use Rattle.port.specs.declared.planning.PortDataRequest.{PortDataRequest
 use Rattle.port.specs.declared.stages.PortStage.{PortStage}
 use Rattle.port.specs.Planning.{roleNumber, roleOf, isBadRole, stageNumbers, stageOf, lengthNumber, stageMovedNumber}
 use Rattle.port.specs.Planning.{dataRequestOf, isBadData, dataNumbers, unnamedData, dataPlanNumbers, dataArrayAfter}
-use Rattle.port.specs.Planning.{setupNumbers, unnamedSetup}
 use Rattle.port.specs.Planning.{controlRequestOf, controlNumbers, unnamedControl, controlPlanNumbers, controlArrayAfter}
 use Rattle.port.specs.Sums.{isBadDirection}
 use Rattle.port.specs.Tags.{flagTag}
@@ -46,36 +44,6 @@ four f (a ∷ b ∷ []) d e = absurd (omega (arith, e))
 four f (a ∷ b ∷ x ∷ []) d e = absurd (omega (arith, e))
 four f (a ∷ b ∷ x ∷ y ∷ []) d e = refl
 four f (a ∷ b ∷ x ∷ y ∷ z ∷ zs) d e = absurd (omega (arith, e))
-
-eight :
-    (xs : List ℕ) → length xs ≡ 8
-    → getD xs 0 0 ∷ getD xs 1 0 ∷ getD xs 2 0 ∷ getD xs 3 0 ∷ getD xs 4 0 ∷ getD xs 5 0 ∷ getD xs 6 0 ∷ getD xs 7 0 ∷ [] ≡ xs
-eight [] e = absurd (omega (arith, e))
-eight (a ∷ []) e = absurd (omega (arith, e))
-eight (a ∷ b ∷ []) e = absurd (omega (arith, e))
-eight (a ∷ b ∷ x ∷ []) e = absurd (omega (arith, e))
-eight (a ∷ b ∷ x ∷ y ∷ []) e = absurd (omega (arith, e))
-eight (a ∷ b ∷ x ∷ y ∷ z ∷ []) e = absurd (omega (arith, e))
-eight (a ∷ b ∷ x ∷ y ∷ z ∷ u ∷ []) e = absurd (omega (arith, e))
-eight (a ∷ b ∷ x ∷ y ∷ z ∷ u ∷ v ∷ []) e = absurd (omega (arith, e))
-eight (a ∷ b ∷ x ∷ y ∷ z ∷ u ∷ v ∷ w ∷ []) e = refl
-eight (a ∷ b ∷ x ∷ y ∷ z ∷ u ∷ v ∷ w ∷ r ∷ rs) e = absurd (omega (arith, e))
-
--- a setup packet byte by byte, or 18 and zeros
-pub setup-counted :
-    (bad : Bool) (p : SetupPacket) {n a b x y z u v w : ℕ} → length (p .bytes) ≡ 8
-    → n ≡ cond bad 18 (answerNumber (p .answer))
-    → a ≡ cond bad 0 (getD (p .bytes) 0 0)
-    → b ≡ cond bad 0 (getD (p .bytes) 1 0)
-    → x ≡ cond bad 0 (getD (p .bytes) 2 0)
-    → y ≡ cond bad 0 (getD (p .bytes) 3 0)
-    → z ≡ cond bad 0 (getD (p .bytes) 4 0)
-    → u ≡ cond bad 0 (getD (p .bytes) 5 0)
-    → v ≡ cond bad 0 (getD (p .bytes) 6 0)
-    → w ≡ cond bad 0 (getD (p .bytes) 7 0)
-    → record { refusal = n; bytes = a ∷ b ∷ x ∷ y ∷ z ∷ u ∷ v ∷ w ∷ [] } ≡ cond bad unnamedSetup (setupNumbers p)
-setup-counted true p e hn ha hb hx hy hz hu hv hw = rw (hn, ha, hb, hx, hy, hz, hu, hv, hw)
-setup-counted false p e hn ha hb hx hy hz hu hv hw = rw (hn, ha, hb, hx, hy, hz, hu, hv, hw, eight (p .bytes) e)
 
 pub data-counted :
     (p : Dwc2DataPlan) {n t : ℕ} {a b x y : PortStage} → length (p .stages) ≡ 4
