@@ -72,9 +72,6 @@ module _ (interval R : ℕ) (pos : 0 < R) where
   comes-round s = subst⁻¹ (λ (g : ℕ). slotAt R s (max 1 interval) (R / g) ≡ s % R) grid-step-is (steps-round R (max 1 interval) pos s)
 
 -- The gap is the least number that, added to the target, gives the cursor's remainder.
-gap-below : (g c t : ℕ) → 0 < g → gridGap g c t < g
-gap-below g c t h = mod-lt (c % g + (g - t % g)) h
-
 gap-reaches : (g c t : ℕ) → 0 < g → (t + gridGap g c t) % g ≡ c % g
 gap-reaches g c t h =
     let less : t % g < g = mod-lt t h in

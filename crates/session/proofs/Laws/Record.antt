@@ -24,7 +24,6 @@ use Rattle.session.proofs.types.IsoChannelState as Held
 use Rattle.session.proofs.Laws.Lists.{front-each, front-kept}
 use Rattle.words.proofs.Laws.Tests.{neither, not-both}
 use Rattle.session.proofs.Laws.Tests.{none, unless}
-use Rattle.session.proofs.Laws.Sums.{packets-next}
 
 -- what each check says of its entry
 pub record GoodConfig (cfg : IsoConfig) : Type 0 where
@@ -231,11 +230,6 @@ not-bad s g =
     (none (lt-leb (slots (s .cfg)) (s .head .«td_last») (g .cursor))
     (unless (s .head .live) (ltb (s .head .done) (s .head .count) || hasReason (s .fatal))
     (λ off. none (le-ltb (s .head .done) (s .head .count) (omega (arith, g .idle-done off))) (ap hasReason (g .idle-nothing off))))))))
-
--- a session with requests pending has packets pending
-pub pending-some : (s : IsoChannelState) → Sound s → s .head .done < s .head .count → 0 < pendingPackets s
-pending-some s g h =
-    omega (arith, packets-next (s .head .done) (s .head .count) (s .requests) h (omega arith), g .request (s .head .done) h .some)
 
 -- an accepted opening gives a good record
 pub idle-sound : (cfg : IsoConfig) → isBadConfig cfg ≡ false → isBadRecord (idleSession cfg) ≡ false

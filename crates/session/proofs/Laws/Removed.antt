@@ -55,13 +55,6 @@ module _ (at : ℕ) (s : IsoChannelState) (g : Sound s) (h : at < s .head .done)
   fewer-plans : plansBegin at s + (allPackets s - plansEnd at s) ≡ allPackets (removed at s)
   fewer-plans = omega (arith, parts, removed-all)
 
-  -- the plans in use are those before its plans and those behind them
-  pub removed-plans :
-      slice 0 (allPackets (removed at s)) (removed at s .plans) ≡ slice 0 (plansBegin at s) (s .plans) ++ slice (plansEnd at s) (allPackets s) (s .plans)
-  removed-plans =
-      ap (λ (n : ℕ). slice 0 n (removed at s .plans)) (sym fewer-plans)
-      ∙ closed-front (plansBegin at s) (plansEnd at s) (allPackets s) (s .plans) (omega arith) (omega (arith, parts)) plans-fit
-
   pending-requests : pendingRequests (removed at s) ≡ pendingRequests s
   pending-requests =
       let fewer-done : s .head .done - 1 ≡ at + (s .head .done - (at + 1)) = omega arith in

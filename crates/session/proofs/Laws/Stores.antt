@@ -5,7 +5,7 @@ use mathlib.Core.Bool.{Bool, true, false, cond}
 use mathlib.Core.List.{List, [], _∷_, map}
 use mathlib.Core.Logic.{_≢_}
 use Prim.Native.Nat.{ℕ, zero, suc, _+_, _*_, _%_, _≤_, _<_}
-use native.Mathlib.Nat.{add-zero, zero-add, mul-suc, min-le-left}
+use native.Mathlib.Nat.{add-zero, mul-suc, min-le-left}
 use native.Mathlib.Numerals.{add-one}
 use native.Mathlib.Omega.{arith}
 use lib.Dec.{ltb}
@@ -101,14 +101,6 @@ module _ (R insert step : ℕ) where
       let on : suc i + k ≡ i + suc k = omega arith in
       getD-plansFrom (suc i) ls k less ∙ ap (λ (j : ℕ). newPlan (getD ls k 0) (slotAt R insert step j)) on
 
-  -- the slot and the length of plan k of a submission
-  pub plan-of : (lengths : List ℕ) (k : ℕ) → k < length lengths
-      → (getD (plansFrom R insert step 0 lengths) k blankPlan .«desc_index» ≡ slotAt R insert step k)
-      × (getD (plansFrom R insert step 0 lengths) k blankPlan .planned ≡ getD lengths k 0)
-  plan-of lengths k h =
-      let e = getD-plansFrom 0 lengths k h in
-      (ap (λ (p : IsoPacketPlan). p .«desc_index») e ∙ ap (slotAt R insert step) (zero-add k), ap (λ (p : IsoPacketPlan). p .planned) e)
-
 module _ (R insert step i : ℕ) (lengths : List ℕ) where
   -- no packet is left: the table stays
   plans-end : (table : List IsoPacketPlan) (to : ℕ) → length lengths ≤ i → table ≡ sets table to (plansFrom R insert step i (drop i lengths))
@@ -173,7 +165,3 @@ sum-within limit (l ∷ ls) h =
     let first : l ≤ limit = h 0 (omega arith) in
     let rest : sum ls ≤ limit * length ls = sum-within limit ls (λ k m. h (suc k) (omega arith)) in
     omega (arith, mul-suc limit (length ls))
-
--- where there is no long packet, the sum is within as many limits as there are packets
-pub sum-none-long : (limit : ℕ) (lengths : List ℕ) → length lengths ≤ firstLong limit lengths → sum lengths ≤ limit * length lengths
-sum-none-long limit lengths e = sum-within limit lengths (none-long limit lengths e)
