@@ -30,8 +30,9 @@ extern "C" {
  *    17  fewer than DWC2_ISO_SESSION_BYTES bytes;
  *    18  a wrong mark or version, or a byte that names nothing (docs/LAYOUT.md, "What is refused").
  * Refused so, a call answers that number and zeros, and alters nothing. Else it acts on the session where it stands, as document 01
- * says, and answers. The call's own 17 (its other arrays), 18 (the record) and the rest follow in 01's order. A refusal
- * that leaves the session as it was leaves its bytes as they were.
+ * says, and answers. The call's own 17 (its other arrays), 18 (the record) and the rest follow in 01's order. A refusal that leaves
+ * the session as it was leaves its bytes as they were. A call that does not return (power lost) may leave the bytes part of the way:
+ * dwc2_iso_recover wants those from before the call, so the firmware keeps a copy.
  *
  * The ring: 32-bit words, 2 a slot, the status of slot s at word 2s and its address at 2s + 1; R slots, 256 at high speed, else
  * 64. The call needs at least 2R words (17); words behind them are never touched.
