@@ -12,6 +12,7 @@ use Rattle.session.specs.declared.types.IsoChannelState.{IsoChannelState
 use Rattle.session.specs.declared.transfer.IsoTransfer.{IsoTransfer}
 use Rattle.session.specs.declared.transfer.Submitted.{Submitted}
 use Rattle.session.specs.declared.transfer.SubmitParts.{SubmitParts}
+use Rattle.session.specs.Session.{allPackets}
 use Rattle.session.specs.Place.{plansFrom}
 use Rattle.session.specs.Scan.{whole}
 use Rattle.session.specs.Submit.{newRequest, submitted}
@@ -31,9 +32,11 @@ joined s r lengths =
       session = whole (s .cfg) (r .head) (s .fatal) (requestsWith s (r .added)) (plansWith s r lengths);
     }
 
--- packets that are added fit: all of them, in both tables, each length in 16 bits
+-- packets that are added fit: all of them, in both tables, behind those in use, each length in 16 bits
 pub record Fitting (s : IsoChannelState) (r : SubmitParts) (lengths : List ℕ) : Type 0 where
   pub every : r .added ≡ length lengths
+  pub counted : r .head .count ≡ s .head .count + 1
+  pub behind : r .to ≡ allPackets s
   pub few : r .added ≤ 255
   pub requests : s .head .count < 64
   pub plans : r .to + r .added ≤ 1024
@@ -44,3 +47,4 @@ pub record Parted (s : IsoChannelState) (t : IsoTransfer) (lengths ring : List �
   pub joins : joined s r lengths ≡ submitted s t lengths ring
   pub some-slots : 0 < r .slots
   pub fitting : 0 < r .added → Fitting s r lengths
+  pub as-many : r .added ≡ 0 → r .head .count ≡ s .head .count

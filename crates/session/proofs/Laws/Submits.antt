@@ -3,7 +3,7 @@ use mathlib.Core.Path.{_≡_, refl, _∙_, sym, ap, ap₂, subst⁻¹}
 use mathlib.Core.Bool.{Bool, true, false, not, _&&_, cond}
 use mathlib.Core.List.{List}
 use mathlib.Core.Logic.{_⊎_, ⊎-elim}
-use Prim.Native.Nat.{ℕ, _*_, _≤_, _<_}
+use Prim.Native.Nat.{ℕ, _+_, _*_, _≤_, _<_}
 use native.Mathlib.Decide.{decLe}
 use native.Mathlib.Omega.{arith}
 use lib.Dec.{T, ltb}
@@ -43,6 +43,20 @@ some-added Early count n e h = absurd (omega arith)
 some-added Cut count n e h = absurd (omega arith)
 some-added Late count n e h = absurd (omega arith)
 some-added Accept count n e h = (refl, e)
+
+-- only an accepted submission counts a request more
+module _ (s : IsoChannelState) (t : IsoTransfer) (slot : ℕ) where
+  one-counted : (way : SubmitWay) → way ≡ Accept → headAfter way (s .cfg) (s .head) t slot .count ≡ s .head .count + 1
+  one-counted way e = ap (λ (w : SubmitWay). headAfter w (s .cfg) (s .head) t slot .count) e
+
+  none-counted : (way : SubmitWay) (n : ℕ) → 0 ≡ added way n → (way ≡ Accept → 0 < n) → headAfter way (s .cfg) (s .head) t slot .count ≡ s .head .count
+  none-counted (Refuse k) n e h = refl
+  none-counted (TooLong k) n e h = refl
+  none-counted (Spend k) n e h = refl
+  none-counted Early n e h = refl
+  none-counted Cut n e h = refl
+  none-counted Late n e h = refl
+  none-counted Accept n e h = let some : 0 < n = h refl in absurd (omega arith)
 
 -- what an accepted submission is sure of, packets that are added are
 pub few-added : (way : SubmitWay) (count n limit : ℕ) → n ≡ added way count → (way ≡ Accept → count ≤ limit) → n ≤ limit
@@ -205,11 +219,14 @@ module _ (s : IsoChannelState) (t : IsoTransfer) (lengths ring : List ℕ) (scan
             let ok = acceptable s t lengths ring (passed (gate way (q .0))) in
             record {
               every = q .1;
+              counted = ap (λ (x : IsoHead). x .count) h ∙ one-counted s t slot way (q .0);
+              behind = taken (q .0) .0;
               few = omega (arith, ok .few, q .1);
               requests = omega (arith, ok .requests);
               plans = omega (arith, ok .packets, q .1, taken (q .0) .0);
               short = ok .short;
             };
+        as-many = λ none. ap (λ (x : IsoHead). x .count) h ∙ none-counted s t slot way (length lengths) (sym none ∙ en) (λ w. taken w .1);
       }
 
 -- the parts joined, from the session as the code leaves it before its numbers
