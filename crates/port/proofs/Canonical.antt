@@ -1,24 +1,32 @@
--- Each session has one run of bytes: what is loaded from bytes of the layout is saved as those bytes. So a call that leaves the session as it was
--- leaves its bytes as they were.
+-- Bytes of the layout stand in their own place: what was read of them is written as it was, and what is no entry stays. So a call that leaves the
+-- session as it was leaves its bytes as they were.
 use mathlib.Core.Path.{_≡_, refl, _∙_, sym, ap, ap₂}
-use mathlib.Core.Bool.{Bool, true, false, not, cond}
+use mathlib.Core.Bool.{Bool, true, false, not, _||_, cond}
 use mathlib.Core.List.{List, [], _∷_, _++_}
-use Prim.Native.Nat.{ℕ, _+_, _≤_}
+use Prim.Native.Nat.{ℕ, _+_, _*_, _≤_, _<_}
+use native.Mathlib.Nat.{min-le-right}
 use native.Mathlib.Omega.{arith}
 use lib.Dec.{eqb, ltb}
 use lib.ListN.{length, take, drop, length-drop, take-append-drop}
-use lib.Seq.{sets, sets-eq, take-add, drop-drop, length-take-le}
+use lib.Seq.{slice, take-add, drop-drop}
 use borrow.Author.Tests.{eqb-true, not-false}
 use Rattle.words.proofs.Laws.Tests.{neither}
 use Rattle.session.specs.declared.types.IsoChannelState.{IsoChannelState}
+use Rattle.session.specs.Session.{packetsOf}
 use Rattle.port.specs.Bytes.{byteOf, u16Of, u32Of, u64Of, u16Bytes, u32Bytes, u64Bytes}
 use Rattle.port.specs.Tags.{speedTag, speedOf, directionTag, directionOf, modeTag, modeOf, flagTag, flagOf, taggedBytes, taggedOf, fatalTagged, fatalOf, isBadTagged}
-use Rattle.port.specs.Layout.{markBytes, configBytes, configOf, headBytes, headOf, requestBytes, requestOf, planBytes, planOf, tableBytes, tableOf, anyOf}
-use Rattle.port.specs.Layout.{isBadMark, isBadHead, isBadRequestBytes, isBadPlanBytes, isBadLayout, layoutNumber, saved, sessionOf}
+use Rattle.port.specs.Layout.{markBytes, configBytes, configOf, headBytes, headOf, requestBytes, requestOf, planBytes, planOf, tableOf, tableKept, anyOf}
+use Rattle.port.specs.Layout.{isBadMark, isBadHead, isBadRequestBytes, isBadPlanBytes, isBadLayout, layoutNumber, requestsIn, plansIn, front, kept, leftBytes, sessionOf}
 use Rattle.port.specs.Calls.{bytesBy}
+use Rattle.port.specs.Places.{Left}
 use Rattle.port.proofs.Laws.Calls.{long-enough, done}
 use Rattle.port.proofs.Laws.Kept.{Octets, octets-drop, byte-kept, three-kept, u16-kept, u32-kept, u64-kept, tagged-kept}
-use Rattle.port.proofs.Laws.Kept.{pair-kept, triple-kept, fatal-kept, request-kept, plan-kept, table-kept}
+use Rattle.port.proofs.Laws.Kept.{pair-kept, triple-kept, fatal-kept, request-kept, plan-kept}
+use Rattle.port.proofs.Laws.Entries.{length-request, length-plan}
+use Rattle.port.proofs.Laws.Left.{same-long, front-good, requests-any, plans-any}
+use Rattle.port.proofs.Laws.Loaded.{layout-by}
+use Rattle.port.proofs.Laws.Over.{kept-same}
+use Rattle.port.proofs.Laws.Tables.{any-less, any-clear}
 
 -- two parts that follow one another, from `a` on
 seam : (a n m : ℕ) (xs : List ℕ) {p q : List ℕ} → p ≡ take n (drop a xs) → q ≡ take m (drop (a + n) xs) → p ++ q ≡ take (n + m) (drop a xs)
@@ -83,16 +91,6 @@ module _ (xs : List ℕ) (octets : Octets xs) (long : 8488 ≤ length xs) where
   reason-kept e =
       ap taggedBytes (fatal-kept (taggedOf (drop 34 xs)) e) ∙ tagged-kept (drop 34 xs) (octets-drop 34 xs octets) (omega (arith, length-drop 34 xs))
 
-  requests-kept :
-      anyOf isBadRequestBytes 20 64 (drop 40 xs) ≡ false → tableBytes requestBytes (tableOf requestOf 20 64 (drop 40 xs)) ≡ take 1280 (drop 40 xs)
-  requests-kept =
-      table-kept requestOf requestBytes isBadRequestBytes 20 request-kept 64 (drop 40 xs) (octets-drop 40 xs octets) (omega (arith, length-drop 40 xs))
-
-  plans-kept :
-      anyOf isBadPlanBytes 7 1024 (drop 1320 xs) ≡ false → tableBytes planBytes (tableOf planOf 7 1024 (drop 1320 xs)) ≡ take 7168 (drop 1320 xs)
-  plans-kept =
-      table-kept planOf planBytes isBadPlanBytes 7 plan-kept 1024 (drop 1320 xs) (octets-drop 1320 xs octets) (omega (arith, length-drop 1320 xs))
-
   front-kept :
       isBadMark xs ≡ false → isBadHead xs ≡ false
       → markBytes ++ configBytes (configOf xs) ++ headBytes (headOf xs) ++ taggedBytes (fatalTagged (fatalOf (taggedOf (drop 34 xs)))) ≡ take 40 (drop 0 xs)
@@ -104,20 +102,17 @@ module _ (xs : List ℕ) (octets : Octets xs) (long : 8488 ≤ length xs) where
       let d = neither (ltb 1 (byteOf (drop 15 xs))) (isBadTagged 2 2 (taggedOf (drop 34 xs))) (c .1) in
       seam 0 34 6 xs (seam 0 15 19 xs (seam 0 5 10 xs (mark-kept m) (config-kept (a .0) (b .0) (c .0))) (head-kept (d .0))) (reason-kept (d .1))
 
-  whole-kept : isBadLayout xs ≡ false → saved (sessionOf xs) ≡ take 8488 xs
-  unfolding saved sessionOf isBadLayout
-  whole-kept e =
-      let a = neither (isBadMark xs) _ e in
-      let b = neither (isBadHead xs) _ (a .1) in
-      let c = neither (anyOf isBadRequestBytes 20 64 (drop 40 xs)) (anyOf isBadPlanBytes 7 1024 (drop 1320 xs)) (b .1) in
-      seam 0 1320 7168 xs (seam 0 40 1280 xs (front-kept (a .0) (b .0)) (requests-kept (c .0))) (plans-kept (c .1))
-
--- a front that is stored where it stands
-same-front : (n : ℕ) (xs vs : List ℕ) → vs ≡ take n xs → n ≤ length xs → sets xs 0 vs ≡ xs
-same-front n xs vs e h =
-    let many : length vs ≡ n = ap length e ∙ length-take-le n xs h in
-    let ends : 0 + length vs ≡ n = omega arith in
-    sets-eq vs xs 0 (omega arith) ∙ ap₂ (λ (front : List ℕ) (k : ℕ). front ++ drop k xs) e ends ∙ take-append-drop n xs
+  pub left-same : isBadMark xs ≡ false → isBadHead xs ≡ false → leftBytes xs (sessionOf xs) ≡ xs
+  unfolding kept front sessionOf
+  left-same m h =
+      let requests : tableKept requestBytes isBadRequestBytes 20 0 (tableOf requestOf 20 64 (drop 40 xs)) (drop 40 xs) ≡ take 1280 (drop 40 xs) =
+      kept-same requestBytes isBadRequestBytes 20 length-request requestOf request-kept 64 (drop 40 xs) (octets-drop 40 xs octets)
+      (omega (arith, length-drop 40 xs)) in
+      let plans : tableKept planBytes isBadPlanBytes 7 0 (tableOf planOf 7 1024 (drop 1320 xs)) (drop 1320 xs) ≡ take 7168 (drop 1320 xs) =
+      kept-same planBytes isBadPlanBytes 7 length-plan planOf plan-kept 1024 (drop 1320 xs) (octets-drop 1320 xs octets)
+      (omega (arith, length-drop 1320 xs)) in
+      ap (λ (first : List ℕ). first ++ drop 8488 xs) (seam 0 1320 7168 xs (seam 0 40 1280 xs (front-kept m h) requests) plans)
+      ∙ take-append-drop 8488 xs
 
 in-layout : (xs : List ℕ) → layoutNumber xs ≡ 0 → isBadLayout xs ≡ false
 in-layout xs z = go (ltb (length xs) 8488) (isBadLayout xs) z
@@ -127,18 +122,60 @@ in-layout xs z = go (ltb (length xs) 8488) (isBadLayout xs) z
     go false true e = absurd (omega arith)
     go false false e = refl
 
--- bytes of the layout, loaded and saved, are as they were
-pub loaded-saved : (xs : List ℕ) → Octets xs → layoutNumber xs ≡ 0 → sets xs 0 (saved (sessionOf xs)) ≡ xs
-loaded-saved xs octets z =
-    let long : 8488 ≤ length xs = long-enough xs refl z in
-    same-front 8488 xs (saved (sessionOf xs)) (whole-kept xs octets long (in-layout xs z)) long
+module _ (xs : List ℕ) (z : layoutNumber xs ≡ 0) where
+  mark-clear : isBadMark xs ≡ false
+  unfolding isBadLayout
+  mark-clear = neither (isBadMark xs) _ (in-layout xs z) .0
+
+  head-clear : isBadHead xs ≡ false
+  unfolding isBadLayout
+  head-clear = neither (isBadHead xs) _ (neither (isBadMark xs) _ (in-layout xs z) .1) .0
+
+  entries-clear :
+      (anyOf isBadRequestBytes 20 (requestsIn (sessionOf xs)) (drop 40 xs) || anyOf isBadPlanBytes 7 (plansIn (sessionOf xs)) (drop 1320 xs)) ≡ false
+  unfolding isBadLayout
+  entries-clear = neither (isBadHead xs) _ (neither (isBadMark xs) _ (in-layout xs z) .1) .1
+
+  -- each entry in use is one of the layout
+  pub requests-clear : anyOf isBadRequestBytes 20 (requestsIn (sessionOf xs)) (drop 40 xs) ≡ false
+  requests-clear = neither (anyOf isBadRequestBytes 20 (requestsIn (sessionOf xs)) (drop 40 xs)) _ entries-clear .0
+
+  pub plans-clear : anyOf isBadPlanBytes 7 (plansIn (sessionOf xs)) (drop 1320 xs) ≡ false
+  plans-clear = neither (anyOf isBadRequestBytes 20 (requestsIn (sessionOf xs)) (drop 40 xs)) _ entries-clear .1
+
+  pub request-clear : (i : ℕ) → i < requestsIn (sessionOf xs) → isBadRequestBytes (drop (20 * i) (drop 40 xs)) ≡ false
+  request-clear i h = any-clear isBadRequestBytes 20 (requestsIn (sessionOf xs)) i (drop 40 xs) h requests-clear
+
+  pub plan-clear : (i : ℕ) → i < plansIn (sessionOf xs) → isBadPlanBytes (drop (7 * i) (drop 1320 xs)) ≡ false
+  plan-clear i h = any-clear isBadPlanBytes 7 (plansIn (sessionOf xs)) i (drop 1320 xs) h plans-clear
+
+  -- bytes of the layout, in the place of themselves, are as they were
+  pub loaded-left : Octets xs → Left xs xs (sessionOf xs)
+  loaded-left octets = record { bytes = sym (left-same xs octets (long-enough xs refl z) mark-clear head-clear); holds = refl }
+
+  -- what stands in their place and has no more entries in use is of the layout too
+  pub left-layout :
+      {ys : List ℕ} {t : IsoChannelState} → Left xs ys t → requestsIn t ≤ requestsIn (sessionOf xs) → plansIn t ≤ plansIn (sessionOf xs)
+      → layoutNumber ys ≡ 0
+  left-layout {ys} {t} k few less =
+      let long : 8488 ≤ length xs = long-enough xs refl z in
+      let same : sessionOf ys ≡ t = k .holds in
+      let first = front-good 0 0 xs t (k .bytes) in
+      let requests : anyOf isBadRequestBytes 20 (requestsIn (sessionOf ys)) (drop 40 ys) ≡ false =
+      ap (λ (s : IsoChannelState). anyOf isBadRequestBytes 20 (requestsIn s) (drop 40 ys)) same
+      ∙ requests-any long k (requestsIn t) (min-le-right (t .head .count) 64)
+      ∙ any-less isBadRequestBytes 20 (requestsIn (sessionOf xs)) (requestsIn t) (drop 40 xs) few requests-clear in
+      let plans : anyOf isBadPlanBytes 7 (plansIn (sessionOf ys)) (drop 1320 ys) ≡ false =
+      ap (λ (s : IsoChannelState). anyOf isBadPlanBytes 7 (plansIn s) (drop 1320 ys)) same
+      ∙ plans-any long k (plansIn t) (min-le-right (packetsOf (slice 0 (requestsIn t) (t .requests))) 1024)
+      ∙ any-less isBadPlanBytes 7 (plansIn (sessionOf xs)) (plansIn t) (drop 1320 xs) less plans-clear in
+      sym (layout-by ys (omega (arith, same-long long k)) (sym (first .0)) (sym (first .1)) false refl (sym requests) (sym plans) refl)
 
 -- a call that leaves the session as it was leaves the bytes as they were
 pub left-alone :
     (xs : List ℕ) → Octets xs → layoutNumber xs ≡ 0 → (after : IsoChannelState → IsoChannelState) → after (sessionOf xs) ≡ sessionOf xs
     → bytesBy xs after ≡ xs
 left-alone xs octets z after same =
-    let bytes : IsoChannelState → List ℕ = λ (s : IsoChannelState). sets xs 0 (saved s) in
-    sym (done xs (λ (n : ℕ). xs) after bytes {n = layoutNumber xs} {s = sessionOf xs} {r = after (sessionOf xs)} refl z refl refl)
-    ∙ ap bytes same
-    ∙ loaded-saved xs octets z
+    sym (done xs (λ (n : ℕ). xs) after (leftBytes xs) {n = layoutNumber xs} {s = sessionOf xs} {r = after (sessionOf xs)} refl z refl refl)
+    ∙ ap (leftBytes xs) same
+    ∙ sym (loaded-left xs z octets .bytes)

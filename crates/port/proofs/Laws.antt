@@ -5,8 +5,10 @@ pub mod Closing
 pub mod Entries
 pub mod Head
 pub mod Kept
+pub mod Left
 pub mod Loaded
 pub mod Numbers
+pub mod Over
 pub mod Placed
 pub mod Planning
 pub mod Reclaiming

@@ -4,10 +4,12 @@ use mathlib.Core.Path.{_≡_, refl, _∙_, sym, ap}
 use mathlib.Core.Bool.{Bool, true, false}
 use mathlib.Core.List.{List, _++_, append-assoc}
 use Prim.Native.Nat.{ℕ, _+_, _≤_}
+use native.Mathlib.Nat.{min-le-right}
 use native.Mathlib.Omega.{arith}
 use lib.Dec.{ltb}
 use lib.ListN.{length, drop, length-append}
-use lib.Seq.{drop-at}
+use lib.Seq.{slice, drop-at}
+use Rattle.session.specs.Session.{packetsOf}
 use Rattle.ring.specs.declared.speed.Speed.{Speed}
 use Rattle.ring.specs.declared.speed.Speed.the-variants.{High, Full, Low}
 use Rattle.words.specs.declared.types.Direction.{Direction}
@@ -20,25 +22,25 @@ use Rattle.session.specs.declared.types.IsoChannelState.{IsoChannelState}
 use Rattle.port.specs.Bytes.{byteOf, u16Of, u32Of, u64Of, u16Bytes, u32Bytes, u64Bytes}
 use Rattle.port.specs.Tags.{speedTag, directionTag, modeTag, flagTag, taggedOf, fatalTagged, isBadTagged}
 use Rattle.port.specs.Layout.{markBytes, configBytes, configOf, headBytes, headOf, requestBytes, requestOf, planBytes, planOf, tableBytes, tableOf, anyOf}
-use Rattle.port.specs.Layout.{isBadMark, isBadHead, isBadRequestBytes, isBadPlanBytes, layoutNumber, saved, sessionOf}
+use Rattle.port.specs.Layout.{isBadMark, isBadHead, isBadRequestBytes, isBadPlanBytes, layoutNumber, requestsIn, plansIn, front, saved, sessionOf}
 use Rattle.port.proofs.Laws.Entries.{length-request, length-plan}
-use Rattle.port.proofs.Laws.Tables.{length-bytes, table-back, table-good}
+use Rattle.port.proofs.Laws.Tables.{length-bytes, table-back, table-good, any-less}
 use Rattle.port.proofs.Laws.Head.{config-at, head-at, head}
-use Rattle.port.proofs.Laws.Loaded.{session-at, good-layout}
-use Rattle.port.proofs.Laws.Saved.{front, length-front, length-requests}
+use Rattle.port.proofs.Laws.Loaded.{session-at, layout-by}
+use Rattle.port.proofs.Laws.Saved.{length-front, length-requests}
 use Rattle.port.proofs.Laws.Back.{join16, join32, join64, speed-back, direction-back, mode-back, flag-back, fatal-back, fatal-good, tagged-back}
 use Rattle.port.proofs.Laws.Back.{request-back, request-good, plan-back, plan-good}
 
 -- ---- the head
 
-config-back : (s : IsoChannelState) (ys : List ℕ) → s .cfg ≡ configOf (front s ++ ys)
+pub config-back : (s : IsoChannelState) (ys : List ℕ) → s .cfg ≡ configOf (front s ++ ys)
 unfolding front markBytes configBytes byteOf u16Of u16Bytes
 config-back s ys =
     let c : IsoConfig = s .cfg in
     config-at (front s ++ ys) refl (speed-back (c .speed)) refl (direction-back (c .direction)) (sym (join16 (c .interval))) refl refl
     (sym (join16 (c .«max_packet_size»))) refl refl (mode-back (c .mode))
 
-head-back : (s : IsoChannelState) (ys : List ℕ) → s .head ≡ headOf (front s ++ ys)
+pub head-back : (s : IsoChannelState) (ys : List ℕ) → s .head ≡ headOf (front s ++ ys)
 unfolding front markBytes configBytes headBytes byteOf u64Of u32Of u16Of u64Bytes u32Bytes u16Bytes
 head-back s ys =
     let h : IsoHead = s .head in
@@ -46,15 +48,15 @@ head-back s ys =
     ∙ head-at (front s ++ ys) (sym (join64 (h .«next_request_id»))) refl (sym (join16 (h .«td_last»))) (sym (join32 (h .«start_full_frame»)))
     (sym (join16 (h .done))) (sym (join16 (h .count)))
 
-reason-back : (s : IsoChannelState) (ys : List ℕ) → fatalTagged (s .fatal) ≡ taggedOf (drop 34 (front s ++ ys))
+pub reason-back : (s : IsoChannelState) (ys : List ℕ) → fatalTagged (s .fatal) ≡ taggedOf (drop 34 (front s ++ ys))
 unfolding front markBytes configBytes headBytes u64Bytes u32Bytes u16Bytes
 reason-back s ys = tagged-back (fatalTagged (s .fatal)) ys
 
-mark-good : (s : IsoChannelState) (ys : List ℕ) → isBadMark (front s ++ ys) ≡ false
+pub mark-good : (s : IsoChannelState) (ys : List ℕ) → isBadMark (front s ++ ys) ≡ false
 unfolding isBadMark front markBytes byteOf u16Of u16Bytes
 mark-good s ys = refl
 
-head-good : (s : IsoChannelState) (ys : List ℕ) → isBadHead (front s ++ ys) ≡ false
+pub head-good : (s : IsoChannelState) (ys : List ℕ) → isBadHead (front s ++ ys) ≡ false
 unfolding isBadHead front markBytes configBytes headBytes byteOf u64Bytes u32Bytes u16Bytes
 head-good s ys =
     rw (speed (s .cfg .speed), direction (s .cfg .direction), mode (s .cfg .mode), live (s .head .live))
@@ -151,8 +153,13 @@ module _ (s : IsoChannelState) (many-requests : length (s .requests) ≡ 64) (ma
   pub saved-good : layoutNumber (saved s ++ ys) ≡ 0
   saved-good =
       let long : 8488 ≤ length (front s ++ requests) = omega (arith, length-whole) in
+      let t : IsoChannelState = sessionOf (front s ++ requests) in
       ap layoutNumber parts
-      ∙ sym (good-layout (front s ++ requests) long (sym (mark-good s requests)) (sym (head-good s requests)) requests-good plans-good refl)
+      ∙ sym (layout-by (front s ++ requests) long (sym (mark-good s requests)) (sym (head-good s requests)) false refl
+      (sym (any-less isBadRequestBytes 20 64 (requestsIn t) (drop 40 (front s ++ requests)) (min-le-right (t .head .count) 64) (sym requests-good)))
+      (sym (any-less isBadPlanBytes 7 1024 (plansIn t) (drop 1320 (front s ++ requests))
+      (min-le-right (packetsOf (slice 0 (requestsIn t) (t .requests))) 1024) (sym plans-good)))
+      refl)
 
   -- and it is the session that was saved
   pub saved-loaded : sessionOf (saved s ++ ys) ≡ s

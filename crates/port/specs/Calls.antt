@@ -28,7 +28,7 @@ use Rattle.port.specs.declared.answers.PortSubmitted.{PortSubmitted}
 use Rattle.port.specs.declared.answers.PortTransfer.{PortTransfer}
 use Rattle.port.specs.declared.tags.Tagged.{Tagged}
 use Rattle.port.specs.Tags.{flagTag, flagOf, speedOf, directionOf, modeOf, tagged, outcomeTagged}
-use Rattle.port.specs.Layout.{layoutNumber, sessionOf, saved}
+use Rattle.port.specs.Layout.{layoutNumber, sessionOf, saved, requestsIn, plansIn, kept, leftBytes}
 
 -- what `call` gives for the session of the bytes, or what `refuse` gives for the number with which they are refused
 abbrev pub byBytes : {A : Type 0} → List ℕ → (ℕ → A) → (IsoChannelState → A) → A
@@ -36,7 +36,7 @@ byBytes xs refuse call = cond (eqb (layoutNumber xs) 0) (call (sessionOf xs)) (r
 
 -- the bytes afterwards, where the call leaves the session `after`: as they were where they are refused
 abbrev pub bytesBy : List ℕ → (IsoChannelState → IsoChannelState) → List ℕ
-bytesBy xs after = byBytes xs (λ (n : ℕ). xs) (λ (s : IsoChannelState). sets xs 0 (saved (after s)))
+bytesBy xs after = byBytes xs (λ (n : ℕ). xs) (λ (s : IsoChannelState). leftBytes xs (after s))
 
 -- lent words afterwards
 abbrev pub wordsBy : List ℕ → List ℕ → (IsoChannelState → List ℕ) → List ℕ
@@ -152,9 +152,13 @@ abbrev pub submitBy : List ℕ → PortTransfer → List ℕ → List ℕ → Po
 submitBy xs t lengths ring =
     byKind (t .kind) xs submitRefused (λ (s : IsoChannelState). submittedPort (submitted s (transferOf t) lengths ring))
 
+-- what the submission brings into use is written, whatever stood there
+abbrev pub grownBytes : List ℕ → IsoChannelState → List ℕ
+grownBytes xs s = kept (requestsIn s) (plansIn s) xs s
+
 abbrev pub submitBytes : List ℕ → PortTransfer → List ℕ → List ℕ → List ℕ
 submitBytes xs t lengths ring =
-    byKind (t .kind) xs (λ (n : ℕ). xs) (λ (s : IsoChannelState). sets xs 0 (saved (submitted s (transferOf t) lengths ring .session)))
+    byKind (t .kind) xs (λ (n : ℕ). xs) (λ (s : IsoChannelState). grownBytes xs (submitted s (transferOf t) lengths ring .session))
 
 abbrev pub submitRing : List ℕ → PortTransfer → List ℕ → List ℕ → List ℕ
 submitRing xs t lengths ring = byKind (t .kind) xs (λ (n : ℕ). ring) (λ (s : IsoChannelState). submittedRing s (transferOf t) lengths ring)

@@ -1,9 +1,11 @@
 -- The bytes of a session (docs/LAYOUT.md): entry by entry, then the whole. `..Bytes` writes, `..Of` reads what a list begins with.
 use mathlib.Core.Bool.{Bool, false, not, _||_, cond}
 use mathlib.Core.List.{List, [], _∷_, _++_}
-use Prim.Native.Nat.{ℕ, zero, suc}
+use Prim.Native.Nat.{ℕ, zero, suc, min}
 use lib.Dec.{eqb, ltb}
-use lib.ListN.{length, drop}
+use lib.ListN.{length, take, drop}
+use lib.Seq.{slice}
+use Rattle.session.specs.Session.{packetsOf}
 use Rattle.session.specs.declared.types.IsoConfig.{IsoConfig}
 use Rattle.session.specs.declared.types.IsoHead.{IsoHead}
 use Rattle.session.specs.declared.types.IsoChannelState.{IsoChannelState}
@@ -118,14 +120,12 @@ isBadHead xs =
 
 -- ---- the session, 8,488 bytes
 
+-- what stands before the tables
+unfoldable pub front : IsoChannelState → List ℕ
+front s = markBytes ++ configBytes (s .cfg) ++ headBytes (s .head) ++ taggedBytes (fatalTagged (s .fatal))
+
 unfoldable pub saved : IsoChannelState → List ℕ
-saved s =
-    markBytes
-    ++ configBytes (s .cfg)
-    ++ headBytes (s .head)
-    ++ taggedBytes (fatalTagged (s .fatal))
-    ++ tableBytes requestBytes (s .requests)
-    ++ tableBytes planBytes (s .plans)
+saved s = front s ++ tableBytes requestBytes (s .requests) ++ tableBytes planBytes (s .plans)
 
 unfoldable pub sessionOf : List ℕ → IsoChannelState
 sessionOf xs =
@@ -137,10 +137,40 @@ sessionOf xs =
       plans = tableOf planOf 7 1024 (drop 1320 xs);
     }
 
+-- the entries in use, as far as the tables go: all requests, and the plans of their packets
+abbrev pub requestsIn : IsoChannelState → ℕ
+requestsIn s = min (s .head .count) 64
+
+abbrev pub plansIn : IsoChannelState → ℕ
+plansIn s = min (packetsOf (slice 0 (requestsIn s) (s .requests))) 1024
+
+-- the bytes of an entry that is not in use have no meaning, and are not looked at
 unfoldable pub isBadLayout : List ℕ → Bool
 isBadLayout xs =
-    isBadMark xs || (isBadHead xs || (anyOf isBadRequestBytes 20 64 (drop 40 xs) || anyOf isBadPlanBytes 7 1024 (drop 1320 xs)))
+    isBadMark xs
+    || (isBadHead xs
+    || (anyOf isBadRequestBytes 20 (requestsIn (sessionOf xs)) (drop 40 xs) || anyOf isBadPlanBytes 7 (plansIn (sessionOf xs)) (drop 1320 xs)))
 
 -- 17: fewer bytes than a session takes; 18: bytes that are no session of the layout
 abbrev pub layoutNumber : List ℕ → ℕ
 layoutNumber xs = cond (ltb (length xs) 8488) 17 (cond (isBadLayout xs) 18 0)
+
+-- ---- a session in the place of another
+
+-- entries in the place of those of `xs`: the first `n` are written; behind them bytes that are no entry of the layout stay as they are
+unfoldable pub tableKept : {A : Type 0} → (A → List ℕ) → (List ℕ → Bool) → ℕ → ℕ → List A → List ℕ → List ℕ
+tableKept bytes bad width n [] xs = []
+tableKept bytes bad width zero (a ∷ rest) xs = cond (bad xs) (take width xs) (bytes a) ++ tableKept bytes bad width zero rest (drop width xs)
+tableKept bytes bad width (suc n) (a ∷ rest) xs = bytes a ++ tableKept bytes bad width n rest (drop width xs)
+
+-- what stands behind the session stays
+unfoldable pub kept : ℕ → ℕ → List ℕ → IsoChannelState → List ℕ
+kept n m xs s =
+    front s
+    ++ tableKept requestBytes isBadRequestBytes 20 n (s .requests) (drop 40 xs)
+    ++ tableKept planBytes isBadPlanBytes 7 m (s .plans) (drop 1320 xs)
+    ++ drop 8488 xs
+
+-- where each entry in use is one of the layout
+abbrev pub leftBytes : List ℕ → IsoChannelState → List ℕ
+leftBytes = kept 0 0

@@ -4,8 +4,9 @@ ghost use Prim.Native.Nat.{_≤_};
 ghost use lib.ListN.{length};
 ghost use lib.Seq.{slice, sets};
 ghost use Rattle.session.specs.Cancel.{placeOf, cancelled};
-ghost use Rattle.port.specs.Layout.{layoutNumber, sessionOf, saved};
+ghost use Rattle.port.specs.Layout.{layoutNumber, sessionOf};
 ghost use Rattle.port.specs.Calls.{replyPort};
+ghost use Rattle.port.specs.Places.{Left};
 use crate::answers::PortReply;
 use crate::answers::reply_port;
 use crate::answers::reply_refused;
@@ -42,7 +43,7 @@ pub(crate) fn place_at(bytes: &[u8], count: u16, id: u64) -> u16
 pub(crate) fn cancel_at(bytes: &mut [u8], id: u64) -> PortReply
     requires { ⌜ layoutNumber (now bytes) ≡ 0 ⌝ }
     ensures { λ r. ⌜ (r ≡ replyPort (cancelled (sessionOf (now (bytes .entry))) id))
-        × (now (bytes .exit) ≡ sets (now (bytes .entry)) 0 (saved (cancelled (sessionOf (now (bytes .entry))) id .session))) ⌝ }
+        × (Left (now (bytes .entry)) (now (bytes .exit)) (cancelled (sessionOf (now (bytes .entry))) id .session)) ⌝ }
 {
     let scan = scan_at(bytes);
     if scan.bad {

@@ -9,8 +9,8 @@ ghost use Rattle.words.specs.Words.{isSet, active};
 ghost use Rattle.session.specs.Session.{blankRequest, blankPlan, packetsOf};
 ghost use Rattle.session.specs.Record.{isBadRecord};
 ghost use Rattle.session.specs.Settle.{settledPlan, oldestFrom, oldestTo, movedTotal, oneMore, slotsCleared, settledSession, settledRing, drained};
-ghost use Rattle.port.specs.Layout.{layoutNumber, sessionOf, saved};
-ghost use Rattle.port.specs.Places.{requestsOf, plansOf, withPlans};
+ghost use Rattle.port.specs.Layout.{layoutNumber, sessionOf, plansIn};
+ghost use Rattle.port.specs.Places.{requestsOf, plansOf, withPlans, Left};
 use crate::entries::plan_at;
 use crate::entries::put_plan;
 use crate::entries::put_request;
@@ -73,11 +73,9 @@ fn settle_plans_at(
     direction: Direction,
     ring: &[u32],
 ) -> u32
-    requires { ⌜ (layoutNumber (now bytes) ≡ 0) × (from ≤ to) × (to ≤ 1024) ⌝ }
+    requires { ⌜ (layoutNumber (now bytes) ≡ 0) × (from ≤ to) × (to ≤ plansIn (sessionOf (now bytes))) ⌝ }
     ensures { λ r. ⌜ (r ≡ movedTotal (map (settledPlan direction (now (ring .entry))) (slice from to (plansOf (now (bytes .entry))))))
-        × (now (bytes .exit)
-        ≡ sets (now (bytes .entry)) 0
-        (saved (withPlans (sessionOf (now (bytes .entry))) (sets (plansOf (now (bytes .entry))) from (map (settledPlan direction (now (ring .entry))) (slice from to (plansOf (now (bytes .entry))))))))) ⌝ }
+        × (Left (now (bytes .entry)) (now (bytes .exit)) (withPlans (sessionOf (now (bytes .entry))) (sets (plansOf (now (bytes .entry))) from (map (settledPlan direction (now (ring .entry))) (slice from to (plansOf (now (bytes .entry)))))))) ⌝ }
 {
     let mut sum: u32 = 0;
     let mut i = from;
@@ -110,7 +108,7 @@ fn settle_at(bytes: &mut [u8], from: usize, to: usize, ring: &mut [u32])
         × (sessionOf (now bytes) .head .done < sessionOf (now bytes) .head .count)
         × (from ≡ oldestFrom (sessionOf (now bytes)))
         × (to ≡ oldestTo (sessionOf (now bytes))) ⌝ }
-    ensures { λ _. ⌜ (now (bytes .exit) ≡ sets (now (bytes .entry)) 0 (saved (settledSession (sessionOf (now (bytes .entry))) (now (ring .entry)))))
+    ensures { λ _. ⌜ (Left (now (bytes .entry)) (now (bytes .exit)) (settledSession (sessionOf (now (bytes .entry))) (now (ring .entry))))
         × (now (ring .exit) ≡ settledRing (sessionOf (now (bytes .entry))) (now (ring .entry))) ⌝ }
 {
     let head = head_at(bytes);
@@ -154,8 +152,7 @@ fn is_served_at(bytes: &[u8], to: usize, ring: &[u32]) -> bool
 // Settles the oldest request at once where the bit is set, then each oldest one that is served.
 pub(crate) fn drain_at(bytes: &mut [u8], bit: bool, ring: &mut [u32])
     requires { ⌜ (layoutNumber (now bytes) ≡ 0) × (isBadRecord (sessionOf (now bytes)) ≡ false) ⌝ }
-    ensures { λ _. ⌜ (now (bytes .exit)
-        ≡ sets (now (bytes .entry)) 0 (saved (drained bit (sessionOf (now (bytes .entry))) (now (ring .entry)) .session)))
+    ensures { λ _. ⌜ (Left (now (bytes .entry)) (now (bytes .exit)) (drained bit (sessionOf (now (bytes .entry))) (now (ring .entry)) .session))
         × (now (ring .exit) ≡ drained bit (sessionOf (now (bytes .entry))) (now (ring .entry)) .ring) ⌝ }
 {
     let head = head_at(bytes);

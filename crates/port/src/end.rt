@@ -9,9 +9,9 @@ ghost use lib.Seq.{slice, sets};
 ghost use Rattle.session.specs.Session.{ringWords};
 ghost use Rattle.session.specs.Record.{isBadRecord};
 ghost use Rattle.session.specs.End.{withOutcome, ended, endedRing};
-ghost use Rattle.port.specs.Layout.{requestBytes, requestOf, layoutNumber, sessionOf, saved};
+ghost use Rattle.port.specs.Layout.{requestBytes, requestOf, layoutNumber, sessionOf, requestsIn};
 ghost use Rattle.port.specs.Parts.{endedHead};
-ghost use Rattle.port.specs.Places.{requestsOf, withRequests};
+ghost use Rattle.port.specs.Places.{requestsOf, withRequests, Left};
 use crate::entries::put_request;
 use crate::entries::put_tagged;
 use crate::entries::request_at;
@@ -37,10 +37,8 @@ pub(crate) fn put_outcome(bytes: &mut [u8], at: usize, outcome: IsoOutcome)
 
 // The outcome of the requests from `from` to `to`.
 fn fail_at(bytes: &mut [u8], from: u16, to: u16, outcome: IsoOutcome)
-    requires { ⌜ (8488 ≤ length (now bytes)) × (now bytes ≡ sets (now bytes) 0 (saved (sessionOf (now bytes)))) × (from ≤ to) × (to ≤ 64) ⌝ }
-    ensures { λ _. ⌜ now (bytes .exit)
-        ≡ sets (now (bytes .entry)) 0
-        (saved (withRequests (sessionOf (now (bytes .entry))) (sets (requestsOf (now (bytes .entry))) from (map (withOutcome outcome) (slice from to (requestsOf (now (bytes .entry)))))))) ⌝ }
+    requires { ⌜ (layoutNumber (now bytes) ≡ 0) × (from ≤ to) × (to ≤ requestsIn (sessionOf (now bytes))) ⌝ }
+    ensures { λ _. ⌜ Left (now (bytes .entry)) (now (bytes .exit)) (withRequests (sessionOf (now (bytes .entry))) (sets (requestsOf (now (bytes .entry))) from (map (withOutcome outcome) (slice from to (requestsOf (now (bytes .entry))))))) ⌝ }
 {
     let mut i = from;
     while i < to {
@@ -66,7 +64,7 @@ pub(crate) fn end_at(bytes: &mut [u8], outcome: IsoOutcome, ring: &mut [u32])
     requires { ⌜ (layoutNumber (now bytes) ≡ 0)
         × (isBadRecord (sessionOf (now bytes)) ≡ false)
         × (ringWords (sessionOf (now bytes) .cfg) ≤ length (now ring)) ⌝ }
-    ensures { λ _. ⌜ (now (bytes .exit) ≡ sets (now (bytes .entry)) 0 (saved (ended outcome (sessionOf (now (bytes .entry))))))
+    ensures { λ _. ⌜ (Left (now (bytes .entry)) (now (bytes .exit)) (ended outcome (sessionOf (now (bytes .entry)))))
         × (now (ring .exit) ≡ endedRing (sessionOf (now (bytes .entry))) (now (ring .entry))) ⌝ }
 {
     let words = ring_words(config_at(bytes));

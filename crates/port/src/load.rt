@@ -3,7 +3,8 @@ ghost use mathlib.Core.Path.{_≡_};
 ghost use Prim.Native.Nat.{_+_, _≤_};
 ghost use lib.ListN.{length, drop};
 ghost use Rattle.port.specs.Tags.{taggedOf, fatalOf};
-ghost use Rattle.port.specs.Layout.{configOf, headOf, anyOf, isBadRequestBytes, isBadPlanBytes, isBadMark, isBadHead, layoutNumber};
+ghost use Rattle.port.specs.Layout.{configOf, headOf, sessionOf, anyOf, isBadRequestBytes, isBadPlanBytes, isBadMark, isBadHead, requestsIn, plansIn, layoutNumber};
+use crate::drain::packets_before;
 use crate::entries::is_bad_plan_at;
 use crate::entries::is_bad_request_at;
 use crate::entries::tagged_at;
@@ -58,13 +59,36 @@ pub(crate) fn reason_at(bytes: &[u8]) -> IsoFatal
     fatal_of(tagged_at(bytes, 34))
 }
 
-fn any_bad_request(bytes: &[u8]) -> bool
+// The entries in use, as far as the tables go.
+fn requests_in(bytes: &[u8]) -> u16
     requires { ⌜ 8488 ≤ length (now bytes) ⌝ }
-    ensures { λ r. ⌜ r ≡ anyOf isBadRequestBytes 20 64 (drop 40 (now (bytes .entry))) ⌝ }
+    ensures { λ r. ⌜ r ≡ requestsIn (sessionOf (now (bytes .entry))) ⌝ }
+{
+    let count = u16_at(bytes, 32);
+    if count < 64 {
+        return count;
+    }
+    64
+}
+
+fn plans_in(bytes: &[u8]) -> usize
+    requires { ⌜ 8488 ≤ length (now bytes) ⌝ }
+    ensures { λ r. ⌜ r ≡ plansIn (sessionOf (now (bytes .entry))) ⌝ }
+{
+    let all = packets_before(bytes, requests_in(bytes));
+    if all < 1_024 {
+        return all;
+    }
+    1_024
+}
+
+fn any_bad_request(bytes: &[u8], n: u16) -> bool
+    requires { ⌜ (8488 ≤ length (now bytes)) × (n ≤ 64) ⌝ }
+    ensures { λ r. ⌜ r ≡ anyOf isBadRequestBytes 20 n (drop 40 (now (bytes .entry))) ⌝ }
 {
     let mut at: usize = 40;
-    let mut i: usize = 0;
-    while i < 64 {
+    let mut i: u16 = 0;
+    while i < n {
         if is_bad_outcome_at(bytes, at) {
             return true;
         }
@@ -85,18 +109,25 @@ fn is_bad_outcome_at(bytes: &[u8], at: usize) -> bool
     is_bad_request_at(bytes, at)
 }
 
-// Sixteen plans a turn: tests joined by `|` are one test for the compiler.
-fn any_bad_plan(bytes: &[u8]) -> bool
-    requires { ⌜ 8488 ≤ length (now bytes) ⌝ }
-    ensures { λ r. ⌜ r ≡ anyOf isBadPlanBytes 7 1024 (drop 1320 (now (bytes .entry))) ⌝ }
+// Eight plans a turn, then one: tests joined by `|` are one test for the compiler.
+fn any_bad_plan(bytes: &[u8], m: usize) -> bool
+    requires { ⌜ (8488 ≤ length (now bytes)) × (m ≤ 1024) ⌝ }
+    ensures { λ r. ⌜ r ≡ anyOf isBadPlanBytes 7 m (drop 1320 (now (bytes .entry))) ⌝ }
 {
     let mut at: usize = 1_320;
     let mut i: usize = 0;
-    while i < 64 {
-        if any_of_eight(bytes, at) | any_of_eight(bytes, at + 56) {
+    while i + 8 <= m {
+        if any_of_eight(bytes, at) {
             return true;
         }
-        at += 112;
+        at += 56;
+        i += 8;
+    }
+    while i < m {
+        if is_bad_plan_at(bytes, at) {
+            return true;
+        }
+        at += 7;
         i += 1;
     }
     false
@@ -148,7 +179,10 @@ pub(crate) fn layout_refusal(bytes: &[u8]) -> u16
     if bytes.len() < 8_488 {
         return 17;
     }
-    if is_bad_mark(bytes) | (is_bad_head(bytes) | (any_bad_request(bytes) | any_bad_plan(bytes))) {
+    if is_bad_mark(bytes) | is_bad_head(bytes) {
+        return 18;
+    }
+    if any_bad_request(bytes, requests_in(bytes)) | any_bad_plan(bytes, plans_in(bytes)) {
         return 18;
     }
     0

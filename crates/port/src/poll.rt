@@ -7,8 +7,9 @@ ghost use lib.Seq.{sets};
 ghost use Rattle.session.specs.Session.{ringWords};
 ghost use Rattle.session.specs.Record.{isBadRecord};
 ghost use Rattle.session.specs.Poll.{pollWay, withReason, polledBy, polledRingBy, polled, polledRing, recovered, recoveredRing};
-ghost use Rattle.port.specs.Layout.{layoutNumber, sessionOf, saved};
+ghost use Rattle.port.specs.Layout.{layoutNumber, sessionOf};
 ghost use Rattle.port.specs.Calls.{replyPort};
+ghost use Rattle.port.specs.Places.{Left};
 ghost use Rattle.port.specs.Parts.{lentNumber};
 use crate::answers::PortReply;
 use crate::answers::reply_port;
@@ -49,8 +50,7 @@ pub(crate) fn lent_refusal(bytes: &[u8], words: usize) -> u16
 pub(crate) fn recover_at(bytes: &mut [u8], ring: &mut [u32]) -> PortReply
     requires { ⌜ layoutNumber (now bytes) ≡ 0 ⌝ }
     ensures { λ r. ⌜ (r ≡ replyPort (recovered (sessionOf (now (bytes .entry))) (length (now (ring .entry)))))
-        × (now (bytes .exit)
-        ≡ sets (now (bytes .entry)) 0 (saved (recovered (sessionOf (now (bytes .entry))) (length (now (ring .entry))) .session)))
+        × (Left (now (bytes .entry)) (now (bytes .exit)) (recovered (sessionOf (now (bytes .entry))) (length (now (ring .entry))) .session))
         × (now (ring .exit) ≡ recoveredRing (sessionOf (now (bytes .entry))) (now (ring .entry))) ⌝ }
 {
     let refusal = lent_refusal(bytes, ring.len());
@@ -70,7 +70,7 @@ pub(crate) struct PollSaid {
 // The reason to end, which the halt is then awaited with.
 pub(crate) fn halt_at(bytes: &mut [u8], reason: IsoHaltReason)
     requires { ⌜ layoutNumber (now bytes) ≡ 0 ⌝ }
-    ensures { λ _. ⌜ now (bytes .exit) ≡ sets (now (bytes .entry)) 0 (saved (withReason reason (sessionOf (now (bytes .entry))))) ⌝ }
+    ensures { λ _. ⌜ Left (now (bytes .entry)) (now (bytes .exit)) (withReason reason (sessionOf (now (bytes .entry)))) ⌝ }
 {
     put_tagged(bytes, 34, fatal_tagged(IsoFatal::Reason(reason)));
 }
@@ -82,9 +82,7 @@ pub(crate) fn poll_at(bytes: &mut [u8], event: IsoEvent, ring: &mut [u32]) -> Po
         × (ringWords (sessionOf (now bytes) .cfg) ≤ length (now ring)) ⌝ }
     ensures { λ r. ⌜ (r .taken ≡ polledBy (pollWay (sessionOf (now (bytes .entry))) event) (sessionOf (now (bytes .entry))) (now (ring .entry)) .taken)
         × (r .halt ≡ polledBy (pollWay (sessionOf (now (bytes .entry))) event) (sessionOf (now (bytes .entry))) (now (ring .entry)) .halt)
-        × (now (bytes .exit)
-        ≡ sets (now (bytes .entry)) 0
-        (saved (polledBy (pollWay (sessionOf (now (bytes .entry))) event) (sessionOf (now (bytes .entry))) (now (ring .entry)) .session)))
+        × (Left (now (bytes .entry)) (now (bytes .exit)) (polledBy (pollWay (sessionOf (now (bytes .entry))) event) (sessionOf (now (bytes .entry))) (now (ring .entry)) .session))
         × (now (ring .exit)
         ≡ polledRingBy (pollWay (sessionOf (now (bytes .entry))) event) (sessionOf (now (bytes .entry))) (now (ring .entry))) ⌝ }
 {
@@ -118,8 +116,7 @@ fn said(taken: bool, halt: bool) -> PollSaid
 pub(crate) fn poll_on(bytes: &mut [u8], event: IsoEvent, ring: &mut [u32]) -> PortReply
     requires { ⌜ layoutNumber (now bytes) ≡ 0 ⌝ }
     ensures { λ r. ⌜ (r ≡ replyPort (polled (sessionOf (now (bytes .entry))) event (now (ring .entry))))
-        × (now (bytes .exit)
-        ≡ sets (now (bytes .entry)) 0 (saved (polled (sessionOf (now (bytes .entry))) event (now (ring .entry)) .session)))
+        × (Left (now (bytes .entry)) (now (bytes .exit)) (polled (sessionOf (now (bytes .entry))) event (now (ring .entry)) .session))
         × (now (ring .exit) ≡ polledRing (sessionOf (now (bytes .entry))) event (now (ring .entry))) ⌝ }
 {
     let refusal = lent_refusal(bytes, ring.len());

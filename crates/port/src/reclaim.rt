@@ -8,9 +8,9 @@ ghost use lib.Seq.{slice, sets};
 ghost use Rattle.session.specs.Session.{blankRequest, ringWords};
 ghost use Rattle.session.specs.Record.{isBadRecord};
 ghost use Rattle.session.specs.Reclaim.{resultWord, looked, lookedRing, plansBegin, plansEnd, closedUp, oneLess, removed, handedAnswer, handedResults, reclaimReply, lookedAgain, lookedResults, reclaimed, reclaimedRing, reclaimedResults};
-ghost use Rattle.port.specs.Layout.{layoutNumber, sessionOf, saved};
+ghost use Rattle.port.specs.Layout.{layoutNumber, sessionOf, requestsIn, plansIn};
 ghost use Rattle.port.specs.Calls.{reclaimedPort};
-ghost use Rattle.port.specs.Places.{requestsOf, plansOf, withRequests, withPlans, Acted};
+ghost use Rattle.port.specs.Places.{requestsOf, plansOf, withRequests, withPlans, Left, Acted};
 use crate::answers::PortReclaimed;
 use crate::answers::reclaim_port;
 use crate::answers::reclaim_refused;
@@ -37,9 +37,8 @@ use session::ring_words;
 
 // The entries from `from` to `to` move down to `into`; so for requests and for plans.
 fn close_requests_at(bytes: &mut [u8], into: usize, from: usize, to: usize)
-    requires { ⌜ (layoutNumber (now bytes) ≡ 0) × (into ≤ from) × (to ≤ 64) ⌝ }
-    ensures { λ _. ⌜ now (bytes .exit)
-        ≡ sets (now (bytes .entry)) 0 (saved (withRequests (sessionOf (now (bytes .entry))) (closedUp into from to (requestsOf (now (bytes .entry)))))) ⌝ }
+    requires { ⌜ (layoutNumber (now bytes) ≡ 0) × (into ≤ from) × (to ≤ requestsIn (sessionOf (now bytes))) ⌝ }
+    ensures { λ _. ⌜ Left (now (bytes .entry)) (now (bytes .exit)) (withRequests (sessionOf (now (bytes .entry))) (closedUp into from to (requestsOf (now (bytes .entry))))) ⌝ }
 {
     let mut at = into;
     let mut i = from;
@@ -52,9 +51,8 @@ fn close_requests_at(bytes: &mut [u8], into: usize, from: usize, to: usize)
 }
 
 fn close_plans_at(bytes: &mut [u8], into: usize, from: usize, to: usize)
-    requires { ⌜ (layoutNumber (now bytes) ≡ 0) × (into ≤ from) × (to ≤ 1024) ⌝ }
-    ensures { λ _. ⌜ now (bytes .exit)
-        ≡ sets (now (bytes .entry)) 0 (saved (withPlans (sessionOf (now (bytes .entry))) (closedUp into from to (plansOf (now (bytes .entry)))))) ⌝ }
+    requires { ⌜ (layoutNumber (now bytes) ≡ 0) × (into ≤ from) × (to ≤ plansIn (sessionOf (now bytes))) ⌝ }
+    ensures { λ _. ⌜ Left (now (bytes .entry)) (now (bytes .exit)) (withPlans (sessionOf (now (bytes .entry))) (closedUp into from to (plansOf (now (bytes .entry))))) ⌝ }
 {
     let mut at = into;
     let mut i = from;
@@ -80,21 +78,21 @@ fn one_less(head: IsoHead) -> IsoHead
     }
 }
 
-// Takes out the request at `at` and its plans, which are those from `from` to `to`.
+// Takes out the request at `at` and its plans, which are those from `from` to `to`: plans first, while the requests still tell how many are in use.
 fn remove_at(bytes: &mut [u8], at: u16, from: usize, to: usize)
     requires { ⌜ (layoutNumber (now bytes) ≡ 0)
         × (isBadRecord (sessionOf (now bytes)) ≡ false)
         × (at < sessionOf (now bytes) .head .done)
         × (from ≡ plansBegin at (sessionOf (now bytes)))
         × (to ≡ plansEnd at (sessionOf (now bytes))) ⌝ }
-    ensures { λ _. ⌜ now (bytes .exit) ≡ sets (now (bytes .entry)) 0 (saved (removed at (sessionOf (now (bytes .entry))))) ⌝ }
+    ensures { λ _. ⌜ Left (now (bytes .entry)) (now (bytes .exit)) (removed at (sessionOf (now (bytes .entry)))) ⌝ }
 {
     let head = head_at(bytes);
     let count = head.count;
     let place = at as usize;
     let all = packets_before(bytes, count);
-    close_requests_at(bytes, place, place + 1, count as usize);
     close_plans_at(bytes, from, to, all);
+    close_requests_at(bytes, place, place + 1, count as usize);
     put_head(bytes, one_less(head));
 }
 
@@ -123,7 +121,7 @@ fn hand_out_at(bytes: &mut [u8], at: u16, results: &mut [u64]) -> ReclaimAnswer
         × (at < sessionOf (now bytes) .head .done)
         × (255 ≤ length (now results)) ⌝ }
     ensures { λ r. ⌜ (r ≡ handedAnswer (getD (requestsOf (now (bytes .entry))) at blankRequest))
-        × (now (bytes .exit) ≡ sets (now (bytes .entry)) 0 (saved (removed at (sessionOf (now (bytes .entry))))))
+        × (Left (now (bytes .entry)) (now (bytes .exit)) (removed at (sessionOf (now (bytes .entry)))))
         × (now (results .exit) ≡ handedResults at (sessionOf (now (bytes .entry))) (now (results .entry))) ⌝ }
 {
     let place = at as usize;
@@ -142,7 +140,7 @@ fn look_again_at(bytes: &mut [u8], id: u64, results: &mut [u64]) -> ReclaimAnswe
     ensures { λ r. ⌜ ((taken halt : Bool)
         → reclaimReply r taken halt (sessionOf (now (bytes .exit)))
         ≡ lookedAgain id taken halt (sessionOf (now (bytes .entry))))
-        × (now (bytes .exit) ≡ sets (now (bytes .entry)) 0 (saved (sessionOf (now (bytes .exit)))))
+        × (Left (now (bytes .entry)) (now (bytes .exit)) (sessionOf (now (bytes .exit))))
         × (now (results .exit) ≡ lookedResults id (sessionOf (now (bytes .entry))) (now (results .entry))) ⌝ }
 {
     let head = head_at(bytes);
@@ -185,9 +183,7 @@ pub(crate) fn reclaim_at(
 ) -> PortReclaimed
     requires { ⌜ layoutNumber (now bytes) ≡ 0 ⌝ }
     ensures { λ r. ⌜ (r ≡ reclaimedPort (reclaimed (sessionOf (now (bytes .entry))) id event (now (ring .entry)) (length (now (results .entry)))))
-        × (now (bytes .exit)
-        ≡ sets (now (bytes .entry)) 0
-        (saved (reclaimed (sessionOf (now (bytes .entry))) id event (now (ring .entry)) (length (now (results .entry))) .session)))
+        × (Left (now (bytes .entry)) (now (bytes .exit)) (reclaimed (sessionOf (now (bytes .entry))) id event (now (ring .entry)) (length (now (results .entry))) .session))
         × (now (ring .exit) ≡ reclaimedRing (sessionOf (now (bytes .entry))) id event (now (ring .entry)) (length (now (results .entry))))
         × (now (results .exit) ≡ reclaimedResults (sessionOf (now (bytes .entry))) id event (now (ring .entry)) (now (results .entry))) ⌝ }
 {

@@ -2,8 +2,9 @@
 ghost use mathlib.Core.Path.{_≡_};
 ghost use lib.Seq.{sets};
 ghost use Rattle.session.specs.Poll.{resetReply};
-ghost use Rattle.port.specs.Layout.{layoutNumber, sessionOf, saved};
+ghost use Rattle.port.specs.Layout.{layoutNumber, sessionOf};
 ghost use Rattle.port.specs.Calls.{replyPort};
+ghost use Rattle.port.specs.Places.{Left};
 use crate::answers::PortReply;
 use crate::answers::reply_port;
 use crate::answers::reply_refused;
@@ -17,7 +18,7 @@ use session::has_reason;
 pub(crate) fn reset_at(bytes: &mut [u8]) -> PortReply
     requires { ⌜ layoutNumber (now bytes) ≡ 0 ⌝ }
     ensures { λ r. ⌜ (r ≡ replyPort (resetReply (sessionOf (now (bytes .entry)))))
-        × (now (bytes .exit) ≡ sets (now (bytes .entry)) 0 (saved (resetReply (sessionOf (now (bytes .entry))) .session))) ⌝ }
+        × (Left (now (bytes .entry)) (now (bytes .exit)) (resetReply (sessionOf (now (bytes .entry))) .session)) ⌝ }
 {
     let scan = scan_at(bytes);
     if scan.bad {

@@ -7,9 +7,9 @@ ghost use lib.Seq.{sets};
 ghost use Rattle.session.specs.Place.{plansFrom};
 ghost use Rattle.session.specs.Submit.{submitted, submittedRing};
 ghost use Rattle.session.specs.Parts.{Fitting};
-ghost use Rattle.port.specs.Layout.{planBytes, tableBytes, layoutNumber, sessionOf, saved};
-ghost use Rattle.port.specs.Calls.{submittedPort};
-ghost use Rattle.port.specs.Submit.{grown};
+ghost use Rattle.port.specs.Layout.{planBytes, tableBytes, layoutNumber, sessionOf};
+ghost use Rattle.port.specs.Calls.{submittedPort, grownBytes};
+ghost use Rattle.port.specs.Submit.{Grown};
 use crate::answers::PortSubmitted;
 use crate::answers::submit_port;
 use crate::entries::put_plan;
@@ -67,8 +67,9 @@ fn put_added(bytes: &mut [u8], head: IsoHead, parts: SubmitParts, lengths: &[u32
     requires { ⌜ (layoutNumber (now bytes) ≡ 0)
         × (head ≡ sessionOf (now bytes) .head)
         × (0 < parts .slots)
-        × (0 < parts .added → Fitting (sessionOf (now bytes)) parts (now lengths)) ⌝ }
-    ensures { λ _. ⌜ now (bytes .exit) ≡ sets (now (bytes .entry)) 0 (saved (grown (sessionOf (now (bytes .entry))) parts (now (lengths .entry)))) ⌝ }
+        × (0 < parts .added → Fitting (sessionOf (now bytes)) parts (now lengths))
+        × (parts .added ≡ 0 → parts .head .count ≡ sessionOf (now bytes) .head .count) ⌝ }
+    ensures { λ _. ⌜ Grown (now (bytes .entry)) (now (bytes .exit)) parts (now (lengths .entry)) ⌝ }
 {
     let n = parts.added;
     if n == 0 {
@@ -89,7 +90,7 @@ pub(crate) fn submit_at(
     requires { ⌜ layoutNumber (now bytes) ≡ 0 ⌝ }
     ensures { λ r. ⌜ (r ≡ submittedPort (submitted (sessionOf (now (bytes .entry))) transfer (now (lengths .entry)) (now (ring .entry))))
         × (now (bytes .exit)
-        ≡ sets (now (bytes .entry)) 0 (saved (submitted (sessionOf (now (bytes .entry))) transfer (now (lengths .entry)) (now (ring .entry)) .session)))
+        ≡ grownBytes (now (bytes .entry)) (submitted (sessionOf (now (bytes .entry))) transfer (now (lengths .entry)) (now (ring .entry)) .session))
         × (now (ring .exit) ≡ submittedRing (sessionOf (now (bytes .entry))) transfer (now (lengths .entry)) (now (ring .entry))) ⌝ }
 {
     let cfg = config_at(bytes);

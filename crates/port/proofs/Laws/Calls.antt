@@ -6,12 +6,11 @@ use Prim.Native.Nat.{ℕ, _≤_}
 use native.Mathlib.Omega.{arith}
 use lib.Dec.{eqb, ltb}
 use lib.ListN.{length}
-use lib.Seq.{sets}
 use borrow.Author.Tests.{eq-eqb, ne-eqb, ltb-false}
 use Rattle.session.specs.declared.reply.IsoReply.{IsoReply}
 use Rattle.session.specs.declared.types.IsoChannelState.{IsoChannelState}
 use Rattle.port.specs.declared.answers.PortReply.{PortReply}
-use Rattle.port.specs.Layout.{isBadLayout, layoutNumber, sessionOf, saved}
+use Rattle.port.specs.Layout.{isBadLayout, layoutNumber, sessionOf, leftBytes}
 use Rattle.port.specs.Calls.{byBytes, bytesBy, replyBy, replyPort, replyRefused}
 
 -- bytes that are not refused are long enough
@@ -44,15 +43,15 @@ module _ (xs : List ℕ) (call : IsoChannelState → IsoReply) where
       → (r ≡ replyBy xs call) × (xs ≡ bytesBy xs (λ (s : IsoChannelState). call s .session))
   reply-refused e z g = (
     g ∙ refused xs replyRefused (λ (s : IsoChannelState). replyPort (call s)) e z,
-    refused xs (λ (n : ℕ). xs) (λ (s : IsoChannelState). sets xs 0 (saved (call s .session))) e z,
+    refused xs (λ (n : ℕ). xs) (λ (s : IsoChannelState). leftBytes xs (call s .session)) e z,
   )
 
   pub reply-done :
       {n : ℕ} {s : IsoChannelState} {r : IsoReply} {p : PortReply} {after : List ℕ} → n ≡ layoutNumber xs → n ≡ 0 → s ≡ sessionOf xs → r ≡ call s
       → p ≡ replyPort r
-      → after ≡ sets xs 0 (saved (r .session))
+      → after ≡ leftBytes xs (r .session)
       → (p ≡ replyBy xs call) × (after ≡ bytesBy xs (λ (t : IsoChannelState). call t .session))
   reply-done e z l g p b = (
     p ∙ done xs replyRefused call replyPort e z l g,
-    b ∙ done xs (λ (n : ℕ). xs) call (λ (r : IsoReply). sets xs 0 (saved (r .session))) e z l g,
+    b ∙ done xs (λ (n : ℕ). xs) call (λ (r : IsoReply). leftBytes xs (r .session)) e z l g,
   )

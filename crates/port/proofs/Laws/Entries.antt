@@ -1,13 +1,13 @@
 -- One entry of a table: what the code reads field by field is the entry that the rest begins with, and what it writes field by field is the
 -- entry's bytes.
-use mathlib.Core.Path.{_≡_, refl, _∙_, sym, ap}
+use mathlib.Core.Path.{_≡_, refl, _∙_, sym, ap, ap₂}
 use mathlib.Core.Bool.{Bool, false}
 use mathlib.Core.List.{List, [], _∷_, _++_}
-use Prim.Native.Nat.{ℕ, _+_, _*_, _<_}
+use Prim.Native.Nat.{ℕ, _+_, _*_, _≤_, _<_}
 use native.Mathlib.Omega.{arith}
 use lib.Dec.{ltb}
-use lib.ListN.{length, getD, drop}
-use lib.Seq.{sets, getD-drop, drop-drop}
+use lib.ListN.{length, getD, take, drop}
+use lib.Seq.{sets, getD-drop, getD-take, drop-drop}
 use Rattle.session.specs.declared.types.IsoOutcome.{IsoOutcome}
 use Rattle.session.specs.declared.types.TransferStatus.{TransferStatus}
 use Rattle.session.specs.declared.types.IsoRequest.{IsoRequest}
@@ -163,3 +163,57 @@ no-outcome xs at h =
     none-bad (byteOf (drop 2 ys)) (byteOf (drop 1 (drop 2 ys))) (u32Of (drop 2 (drop 2 ys))) (none .0) (none .1)
     (ap u32Of (drop-drop 2 2 ys) ∙ none .2)
     ∙ sym (ap (λ (l : List ℕ). isBadTagged 3 4 (tagged (byteOf l) (byteOf (drop 1 l)) (u32Of (drop 2 l)))) place)
+
+-- ---- no entry reads further than its width
+
+module _ (n : ℕ) (xs : List ℕ) where
+  get-within : (a i : ℕ) → a + i < n → getD (drop a (take n xs)) i 0 ≡ getD (drop a xs) i 0
+  get-within a i h = getD-drop a (take n xs) i 0 ∙ getD-take n xs (a + i) 0 h ∙ sym (getD-drop a xs i 0)
+
+  byte-within : (a : ℕ) → a + 1 ≤ n → byteOf (drop a (take n xs)) ≡ byteOf (drop a xs)
+  unfolding byteOf
+  byte-within a h = get-within a 0 (omega arith)
+
+  u16-within : (a : ℕ) → a + 2 ≤ n → u16Of (drop a (take n xs)) ≡ u16Of (drop a xs)
+  unfolding u16Of
+  u16-within a h = ap₂ (λ (x y : ℕ). x + 256 * y) (get-within a 0 (omega arith)) (get-within a 1 (omega arith))
+
+  u32-within : (a : ℕ) → a + 4 ≤ n → u32Of (drop a (take n xs)) ≡ u32Of (drop a xs)
+  unfolding u32Of
+  u32-within a h =
+      ap₂ (λ (x y : ℕ). x + 65536 * y) (u16-within a (omega arith))
+      (sym (field u16Of 2 a (take n xs)) ∙ u16-within (a + 2) (omega arith) ∙ field u16Of 2 a xs)
+
+  u64-within : (a : ℕ) → a + 8 ≤ n → u64Of (drop a (take n xs)) ≡ u64Of (drop a xs)
+  unfolding u64Of
+  u64-within a h =
+      ap₂ (λ (x y : ℕ). x + 4294967296 * y) (u32-within a (omega arith))
+      (sym (field u32Of 4 a (take n xs)) ∙ u32-within (a + 4) (omega arith) ∙ field u32Of 4 a xs)
+
+  tagged-within : (a : ℕ) → a + 6 ≤ n → taggedOf (drop a (take n xs)) ≡ taggedOf (drop a xs)
+  tagged-within a h =
+      sym (tagged-at (take n xs) a (byteOf (drop a xs)) (byteOf (drop (a + 1) xs)) (u32Of (drop (a + 2) xs)) (sym (byte-within a (omega arith)))
+      (sym (byte-within (a + 1) (omega arith))) (sym (u32-within (a + 2) (omega arith))))
+      ∙ tagged-at xs a (byteOf (drop a xs)) (byteOf (drop (a + 1) xs)) (u32Of (drop (a + 2) xs)) refl refl refl
+
+pub request-within : (xs : List ℕ) → requestOf (take 20 xs) ≡ requestOf xs
+request-within xs =
+    let t : Tagged = taggedOf (drop 14 xs) in
+    sym (request-at (take 20 xs) 0 (u64Of xs) (u16Of (drop 12 xs)) (u32Of (drop 8 xs)) t (outcomeOf t) (sym (u64-within 20 xs 0 (omega arith)))
+    (sym (u16-within 20 xs 12 (omega arith))) (sym (u32-within 20 xs 8 (omega arith))) (sym (tagged-within 20 xs 14 (omega arith))) refl)
+    ∙ request-at xs 0 (u64Of xs) (u16Of (drop 12 xs)) (u32Of (drop 8 xs)) t (outcomeOf t) refl refl refl refl refl
+
+pub bad-request-within : (xs : List ℕ) → isBadRequestBytes (take 20 xs) ≡ isBadRequestBytes xs
+unfolding isBadRequestBytes
+bad-request-within xs = ap (isBadTagged 3 4) (tagged-within 20 xs 14 (omega arith))
+
+pub plan-within : (xs : List ℕ) → planOf (take 7 xs) ≡ planOf xs
+plan-within xs =
+    let tag : ℕ = byteOf (drop 6 xs) in
+    sym (plan-at (take 7 xs) 0 (u16Of xs) (u16Of (drop 2 xs)) (u16Of (drop 4 xs)) tag (statusOf tag) (sym (u16-within 7 xs 0 (omega arith)))
+    (sym (u16-within 7 xs 2 (omega arith))) (sym (u16-within 7 xs 4 (omega arith))) (sym (byte-within 7 xs 6 (omega arith))) refl)
+    ∙ plan-at xs 0 (u16Of xs) (u16Of (drop 2 xs)) (u16Of (drop 4 xs)) tag (statusOf tag) refl refl refl refl refl
+
+pub bad-plan-within : (xs : List ℕ) → isBadPlanBytes (take 7 xs) ≡ isBadPlanBytes xs
+unfolding isBadPlanBytes
+bad-plan-within xs = ap (ltb 1) (byte-within 7 xs 6 (omega arith))

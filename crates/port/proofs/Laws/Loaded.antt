@@ -3,8 +3,10 @@ use mathlib.Core.Path.{_≡_, _∙_, sym, ap}
 use mathlib.Core.Bool.{Bool, true, false, _||_, cond}
 use mathlib.Core.List.{List}
 use Prim.Native.Nat.{ℕ, _≤_, _<_}
+use native.Mathlib.Omega.{arith}
 use lib.ListN.{length, drop}
 use borrow.Author.Tests.{lt-ltb, le-ltb}
+use Rattle.words.proofs.Laws.Tests.{neither}
 use Rattle.session.specs.declared.types.IsoConfig.{IsoConfig}
 use Rattle.session.specs.declared.types.IsoHead.{IsoHead}
 use Rattle.session.specs.declared.types.IsoFatal.{IsoFatal}
@@ -14,7 +16,7 @@ use Rattle.session.specs.Scan.{whole}
 use Rattle.port.specs.declared.tags.Tagged.{Tagged}
 use Rattle.port.specs.Tags.{taggedOf, fatalOf}
 use Rattle.port.specs.Layout.{configOf, headOf, requestOf, planOf, tableOf, anyOf}
-use Rattle.port.specs.Layout.{isBadMark, isBadHead, isBadRequestBytes, isBadPlanBytes, isBadLayout, layoutNumber, sessionOf}
+use Rattle.port.specs.Layout.{isBadMark, isBadHead, isBadRequestBytes, isBadPlanBytes, isBadLayout, layoutNumber, sessionOf, requestsIn, plansIn}
 
 pub session-at :
     (xs : List ℕ) {cfg : IsoConfig} {head : IsoHead} {fatal : IsoFatal} {t : Tagged} {requests : List IsoRequest} {plans : List IsoPacketPlan}
@@ -34,30 +36,26 @@ short-layout xs h = sym (ap (λ (b : Bool). cond b 17 (cond (isBadLayout xs) 18 
 number-by : {short bad b : Bool} → short ≡ false → bad ≡ b → _≡_ {A = ℕ} (cond b 18 0) (cond short 17 (cond bad 18 0))
 number-by {bad = bad} p q = sym (ap (λ (x : Bool). cond x 17 (cond bad 18 0)) p ∙ ap (λ (x : Bool). cond x 18 0) q)
 
--- the tests of the four parts, as the code puts them together
-layout-by :
-    (xs : List ℕ) {m h r p : Bool} (b : Bool) → 8488 ≤ length xs → m ≡ isBadMark xs → h ≡ isBadHead xs
-    → r ≡ anyOf isBadRequestBytes 20 64 (drop 40 xs)
-    → p ≡ anyOf isBadPlanBytes 7 1024 (drop 1320 xs)
-    → (m || (h || (r || p))) ≡ b
-    → cond b 18 0 ≡ layoutNumber xs
-unfolding isBadLayout
-layout-by xs b long em eh er ep e =
-    let all : isBadLayout xs ≡ b = rw (← em, ← eh, ← er, ← ep) e in
-    number-by (le-ltb (length xs) 8488 long) all
+-- the tests in the code's order: what stands before the tables, then the entries in use
+module _ (xs : List ℕ) {m h : Bool} (long : 8488 ≤ length xs) (em : m ≡ isBadMark xs) (eh : h ≡ isBadHead xs) where
+  pub bad-front : (m || h) ≡ true → 18 ≡ layoutNumber xs
+  unfolding isBadLayout
+  bad-front e = number-by (le-ltb (length xs) 8488 long) (rw (← em, ← eh) (go m h _ e))
+    where
+      go : (a b c : Bool) → (a || b) ≡ true → (a || (b || c)) ≡ true
+      go true b c p = p
+      go false true c p = p
+      go false false c p = let z : _≡_ {A = ℕ} 0 1 = ap (λ (x : Bool). cond x 1 0) p in absurd (omega arith)
 
-pub bad-layout :
-    (xs : List ℕ) {m h r p : Bool} → 8488 ≤ length xs → m ≡ isBadMark xs → h ≡ isBadHead xs
-    → r ≡ anyOf isBadRequestBytes 20 64 (drop 40 xs)
-    → p ≡ anyOf isBadPlanBytes 7 1024 (drop 1320 xs)
-    → (m || (h || (r || p))) ≡ true
-    → 18 ≡ layoutNumber xs
-bad-layout xs = layout-by xs true
-
-pub good-layout :
-    (xs : List ℕ) {m h r p : Bool} → 8488 ≤ length xs → m ≡ isBadMark xs → h ≡ isBadHead xs
-    → r ≡ anyOf isBadRequestBytes 20 64 (drop 40 xs)
-    → p ≡ anyOf isBadPlanBytes 7 1024 (drop 1320 xs)
-    → (m || (h || (r || p))) ≡ false
-    → 0 ≡ layoutNumber xs
-good-layout xs = layout-by xs false
+  pub layout-by :
+      {r p : Bool} (b : Bool) → (m || h) ≡ false → r ≡ anyOf isBadRequestBytes 20 (requestsIn (sessionOf xs)) (drop 40 xs)
+      → p ≡ anyOf isBadPlanBytes 7 (plansIn (sessionOf xs)) (drop 1320 xs)
+      → (r || p) ≡ b
+      → cond b 18 0 ≡ layoutNumber xs
+  unfolding isBadLayout
+  layout-by b good er ep e =
+      let two = neither m h good in
+      let mark : isBadMark xs ≡ false = sym em ∙ two .0 in
+      let head : isBadHead xs ≡ false = sym eh ∙ two .1 in
+      let all : isBadLayout xs ≡ b = rw (mark, head, ← er, ← ep) e in
+      number-by (le-ltb (length xs) 8488 long) all

@@ -9,14 +9,10 @@ use Rattle.session.specs.declared.types.IsoChannelState.{IsoChannelState}
 use Rattle.port.specs.declared.tags.Tagged.{Tagged}
 use Rattle.port.specs.Bytes.{u16Bytes, u32Bytes, u64Bytes}
 use Rattle.port.specs.Tags.{taggedBytes, fatalTagged}
-use Rattle.port.specs.Layout.{markBytes, configBytes, headBytes, requestBytes, planBytes, tableBytes, saved}
+use Rattle.port.specs.Layout.{markBytes, configBytes, headBytes, requestBytes, planBytes, tableBytes, front, saved}
 use Rattle.port.proofs.Laws.Runs.{then}
 use Rattle.port.proofs.Laws.Entries.{length-request}
 use Rattle.port.proofs.Laws.Tables.{length-bytes}
-
--- what stands before the tables
-unfoldable pub front : IsoChannelState → List ℕ
-front s = markBytes ++ configBytes (s .cfg) ++ headBytes (s .head) ++ taggedBytes (fatalTagged (s .fatal))
 
 pub length-front : (s : IsoChannelState) → length (front s) ≡ 40
 unfolding front markBytes configBytes headBytes taggedBytes u64Bytes u32Bytes u16Bytes

@@ -8,6 +8,7 @@ use native.Mathlib.Numerals.{add-one}
 use native.Mathlib.Omega.{arith}
 use lib.ListN.{length, getD, drop, length-append, drop-of-length-le}
 use lib.Seq.{sets, drop-drop, drop-cons, drop-at}
+use Rattle.words.proofs.Laws.Tests.{neither}
 use Rattle.port.specs.Layout.{tableBytes, tableOf, anyOf}
 use Rattle.port.proofs.Laws.Runs.{sets-append}
 
@@ -88,6 +89,27 @@ module _ (bad : List ℕ → Bool) (w : ℕ) where
   pub any-end : (n i : ℕ) (xs : List ℕ) → n ≤ i → false ≡ anyOf bad w (n - i) xs
   unfolding anyOf
   any-end n i xs h = let none : n - i ≡ 0 = omega arith in sym (ap (λ (k : ℕ). anyOf bad w k xs) none)
+
+  -- where none of some is bad, none of fewer is, and each is not
+  pub any-less : (n m : ℕ) (xs : List ℕ) → m ≤ n → anyOf bad w n xs ≡ false → anyOf bad w m xs ≡ false
+  unfolding anyOf
+  any-less n zero xs h e = refl
+  any-less zero (suc m) xs h e = absurd (omega arith)
+  any-less (suc n) (suc m) xs h e =
+      let clear = neither (bad xs) (anyOf bad w n (drop w xs)) e in
+      ap₂ (λ (x y : Bool). x || y) (clear .0) (any-less n m (drop w xs) (omega arith) (clear .1))
+
+  pub any-clear : (n i : ℕ) (xs : List ℕ) → i < n → anyOf bad w n xs ≡ false → bad (drop (w * i) xs) ≡ false
+  unfolding anyOf
+  any-clear zero i xs h e = absurd (omega arith)
+  any-clear (suc n) zero xs h e =
+      let none : w * 0 ≡ 0 = omega arith in
+      ap (λ (k : ℕ). bad (drop k xs)) none ∙ neither (bad xs) (anyOf bad w n (drop w xs)) e .0
+  any-clear (suc n) (suc i) xs h e =
+      let on : w * suc i ≡ w + w * i = omega arith in
+      ap (λ (k : ℕ). bad (drop k xs)) on
+      ∙ ap bad (sym (drop-drop (w * i) w xs))
+      ∙ any-clear n i (drop w xs) (omega arith) (neither (bad xs) (anyOf bad w n (drop w xs)) e .1)
 
 -- ---- writing
 
