@@ -1,6 +1,6 @@
 -- A session in its bytes, worked on in place: what one part written, an entry, the head or the reason, leaves in the place of the bytes at the
 -- beginning. Bytes of entries that are not in the layout stay, so an entry may be written only where it was tested, or behind those written.
-use mathlib.Core.Path.{_≡_, refl, _∙_, sym, ap, ap₂}
+use mathlib.Core.Path.{_≡_, refl, _∙_, sym, ap, ap₂, subst}
 use mathlib.Core.Bool.{false}
 use mathlib.Core.List.{List, [], _∷_, _++_, append-assoc}
 use Prim.Native.Nat.{ℕ, suc, _+_, _*_, _≤_, _<_}
@@ -333,6 +333,9 @@ module _ {n m : ℕ} {xs now next : List ℕ} {s : IsoChannelState} (long : 8488
   next-plan p h e = plan-kept-by long k m (suc m) p h e (plan-next xs s long (many-requests long k) (many-plans long k) n m p h)
 
 -- ---- bytes over bytes
+
+pub left-is : {n m : ℕ} {xs ys : List ℕ} {s t : IsoChannelState} → Kept n m xs ys s → s ≡ t → Kept n m xs ys t
+left-is {n} {m} {xs} {ys} k e = subst (Kept n m xs ys) e k
 
 pub left-over : {xs ys zs : List ℕ} {s t : IsoChannelState} → 8488 ≤ length xs → Left xs ys s → Left ys zs t → Left xs zs t
 left-over {xs} {ys} {zs} {s} {t} long k l =

@@ -40,7 +40,9 @@ number-by {bad = bad} p q = sym (ap (λ (x : Bool). cond x 17 (cond bad 18 0)) p
 module _ (xs : List ℕ) {m h : Bool} (long : 8488 ≤ length xs) (em : m ≡ isBadMark xs) (eh : h ≡ isBadHead xs) where
   pub bad-front : (m || h) ≡ true → 18 ≡ layoutNumber xs
   unfolding isBadLayout
-  bad-front e = number-by (le-ltb (length xs) 8488 long) (rw (← em, ← eh) (go m h _ e))
+  bad-front e =
+      let all : isBadLayout xs ≡ true = rw (← em, ← eh) (go m h _ e) in
+      number-by (le-ltb (length xs) 8488 long) all
     where
       go : (a b c : Bool) → (a || b) ≡ true → (a || (b || c)) ≡ true
       go true b c p = p

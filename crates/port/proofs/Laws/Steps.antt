@@ -4,10 +4,11 @@ use mathlib.Core.Path.{_≡_, refl, _∙_, sym, ap, ap₂}
 use mathlib.Core.Bool.{Bool, true, false, cond}
 use mathlib.Core.List.{List, map}
 use Prim.Native.Nat.{ℕ, _+_, _*_, _≤_, _<_}
+use native.Mathlib.Nat.{le-trans, lt-of-lt-of-le, min-le-right}
 use native.Mathlib.Omega.{arith}
 use lib.Dec.{ltb}
 use lib.ListN.{length, getD, drop, set}
-use lib.Seq.{slice, sets, length-sets}
+use lib.Seq.{slice, sets}
 use Rattle.session.specs.declared.reply.IsoReply.{IsoReply}
 use Rattle.session.specs.declared.types.IsoFatal.{IsoFatal}
 use Rattle.session.specs.declared.types.IsoFatal.the-variants.{Nothing}
@@ -23,81 +24,78 @@ use Rattle.session.specs.declared.reply.PollWay.{PollWay}
 use Rattle.session.specs.declared.reply.PollWay.the-variants as way
 use Rattle.session.specs.Numbers.{answerNumber}
 use Rattle.session.specs.Poll.{polledBy, polledRingBy}
-use Rattle.session.specs.End.{withOutcome, endedRequests, ended}
+use Rattle.session.specs.End.{withOutcome, ended}
 use Rattle.session.proofs.Laws.Lists.{amend-next}
 use Rattle.session.specs.Scan.{whole}
 use Rattle.port.specs.declared.answers.PortReply.{PortReply}
 use Rattle.port.specs.declared.tags.Tagged.{Tagged}
 use Rattle.port.specs.Tags.{flagTag, taggedBytes, fatalTagged}
-use Rattle.port.specs.Layout.{headBytes, requestBytes, requestOf, layoutNumber, saved, sessionOf}
+use Rattle.port.specs.Layout.{headBytes, requestBytes, requestOf, layoutNumber, sessionOf, requestsIn}
 use Rattle.port.specs.Calls.{portReply, replyPort}
 use Rattle.port.specs.Parts.{endedHead, lentNumber}
-use Rattle.port.specs.Places.{requestsOf, withRequests}
-use Rattle.port.proofs.Canonical.{loaded-saved}
+use Rattle.port.specs.Places.{requestsOf, withRequests, Left}
+use Rattle.port.proofs.Canonical.{loaded-left, request-clear}
 use Rattle.port.proofs.Laws.Calls.{long-enough}
 use Rattle.port.proofs.Laws.Kept.{Octets}
-use Rattle.port.proofs.Laws.Placed.{request-there, request-put, head-put, reason-put, requests-many, plans-many}
+use Rattle.port.proofs.Laws.Left.{left-is, left-request, kept-head, kept-reason}
+use Rattle.port.proofs.Laws.Placed.{request-there, requests-many}
 use Rattle.port.proofs.Laws.Walks.{request-turn}
 
--- ---- bytes of the layout
+-- ---- bytes of the layout, and one store
 
 module _ (xs : List ℕ) (octets : Octets xs) (z : layoutNumber xs ≡ 0) where
   pub long : 8488 ≤ length xs
   long = long-enough xs refl z
 
-  pub same-bytes : xs ≡ sets xs 0 (saved (sessionOf xs))
-  same-bytes = sym (loaded-saved xs octets z)
+  pub same-bytes : Left xs xs (sessionOf xs)
+  same-bytes = loaded-left xs z octets
 
   pub head-here :
-      (h : IsoHead)
-      → sets xs 15 (headBytes h)
-      ≡ sets xs 0 (saved (whole (sessionOf xs .cfg) h (sessionOf xs .fatal) (sessionOf xs .requests) (sessionOf xs .plans)))
-  head-here h =
-      ap (λ (m : List ℕ). sets m 15 (headBytes h)) same-bytes ∙ head-put xs (sessionOf xs) long (requests-many xs) (plans-many xs) h
+      (h : IsoHead) {next : List ℕ} → next ≡ sets xs 15 (headBytes h)
+      → Left xs next (whole (sessionOf xs .cfg) h (sessionOf xs .fatal) (sessionOf xs .requests) (sessionOf xs .plans))
+  head-here h = kept-head long same-bytes h
 
   pub reason-here :
-      (f : IsoFatal)
-      → sets xs 34 (taggedBytes (fatalTagged f))
-      ≡ sets xs 0 (saved (whole (sessionOf xs .cfg) (sessionOf xs .head) f (sessionOf xs .requests) (sessionOf xs .plans)))
-  reason-here f =
-      ap (λ (m : List ℕ). sets m 34 (taggedBytes (fatalTagged f))) same-bytes ∙ reason-put xs (sessionOf xs) long (requests-many xs) (plans-many xs) f
+      (f : IsoFatal) {next : List ℕ} → next ≡ sets xs 34 (taggedBytes (fatalTagged f))
+      → Left xs next (whole (sessionOf xs .cfg) (sessionOf xs .head) f (sessionOf xs .requests) (sessionOf xs .plans))
+  reason-here f = kept-reason long same-bytes f
 
   pub outcome-here :
-      (i : ℕ) (o : IsoOutcome) → i < 64
-      → sets xs (40 + 20 * i) (requestBytes (withOutcome o (requestOf (drop (40 + 20 * i) xs))))
-      ≡ sets xs 0 (saved (withRequests (sessionOf xs) (set (requestsOf xs) i (withOutcome o (getD (requestsOf xs) i blankRequest)))))
-  outcome-here i o h =
-      let r : IsoRequest = withOutcome o (getD (requestsOf xs) i blankRequest) in
-      ap (λ (q : IsoRequest). sets xs (40 + 20 * i) (requestBytes (withOutcome o q))) (request-there xs i blankRequest h)
-      ∙ ap (λ (m : List ℕ). sets m (40 + 20 * i) (requestBytes r)) same-bytes
-      ∙ request-put xs (sessionOf xs) long (requests-many xs) (plans-many xs) i r h
+      (i : ℕ) (o : IsoOutcome) {next : List ℕ} → i < requestsIn (sessionOf xs) → i < 64
+      → next ≡ sets xs (40 + 20 * i) (requestBytes (withOutcome o (requestOf (drop (40 + 20 * i) xs))))
+      → Left xs next (withRequests (sessionOf xs) (set (requestsOf xs) i (withOutcome o (getD (requestsOf xs) i blankRequest))))
+  outcome-here i o h small e =
+      left-request long same-bytes i (withOutcome o (getD (requestsOf xs) i blankRequest)) small (request-clear xs z i h)
+      (e ∙ ap (λ (q : IsoRequest). sets xs (40 + 20 * i) (requestBytes (withOutcome o q))) (request-there xs i blankRequest small))
 
   -- a call that leaves the session as it was
   pub stays :
       (call : IsoReply) {r : IsoReply} {p : PortReply} → call ≡ r → r .session ≡ sessionOf xs → p ≡ replyPort r
-      → (p ≡ replyPort call) × (xs ≡ sets xs 0 (saved (call .session)))
-  stays call e s p =
-      (p ∙ sym (ap replyPort e), same-bytes ∙ ap (λ (t : IsoChannelState). sets xs 0 (saved t)) (sym s ∙ sym (ap (λ (r : IsoReply). r .session) e)))
+      → (p ≡ replyPort call) × Left xs xs (call .session)
+  stays call e s p = (p ∙ sym (ap replyPort e), left-is same-bytes (sym s ∙ sym (ap (λ (r : IsoReply). r .session) e)))
 
 -- a call that leaves another session
 pub becomes :
-    (xs : List ℕ) (call : IsoReply) {r : IsoReply} {p : PortReply} {after : List ℕ} → call ≡ r → p ≡ replyPort r → after ≡ sets xs 0 (saved (r .session))
-    → (p ≡ replyPort call) × (after ≡ sets xs 0 (saved (call .session)))
-becomes xs call e p b = (p ∙ sym (ap replyPort e), b ∙ sym (ap (λ (r : IsoReply). sets xs 0 (saved (r .session))) e))
+    (xs : List ℕ) (call : IsoReply) {r : IsoReply} {p : PortReply} {after : List ℕ} → call ≡ r → p ≡ replyPort r → Left xs after (r .session)
+    → (p ≡ replyPort call) × Left xs after (call .session)
+becomes xs call e p b = (p ∙ sym (ap replyPort e), left-is b (sym (ap (λ (r : IsoReply). r .session) e)))
 
 -- ---- the outcome of one request after the other: one turn
 
-module _ (xs now next : List ℕ) (o : IsoOutcome) (i to : ℕ) (long : 8488 ≤ length xs)
-    (held : now ≡ sets xs 0 (saved (withRequests (sessionOf xs) (requestsOf now)))) (less : i < to) (few : to ≤ 64)
+module _ (xs now next : List ℕ) (o : IsoOutcome) (i to : ℕ) (z : layoutNumber xs ≡ 0) (held : Left xs now (withRequests (sessionOf xs) (requestsOf now)))
+    (less : i < to) (few : to ≤ requestsIn (sessionOf xs))
     (put : next ≡ sets now (40 + 20 * i) (requestBytes (withOutcome o (requestOf (drop (40 + 20 * i) now))))) where
+  within : to ≤ 64
+  within = le-trans few (min-le-right (sessionOf xs .head .count) 64)
+
   turn :
       (requestsOf next ≡ set (requestsOf now) i (withOutcome o (getD (requestsOf now) i blankRequest)))
-      × (next ≡ sets xs 0 (saved (withRequests (sessionOf xs) (requestsOf next))))
+      × Left xs next (withRequests (sessionOf xs) (requestsOf next))
   turn =
-      request-turn xs (sessionOf xs) long (plans-many xs) i (withOutcome o (getD (requestsOf now) i blankRequest)) (omega arith) held
-      (put ∙ ap (λ (q : IsoRequest). sets now (40 + 20 * i) (requestBytes (withOutcome o q))) (request-there now i blankRequest (omega arith)))
+      request-turn xs z (sessionOf xs) i (withOutcome o (getD (requestsOf now) i blankRequest)) (lt-of-lt-of-le less few) held
+      (put ∙ ap (λ (q : IsoRequest). sets now (40 + 20 * i) (requestBytes (withOutcome o q))) (request-there now i blankRequest (omega (arith, within))))
 
-  pub turn-held : next ≡ sets xs 0 (saved (withRequests (sessionOf xs) (requestsOf next)))
+  pub turn-held : Left xs next (withRequests (sessionOf xs) (requestsOf next))
   turn-held = turn .1
 
   pub turn-left :
@@ -106,37 +104,26 @@ module _ (xs now next : List ℕ) (o : IsoOutcome) (i to : ℕ) (long : 8488 ≤
   turn-left =
       ap (λ (l : List IsoRequest). sets l (i + 1) (map (withOutcome o) (slice (i + 1) to l))) (turn .0)
       ∙ amend-next (map (withOutcome o)) i i to (requestsOf now) blankRequest (withOutcome o (getD (requestsOf now) i blankRequest)) (omega arith) less
-      (omega (arith, requests-many now)) (λ rest. refl)
+      (omega (arith, within, requests-many now)) (λ rest. refl)
 
 -- ---- the end of a session: requests, head and reason, one after the other
 
 pub end-put :
     (xs : List ℕ) (o : IsoOutcome) → 8488 ≤ length xs → {h e : IsoHead} {t : Tagged} {a b c : List ℕ}
     → h ≡ sessionOf xs .head
-    → a
-    ≡ sets xs 0
-    (saved (withRequests (sessionOf xs) (sets (requestsOf xs) (h .done) (map (withOutcome o) (slice (h .done) (h .count) (requestsOf xs))))))
+    → Left xs a (withRequests (sessionOf xs) (sets (requestsOf xs) (h .done) (map (withOutcome o) (slice (h .done) (h .count) (requestsOf xs)))))
     → e ≡ endedHead h
     → b ≡ sets a 15 (headBytes e)
     → t ≡ fatalTagged Nothing
     → c ≡ sets b 34 (taggedBytes t)
-    → c ≡ sets xs 0 (saved (ended o (sessionOf xs)))
-end-put xs o enough eh ea ee eb et ec =
+    → Left xs c (ended o (sessionOf xs))
+end-put xs o enough {a = a} {b} eh ea ee eb et ec =
     let s : IsoChannelState = sessionOf xs in
-    let failed : List IsoRequest = endedRequests o s in
-    let many : length failed ≡ 64 =
-    length-sets (s .requests) (s .head .done) (map (withOutcome o) (slice (s .head .done) (s .head .count) (s .requests))) ∙ requests-many xs in
-    let first : IsoChannelState = withRequests s failed in
-    let second : IsoChannelState = whole (s .cfg) (endedHead (s .head)) (s .fatal) failed (s .plans) in
-    let a-is =
-    ea
-    ∙ ap (λ (k : IsoHead). sets xs 0 (saved (withRequests s (sets (s .requests) (k .done) (map (withOutcome o) (slice (k .done) (k .count) (s .requests)))))))
-    eh in
-    let b-is =
-    eb
-    ∙ ap₂ (λ (m : List ℕ) (k : IsoHead). sets m 15 (headBytes k)) a-is (ee ∙ ap endedHead eh)
-    ∙ head-put xs first enough many (plans-many xs) (endedHead (s .head)) in
-    ec ∙ ap₂ (λ (m : List ℕ) (k : Tagged). sets m 34 (taggedBytes k)) b-is et ∙ reason-put xs second enough many (plans-many xs) Nothing
+    let first =
+    left-is ea
+    (ap (λ (k : IsoHead). withRequests s (sets (s .requests) (k .done) (map (withOutcome o) (slice (k .done) (k .count) (s .requests))))) eh) in
+    let second = kept-head enough first (endedHead (s .head)) (eb ∙ ap (λ (k : IsoHead). sets a 15 (headBytes k)) (ee ∙ ap endedHead eh)) in
+    kept-reason enough second Nothing (ec ∙ ap (λ (k : Tagged). sets b 34 (taggedBytes k)) et)
 
 -- ---- a call that is lent the ring: refused with a number, or past both tests
 
@@ -166,14 +153,14 @@ module _ (xs ring : List ℕ) {w v : PollWay} (way-is : v ≡ w) where
   -- what an arm of the code leaves is what the way leaves
   pub acted :
       {taken halt : Bool} {after words : List ℕ} → taken ≡ polledBy v (sessionOf xs) ring .taken → halt ≡ polledBy v (sessionOf xs) ring .halt
-      → after ≡ sets xs 0 (saved (polledBy v (sessionOf xs) ring .session))
+      → Left xs after (polledBy v (sessionOf xs) ring .session)
       → words ≡ polledRingBy v (sessionOf xs) ring
       → (taken ≡ polledBy w (sessionOf xs) ring .taken) × (halt ≡ polledBy w (sessionOf xs) ring .halt)
-      × (after ≡ sets xs 0 (saved (polledBy w (sessionOf xs) ring .session))) × (words ≡ polledRingBy w (sessionOf xs) ring)
+      × Left xs after (polledBy w (sessionOf xs) ring .session) × (words ≡ polledRingBy w (sessionOf xs) ring)
   acted t h a r = (
     t ∙ ap (λ (k : PollWay). polledBy k (sessionOf xs) ring .taken) way-is,
     h ∙ ap (λ (k : PollWay). polledBy k (sessionOf xs) ring .halt) way-is,
-    a ∙ ap (λ (k : PollWay). sets xs 0 (saved (polledBy k (sessionOf xs) ring .session))) way-is,
+    left-is a (ap (λ (k : PollWay). polledBy k (sessionOf xs) ring .session) way-is),
     r ∙ ap (λ (k : PollWay). polledRingBy k (sessionOf xs) ring) way-is,
   )
 
