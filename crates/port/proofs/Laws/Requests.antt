@@ -18,7 +18,8 @@ use Rattle.session.specs.declared.types.IsoChannelState.{IsoChannelState}
 use Rattle.port.specs.declared.answers.PortSubmitted.{PortSubmitted}
 use Rattle.port.specs.declared.answers.PortTransfer.{PortTransfer}
 use Rattle.port.specs.Layout.{layoutNumber, sessionOf, saved}
-use Rattle.port.specs.Calls.{byBytes, byKind, submitRefused, submittedPort, transferOf, submitBy, grownBytes, submitBytes, submitRing, byOpen, openBy, openBytes, openRing}
+use Rattle.port.specs.Calls.{byBytes, byKind, submitRefused, submittedPort, transferOf, submitBy, grownBytes, submitBytes, submitRing}
+use Rattle.port.specs.Calls.{byOpen, openBy, openBytes, openRing}
 use Rattle.port.proofs.Laws.Calls.{refused, done}
 
 -- ---- a call whose kind may name nothing

@@ -71,9 +71,9 @@ in-use-written xs octets z =
     record {
       bytes =
           loaded-left xs z octets .bytes
-              ∙ ap₂ (λ (r p : List ℕ). front s ++ r ++ p ++ drop 8488 xs)
-              (kept-good requestBytes isBadRequestBytes 20 length-request (requestsIn s) (s .requests) (drop 40 xs) (requests-clear xs z))
-              (kept-good planBytes isBadPlanBytes 7 length-plan (plansIn s) (s .plans) (drop 1320 xs) (plans-clear xs z));
+          ∙ ap₂ (λ (r p : List ℕ). front s ++ r ++ p ++ drop 8488 xs)
+          (kept-good requestBytes isBadRequestBytes 20 length-request (requestsIn s) (s .requests) (drop 40 xs) (requests-clear xs z))
+          (kept-good planBytes isBadPlanBytes 7 length-plan (plansIn s) (s .plans) (drop 1320 xs) (plans-clear xs z));
       holds = refl;
     }
 
