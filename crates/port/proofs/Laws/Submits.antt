@@ -1,4 +1,5 @@
 -- A submission on the bytes of a session: the packets' plans, the request and the numbers, each written where it stands, are the submission's session.
+-- Bytes of the layout are as if all entries in use were written, so each entry that is added is the next behind those written.
 use mathlib.Core.Path.{_≡_, refl, _∙_, sym, ap, ap₂, subst}
 use mathlib.Core.List.{List, [], _∷_, _++_}
 use Prim.Native.Nat.{ℕ, suc, _+_, _*_, _≤_, _<_, min}
@@ -63,7 +64,7 @@ kept-named {n} {j = j} {xs} {ys} {s} k en em e =
     left-is (subst (λ (a : ℕ). Kept a j xs ys s) en (subst (λ (a : ℕ). Kept n a xs ys s) em k)) e
 
 -- bytes of the layout, in the place of themselves: each entry in use is as it is written
-pub in-use-written :
+in-use-written :
     (xs : List ℕ) → Octets xs → layoutNumber xs ≡ 0 → Kept (requestsIn (sessionOf xs)) (plansIn (sessionOf xs)) xs xs (sessionOf xs)
 unfolding kept
 in-use-written xs octets z =
