@@ -93,7 +93,8 @@ loop-holds c =
       ap (λ (h : IsoHead). h .done) eh,
       ap (λ (h : IsoHead). h .count) eh,
       c .packets-before .ensures ∙ ap (λ (h : IsoHead). packetsOf (slice 0 (h .done) (requestsOf xs))) eh,
-      loaded-left xs (c .before .before .before .before .before .before .pre .0) (λ i. omega (arith, c .before .before .before .before .before .slice-known .given i)),
+      loaded-left xs (c .before .before .before .before .before .before .pre .0)
+          (λ i. omega (arith, c .before .before .before .before .before .slice-known .given i)),
       refl,
     )
 
@@ -183,7 +184,11 @@ loop-again c =
       to-is (c .before .before .before .before .before .before .before .before .before .before .before)
           ∙ sym (settled-from s (now .ring) (now .inv .0) more)
           ∙ sym (ap oldestFrom holds),
-      left-is (left-over (long (c .before .before .before .before .before .before .before .before .before .before .before .before .before .before .before .before .before .before .before .before .before)) (now .inv .7) left) (sym holds),
+      left-is
+          (left-over (long
+          (c .before .before .before .before .before .before .before .before .before .before .before .before .before .before .before .before .before .before .before .before .before))
+          (now .inv .7) left)
+          (sym holds),
       ap (λ (u : IsoChannelState). drained false u (after .last .1 .1 .1 .0)) holds
           ∙ ap (drained false t) (after .ensures .1)
           ∙ sym (drained-next (now .at-once) s (now .ring) more go)

@@ -51,7 +51,13 @@ settle-plans-at-requires c κs = (
     c .before .before .before .before .before .before .before .before .before .pre .3,
     c .before .before .before .before .before .before .before .before .before .pre .4,
   ),
-  omega (arith, ends (c .before .before .before .before .before .before .before .before .before), plans-in (sessionOf (c .before .before .before .before .before .before .before .before .before .args .bytes .now)) (good (c .before .before .before .before .before .before .before .before .before) .count-in) (good (c .before .before .before .before .before .before .before .before .before) .all-few)),
+  omega (
+    arith,
+    ends (c .before .before .before .before .before .before .before .before .before),
+    plans-in (sessionOf (c .before .before .before .before .before .before .before .before .before .args .bytes .now))
+        (good (c .before .before .before .before .before .before .before .before .before) .count-in)
+        (good (c .before .before .before .before .before .before .before .before .before) .all-few),
+  ),
 )
 
 clear-slots-at-requires : tie.Need-clear-slots-at-requires
@@ -61,7 +67,11 @@ clear-slots-at-requires c κs = (
     long (c .before .before .before .before .before .before .before .before .before .before .before .before .before .before),
     c .before .before .before .before .settle-plans-at .kept .0,
   ),
-  omega (arith, ends (c .before .before .before .before .before .before .before .before .before .before .before .before .before .before), good (c .before .before .before .before .before .before .before .before .before .before .before .before .before .before) .all-few),
+  omega (
+    arith,
+    ends (c .before .before .before .before .before .before .before .before .before .before .before .before .before .before),
+    good (c .before .before .before .before .before .before .before .before .before .before .before .before .before .before) .all-few,
+  ),
 )
 
 cast-place : tie.Need-cast-place
@@ -128,7 +138,8 @@ returns c =
     ∙ direction-there xs in
     let plans =
     c .before .before .before .before .before .before .before .before .before .before .before .before .before .before .before .before .before .before .before .settle-plans-at .ensures in (
-      bytes-settled xs (a .ring .now) (a .from) (a .to) dir (c .before .before .before .before .before .before .before .before .before .before .before .before .before .before .before .before .before .before .before .before .before .before .before .before .before .before .before .before .before .pre .0)
+      bytes-settled xs (a .ring .now) (a .from) (a .to) dir
+          (c .before .before .before .before .before .before .before .before .before .before .before .before .before .before .before .before .before .before .before .before .before .before .before .before .before .before .before .before .before .pre .0)
           (good
           (c .before .before .before .before .before .before .before .before .before .before .before .before .before .before .before .before .before .before .before .before .before .before .before .before .before .before .before .before .before))
           (c .before .before .before .before .before .before .before .before .before .before .before .before .before .before .before .before .before .before .before .before .before .before .before .before .before .before .before .before .before .pre .2)
@@ -140,7 +151,8 @@ returns c =
           (c .before .before .before .before .before .before .before .before .before .request-at .ensures)
           (c .before .before .before .before .before .before .before .put-request .ensures) (c .before .before .before .one-more .ensures)
           (c .before .before .put-head .ensures),
-      ring-settled xs (a .ring .now) (a .from) (a .to) dir (c .before .before .before .before .before .before .before .before .before .before .before .before .before .before .before .before .before .before .before .before .before .before .before .before .before .before .before .before .before .pre .0)
+      ring-settled xs (a .ring .now) (a .from) (a .to) dir
+          (c .before .before .before .before .before .before .before .before .before .before .before .before .before .before .before .before .before .before .before .before .before .before .before .before .before .before .before .before .before .pre .0)
           (good
           (c .before .before .before .before .before .before .before .before .before .before .before .before .before .before .before .before .before .before .before .before .before .before .before .before .before .before .before .before .before))
           (c .before .before .before .before .before .before .before .before .before .before .before .before .before .before .before .before .before .before .before .before .before .before .before .before .before .before .before .before .before .pre .2)

@@ -1,5 +1,5 @@
--- The invariant: the bytes hold the session with its plans as they are now; what is left to settle of them gives the settled table, and what is left to
--- add gives the sum. The measure is how many plans are left.
+-- The invariant: the bytes hold, in the place of those at the beginning, the session with its plans as they are now; what is left to settle of them
+-- gives the settled table, and what is left to add gives the sum. The measure is how many plans are left.
 use mathlib.Core.Path.{_≡_, refl, _∙_, sym, ap}
 use mathlib.Core.List.{List, map}
 use Prim.Native.Nat.{_+_, _-_, _*_, _≤_, _<_}
@@ -37,6 +37,7 @@ abbrev μ-loop : tie.MeasureT-loop
 long : (c : tie.Start Inv-loop μ-loop) → 8488 ≤ length (c .args .bytes .now)
 long c = long-enough (c .args .bytes .now) refl (c .pre .0)
 
+-- plans in use lie within the table
 within : (c : tie.Start Inv-loop μ-loop) → c .args .to ≤ 1024
 within c =
     let xs = c .args .bytes .now in le-trans (c .pre .2) (min-le-right (packetsOf (slice 0 (requestsIn (sessionOf xs)) (requestsOf xs))) 1024)
@@ -59,7 +60,12 @@ settled-plan-requires : tie.Need-settled-plan-requires Inv-loop μ-loop
 settled-plan-requires c κs = search needs
 
 put-plan-requires : tie.Need-put-plan-requires Inv-loop μ-loop
-put-plan-requires c κs = omega (arith, long (c .before .before .before .before .before .before .before .before), within (c .before .before .before .before .before .before .before .before))
+put-plan-requires c κs =
+    omega (
+      arith,
+      long (c .before .before .before .before .before .before .before .before),
+      within (c .before .before .before .before .before .before .before .before),
+    )
 
 length-of-requires : tie.Need-length-of-requires Inv-loop μ-loop
 length-of-requires c κs = search needs
@@ -86,8 +92,11 @@ loop-again c =
     c .before .before .before .before .before .settled-plan .ensures
     ∙ ap f (c .before .before .before .before .before .before .plan-at .ensures ∙ plan-there (now .bytes) (now .i) blankPlan below) in
     let turn =
-    plan-turn xs (c .before .before .before .before .before .before .before .before .before .before .before .before .pre .0) (sessionOf xs) (now .i) v (lt-of-lt-of-le less (c .before .before .before .before .before .before .before .before .before .before .before .before .pre .2)) (now .inv .3) (c .before .before .before .put-plan .ensures) in
-    let many : a .to ≤ length (plansOf (now .bytes)) = omega (arith, within (c .before .before .before .before .before .before .before .before .before .before .before .before), plans-many (now .bytes)) in (
+    plan-turn xs (c .before .before .before .before .before .before .before .before .before .before .before .before .pre .0) (sessionOf xs) (now .i) v
+    (lt-of-lt-of-le less (c .before .before .before .before .before .before .before .before .before .before .before .before .pre .2)) (now .inv .3)
+    (c .before .before .before .put-plan .ensures) in
+    let many : a .to ≤ length (plansOf (now .bytes)) =
+    omega (arith, within (c .before .before .before .before .before .before .before .before .before .before .before .before), plans-many (now .bytes)) in (
       omega arith,
       c .before .before .before .put-plan .kept .0 ∙ now .inv .1,
       omega arith,
