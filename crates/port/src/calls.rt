@@ -16,7 +16,7 @@ use crate::poll::poll_on;
 use crate::poll::recover_at;
 use crate::reclaim::reclaim_at;
 use crate::reset::reset_at;
-use crate::scan::scan_at;
+use crate::scan::is_bad_at;
 use session::IsoEvent;
 
 #[no_mangle]
@@ -27,8 +27,7 @@ pub extern "C" fn dwc2_iso_check(session: &[u8]) -> u32
     if refusal != 0 {
         return refusal as u32;
     }
-    let scan = scan_at(session);
-    if scan.bad {
+    if is_bad_at(session) {
         return 18;
     }
     0

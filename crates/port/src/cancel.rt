@@ -15,7 +15,7 @@ use crate::entries::request_at;
 use crate::load::head_at;
 use crate::load::reason_at;
 use crate::poll::halt_at;
-use crate::scan::scan_at;
+use crate::scan::is_bad_at;
 use session::IsoAnswer;
 use session::IsoHaltReason;
 use session::IsoOutcome;
@@ -45,8 +45,7 @@ pub(crate) fn cancel_at(bytes: &mut [u8], id: u64) -> PortReply
     ensures { λ r. ⌜ (r ≡ replyPort (cancelled (sessionOf (now (bytes .entry))) id))
         × (Left (now (bytes .entry)) (now (bytes .exit)) (cancelled (sessionOf (now (bytes .entry))) id .session)) ⌝ }
 {
-    let scan = scan_at(bytes);
-    if scan.bad {
+    if is_bad_at(bytes) {
         return reply_refused(18);
     }
     let head = head_at(bytes);

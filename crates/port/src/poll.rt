@@ -20,7 +20,7 @@ use crate::entries::put_tagged;
 use crate::load::config_at;
 use crate::load::head_at;
 use crate::load::reason_at;
-use crate::scan::scan_at;
+use crate::scan::is_bad_at;
 use crate::tags::fatal_tagged;
 use session::IsoAnswer;
 use session::IsoEvent;
@@ -40,8 +40,7 @@ pub(crate) fn lent_refusal(bytes: &[u8], words: usize) -> u16
     if words < least {
         return 17;
     }
-    let scan = scan_at(bytes);
-    if scan.bad {
+    if is_bad_at(bytes) {
         return 18;
     }
     0

@@ -11,7 +11,7 @@ use crate::answers::reply_refused;
 use crate::load::head_at;
 use crate::load::reason_at;
 use crate::save::put_head;
-use crate::scan::scan_at;
+use crate::scan::is_bad_at;
 use session::IsoAnswer;
 use session::has_reason;
 
@@ -20,8 +20,7 @@ pub(crate) fn reset_at(bytes: &mut [u8]) -> PortReply
     ensures { λ r. ⌜ (r ≡ replyPort (resetReply (sessionOf (now (bytes .entry)))))
         × (Left (now (bytes .entry)) (now (bytes .exit)) (resetReply (sessionOf (now (bytes .entry))) .session)) ⌝ }
 {
-    let scan = scan_at(bytes);
-    if scan.bad {
+    if is_bad_at(bytes) {
         return reply_refused(18);
     }
     let mut head = head_at(bytes);

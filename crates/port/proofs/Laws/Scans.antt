@@ -23,7 +23,7 @@ use Rattle.session.proofs.Laws.Sums.{packets-split}
 use Rattle.port.specs.declared.scan.RequestSums.{RequestSums}
 use Rattle.port.specs.Tags.{taggedOf, fatalOf}
 use Rattle.port.specs.Layout.{configOf, headOf, sessionOf}
-use Rattle.port.specs.Scan.{Summed, Marked}
+use Rattle.port.specs.Scan.{Summed, isBadButPlans, Counted, Marked}
 
 pub never : true ≡ false → ⊥
 never e = let z : _≡_ {A = ℕ} 0 1 = cc in omega arith
@@ -43,7 +43,7 @@ module _ (xs : List ℕ) where
   unfolding sessionOf
   reason-there = refl
 
--- ---- the ways out of the check
+-- ---- the tests but those of the plans
 
 module _ (s : IsoChannelState) where
   -- the first test, as the code makes it
@@ -57,8 +57,8 @@ module _ (s : IsoChannelState) where
       ∙ ap (λ (k : IsoHead). isBadConfig (s .cfg) || (ltb (k .count) (k .done) || ltb 64 (k .count))) eh)
       ∙ e
 
-  pub front-bad : (isBadConfig (s .cfg) || isBadCounts s) ≡ true → isBadRecord s ≡ true
-  front-bad e = simp e
+  pub front-counted : (r : RequestSums) → r .bad ≡ true → (isBadConfig (s .cfg) || isBadCounts s) ≡ true → Counted s r
+  front-counted r b e = record { bad = b ∙ sym (simp e); all = λ g. absurd (never (sym b ∙ g)); pending = λ g. absurd (never (sym b ∙ g)) }
 
   -- the state, as the code tests it
   pub state-test :
@@ -71,74 +71,113 @@ module _ (s : IsoChannelState) where
       ∙ ap (λ (f : IsoFatal). leb (slots (s .cfg)) (h .«td_last») || not (h .live) && (ltb (h .done) (h .count) || hasReason f)) ef
       ∙ ap (λ (k : IsoHead). leb (slots (s .cfg)) (k .«td_last») || not (k .live) && (ltb (k .done) (k .count) || hasReason (s .fatal))) eh
 
-  module _ (front : (isBadConfig (s .cfg) || isBadCounts s) ≡ false) where
-    pub counts-in : (s .head .done ≤ s .head .count) × (s .head .count ≤ 64)
-    counts-in =
-        let n = neither (ltb (s .head .count) (s .head .done)) (ltb 64 (s .head .count)) (neither (isBadConfig (s .cfg)) (isBadCounts s) front .1) in
-        (ltb-false (s .head .count) (s .head .done) (n .0), ltb-false 64 (s .head .count) (n .1))
+  pub counts-in : (isBadConfig (s .cfg) || isBadCounts s) ≡ false → (s .head .done ≤ s .head .count) × (s .head .count ≤ 64)
+  counts-in front =
+      let n = neither (ltb (s .head .count) (s .head .done)) (ltb 64 (s .head .count)) (neither (isBadConfig (s .cfg)) (isBadCounts s) front .1) in
+      (ltb-false (s .head .count) (s .head .done) (n .0), ltb-false 64 (s .head .count) (n .1))
 
-    module _ (sums : RequestSums) (summed : Summed (s .head .done) (s .head .count) (s .requests) sums) {most : ℕ} (capacity : most ≡ room (s .cfg)) where
-      sums-are : sums .bad ≡ false → (ltb 1024 (sums .all) || ltb most (sums .pending)) ≡ isBadSums s
-      sums-are e =
-          ap₂ (λ (a b : ℕ). ltb 1024 a || ltb b (sums .pending)) (summed .all e) capacity
-          ∙ ap (λ (p : ℕ). ltb 1024 (allPackets s) || ltb (room (s .cfg)) p) (summed .pending e)
+  -- past the first test, the requests, their packets and the state decide
+  module _ (front : (isBadConfig (s .cfg) || isBadCounts s) ≡ false) (sums : RequestSums)
+      (summed : Summed (s .head .done) (s .head .count) (s .requests) sums) {most : ℕ} (capacity : most ≡ room (s .cfg)) where
+    sums-are : sums .bad ≡ false → (ltb 1024 (sums .all) || ltb most (sums .pending)) ≡ isBadSums s
+    sums-are e =
+        ap₂ (λ (a b : ℕ). ltb 1024 a || ltb b (sums .pending)) (summed .all e) capacity
+        ∙ ap (λ (p : ℕ). ltb 1024 (allPackets s) || ltb (room (s .cfg)) p) (summed .pending e)
 
-      pub sums-bad : (sums .bad || (ltb 1024 (sums .all) || ltb most (sums .pending))) ≡ true → isBadRecord s ≡ true
-      sums-bad = go (sums .bad) refl
-        where
-          go : (b : Bool) → sums .bad ≡ b → (b || (ltb 1024 (sums .all) || ltb most (sums .pending))) ≡ true → isBadRecord s ≡ true
-          go true e q =
-              let some : anyBadRequest (slice 0 (s .head .count) (s .requests)) ≡ true = sym (summed .bad) ∙ e in
-              simp (front, some)
-          go false e q =
-              let none : anyBadRequest (slice 0 (s .head .count) (s .requests)) ≡ false = sym (summed .bad) ∙ e in
-              let many : isBadSums s ≡ true = sym (sums-are e) ∙ q in
-              simp (front, none, many)
+    decided : (b : Bool) → sums .bad ≡ b → (b || ((ltb 1024 (sums .all) || ltb most (sums .pending)) || isBadState s)) ≡ isBadButPlans s
+    decided true e =
+        let some : anyBadRequest (slice 0 (s .head .count) (s .requests)) ≡ true = sym (summed .bad) ∙ e in
+        simp (front, some)
+    decided false e =
+        let none : anyBadRequest (slice 0 (s .head .count) (s .requests)) ≡ false = sym (summed .bad) ∙ e in
+        let many : (ltb 1024 (sums .all) || ltb most (sums .pending)) ≡ isBadSums s = sums-are e in
+        simp (front, none, many)
 
-      module _ (few : (sums .bad || (ltb 1024 (sums .all) || ltb most (sums .pending))) ≡ false) where
-        requests-good : sums .bad ≡ false
-        requests-good = neither (sums .bad) (ltb 1024 (sums .all) || ltb most (sums .pending)) few .0
+    pub all-counted :
+        (r : RequestSums) {state : Bool} → state ≡ isBadState s
+        → r .bad ≡ (sums .bad || ((ltb 1024 (sums .all) || ltb most (sums .pending)) || state))
+        → r .all ≡ sums .all → r .pending ≡ sums .pending
+        → Counted s r
+    all-counted r {state} es eb ea ep =
+        record {
+          bad = eb ∙ ap (λ (b : Bool). sums .bad || ((ltb 1024 (sums .all) || ltb most (sums .pending)) || b)) es ∙ decided (sums .bad) refl;
+          all = λ g. ea ∙ summed .all (good g);
+          pending = λ g. ep ∙ summed .pending (good g);
+        }
+      where
+        good : r .bad ≡ false → sums .bad ≡ false
+        good g = neither (sums .bad) ((ltb 1024 (sums .all) || ltb most (sums .pending)) || state) (sym eb ∙ g) .0
 
-        pub all-in : sums .all ≤ 1024
-        all-in =
-            ltb-false 1024 (sums .all)
-            (neither (ltb 1024 (sums .all)) (ltb most (sums .pending)) (neither (sums .bad) (ltb 1024 (sums .all) || ltb most (sums .pending)) few .1) .0)
+-- ---- the plans
 
-        pub pending-in : length (s .requests) ≡ 64 → sums .pending ≤ sums .all
-        pending-in many =
-            omega (
-              arith,
-              summed .all requests-good,
-              summed .pending requests-good,
-              counts-in,
-              packets-split (s .head .done) (s .head .count) (s .requests) (counts-in .0) (omega (arith, many, counts-in .1)),
-            )
+-- the plans' tests, which stand before the last, may be made after it
+last : (f r m p t : Bool) → (f || (r || (m || (p || t)))) ≡ ((f || (r || (m || t))) || p)
+last true r m p t = refl
+last false true m p t = refl
+last false false true p t = refl
+last false false false true true = refl
+last false false false true false = refl
+last false false false false true = refl
+last false false false false false = refl
 
-        -- past every test before the plans, the walk over them decides
-        pub all-scanned :
-            (r : RecordScan) {limit size : ℕ} {bad : Bool} → limit ≡ packetLimit (s .cfg .speed) → size ≡ slots (s .cfg) → bad ≡ isBadState s
-            → Marked (sums .all) (sums .pending) limit size bad (s .plans) r
-            → Scanned s r
-        all-scanned r {limit} {size} {bad} el es eb m =
-            let all : sums .all ≡ allPackets s = summed .all requests-good in
-            let pending : sums .pending ≡ pendingPackets s = summed .pending requests-good in
-            let none : anyBadRequest (slice 0 (s .head .count) (s .requests)) ≡ false = sym (summed .bad) ∙ requests-good in
-            let held-few : isBadSums s ≡ false =
-            sym (sums-are requests-good) ∙ neither (sums .bad) (ltb 1024 (sums .all) || ltb most (sums .pending)) few .1 in
-            let plans : Bool = anyBadPlan (packetLimit (s .cfg .speed)) (slots (s .cfg)) (slice 0 (allPackets s) (s .plans)) in
-            let whole : (plans || isBadState s) ≡ isBadRecord s = simp (front, none, held-few) in
-            let is : r .bad ≡ isBadRecord s =
-            m .bad
-            ∙ ap₂ (λ (l z : ℕ). anyBadPlan l z (slice 0 (sums .all) (s .plans)) || bad) el es
-            ∙ ap₂ (λ (n : ℕ) (b : Bool). anyBadPlan (packetLimit (s .cfg .speed)) (slots (s .cfg)) (slice 0 n (s .plans)) || b) all eb
-            ∙ whole in
-            record {
-              bad = is;
-              found = λ g.
-                  record {
-                    all = m .all (is ∙ g) ∙ all;
-                    pending = m .pending (is ∙ g) ∙ pending;
-                    tail = m .tail (is ∙ g) ∙ ap (λ (n : ℕ). getD (s .plans) (n - 1) blankPlan .«desc_index») all;
-                    held = λ k h. m .held (is ∙ g) k h ∙ ap₂ (λ (a p : ℕ). isHeld (slice (a - p) a (s .plans)) k) all pending;
-                  };
-            }
+module _ (s : IsoChannelState) (sums : RequestSums) (counted : Counted s sums) where
+  whole-is : isBadRecord s ≡ (sums .bad || anyBadPlan (packetLimit (s .cfg .speed)) (slots (s .cfg)) (slice 0 (allPackets s) (s .plans)))
+  whole-is =
+      last (isBadConfig (s .cfg) || isBadCounts s) (anyBadRequest (slice 0 (s .head .count) (s .requests))) (isBadSums s)
+      (anyBadPlan (packetLimit (s .cfg .speed)) (slots (s .cfg)) (slice 0 (allPackets s) (s .plans))) (isBadState s)
+      ∙ ap (λ (b : Bool). b || anyBadPlan (packetLimit (s .cfg .speed)) (slots (s .cfg)) (slice 0 (allPackets s) (s .plans))) (sym (counted .bad))
+
+  pub record-bad : sums .bad ≡ true → isBadRecord s ≡ true
+  record-bad e = whole-is ∙ ap (λ (b : Bool). b || anyBadPlan (packetLimit (s .cfg .speed)) (slots (s .cfg)) (slice 0 (allPackets s) (s .plans))) e
+
+  module _ (good : sums .bad ≡ false) where
+    fronts : ((isBadConfig (s .cfg) || isBadCounts s) ≡ false) × (isBadSums s ≡ false)
+    fronts =
+        let rest = isBadSums s || isBadState s in
+        let requests = anyBadRequest (slice 0 (s .head .count) (s .requests)) in
+        let n = neither (isBadConfig (s .cfg) || isBadCounts s) (requests || rest) (sym (counted .bad) ∙ good) in
+        (n .0, neither (isBadSums s) (isBadState s) (neither requests rest (n .1) .1) .0)
+
+    pub all-in : sums .all ≤ 1024
+    all-in =
+        omega (
+          arith,
+          counted .all good,
+          ltb-false 1024 (allPackets s) (neither (ltb 1024 (allPackets s)) (ltb (room (s .cfg)) (pendingPackets s)) (fronts .1) .0),
+        )
+
+    pub pending-in : length (s .requests) ≡ 64 → sums .pending ≤ sums .all
+    pending-in many =
+        let in-use = counts-in s (fronts .0) in
+        omega (
+          arith,
+          counted .all good,
+          counted .pending good,
+          in-use,
+          packets-split (s .head .done) (s .head .count) (s .requests) (in-use .0) (omega (arith, many, in-use .1)),
+        )
+
+    module _ {limit size : ℕ} (el : limit ≡ packetLimit (s .cfg .speed)) (es : size ≡ slots (s .cfg)) where
+      -- the rest of the record is good, so the plans decide
+      pub plans-decide : anyBadPlan limit size (slice 0 (sums .all) (s .plans)) ≡ isBadRecord s
+      plans-decide =
+          ap₂ (λ (l z : ℕ). anyBadPlan l z (slice 0 (sums .all) (s .plans))) el es
+          ∙ ap (λ (n : ℕ). anyBadPlan (packetLimit (s .cfg .speed)) (slots (s .cfg)) (slice 0 n (s .plans))) (counted .all good)
+          ∙ sym (whole-is
+          ∙ ap (λ (b : Bool). b || anyBadPlan (packetLimit (s .cfg .speed)) (slots (s .cfg)) (slice 0 (allPackets s) (s .plans))) good)
+
+      pub all-scanned : (r : RecordScan) → Marked (sums .all) (sums .pending) limit size (s .plans) r → Scanned s r
+      all-scanned r m =
+          let is : r .bad ≡ isBadRecord s = m .bad ∙ plans-decide in
+          let all : sums .all ≡ allPackets s = counted .all good in
+          let pending : sums .pending ≡ pendingPackets s = counted .pending good in
+          record {
+            bad = is;
+            found = λ g.
+                record {
+                  all = m .all (is ∙ g) ∙ all;
+                  pending = m .pending (is ∙ g) ∙ pending;
+                  tail = m .tail (is ∙ g) ∙ ap (λ (n : ℕ). getD (s .plans) (n - 1) blankPlan .«desc_index») all;
+                  held = λ k h. m .held (is ∙ g) k h ∙ ap₂ (λ (a p : ℕ). isHeld (slice (a - p) a (s .plans)) k) all pending;
+                };
+          }

@@ -21,22 +21,22 @@ returns c =
     refused (c .before .before .before .args .session .now) (λ (n : ℕ). n) (λ (s : IsoChannelState). cond (isBadRecord s) 18 0)
     (c .before .layout-refusal .ensures) (c .if1 .taken)
 
-scan-at-requires : tie.Need-scan-at-requires
-scan-at-requires c κs = long-enough (c .before .before .before .args .session .now) (c .before .layout-refusal .ensures) (c .if1 .left)
+is-bad-at-requires : tie.Need-is-bad-at-requires
+is-bad-at-requires c κs = long-enough (c .before .before .before .args .session .now) (c .before .layout-refusal .ensures) (c .if1 .left)
 
 returns-2 : tie.Need-returns-2
 returns-2 c =
     let xs = c .before .before .before .before .before .args .session .now in
     ap (λ (b : Bool). cond b 18 0) (sym (c .if2 .taken))
     ∙ done xs (λ (n : ℕ). n) isBadRecord (λ (b : Bool). cond b 18 0) {s = sessionOf xs} (c .before .before .before .layout-refusal .ensures)
-    (c .before .before .if1 .left) refl (c .before .scan-at .ensures .bad)
+    (c .before .before .if1 .left) refl (c .before .is-bad-at .ensures)
 
 returns-3 : tie.Need-returns-3
 returns-3 c =
     let xs = c .before .before .before .before .before .args .session .now in
     ap (λ (b : Bool). cond b 18 0) (sym (c .if2 .left))
     ∙ done xs (λ (n : ℕ). n) isBadRecord (λ (b : Bool). cond b 18 0) {s = sessionOf xs} (c .before .before .before .layout-refusal .ensures)
-    (c .before .before .if1 .left) refl (c .before .scan-at .ensures .bad)
+    (c .before .before .if1 .left) refl (c .before .is-bad-at .ensures)
 
 pub dwc2-iso-check-spec : {M : Type 1} → statement M
 dwc2-iso-check-spec =
@@ -45,6 +45,6 @@ dwc2-iso-check-spec =
     layout-refusal-requires
     cast-result
     returns
-    scan-at-requires
+    is-bad-at-requires
     returns-2
     returns-3)

@@ -31,7 +31,7 @@ octets : (c : tie.After-slice-known) → Octets (c .before .args .bytes .now)
 octets c i = omega (arith, c .slice-known .given i)
 
 fine : (c : tie.Else1) → isBadRecord (sessionOf (c .before .before .before .before .args .bytes .now)) ≡ false
-fine c = sym (c .before .scan-at .ensures .bad) ∙ c .if1 .left
+fine c = sym (c .before .is-bad-at .ensures) ∙ c .if1 .left
 
 good : (c : tie.Else1) → Sound (sessionOf (c .before .before .before .before .args .bytes .now))
 good c =
@@ -101,8 +101,8 @@ reason-is c =
     ∙ reason-there
     (c .before .before .before .before .before .before .before .before .before .before .before .before .before .before .before .args .bytes .now))
 
-scan-at-requires : tie.Need-scan-at-requires
-scan-at-requires c κs = long-enough (c .before .before .args .bytes .now) refl (c .before .before .pre)
+is-bad-at-requires : tie.Need-is-bad-at-requires
+is-bad-at-requires c κs = long-enough (c .before .before .args .bytes .now) refl (c .before .before .pre)
 
 reply-refused-requires : tie.Need-reply-refused-requires
 reply-refused-requires c κs = search needs
@@ -115,7 +115,7 @@ returns c =
     let s = sessionOf (c .before .before .before .before .before .args .bytes .now) in
     stays (c .before .before .before .before .before .args .bytes .now) (octets (c .before .before .before .before))
     (c .before .before .before .before .before .pre) (cancelled s (c .before .before .before .before .before .args .id))
-    (cancel-bad s (c .before .before .before .before .before .args .id) (sym (c .before .before .scan-at .ensures .bad) ∙ c .before .if1 .taken)) refl
+    (cancel-bad s (c .before .before .before .before .before .args .id) (sym (c .before .before .is-bad-at .ensures) ∙ c .before .if1 .taken)) refl
     (c .reply-refused .ensures)
 
 head-at-requires : tie.Need-head-at-requires
@@ -260,7 +260,7 @@ pub cancel-at-spec : {M : Type 1} → statement M
 cancel-at-spec =
     tie.close
     (tie.spec
-    scan-at-requires
+    is-bad-at-requires
     reply-refused-requires
     same-length
     returns

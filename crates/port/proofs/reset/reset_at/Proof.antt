@@ -44,8 +44,8 @@ some c =
     (c .has-reason .ensures ∙ ap hasReason (c .before .before .reason-at .ensures ∙ reason-there xs))
     ∙ ap (λ (h : IsoHead). not (eqb (h .count) 0) || hasReason (sessionOf xs .fatal)) (c .before .before .before .before .head-at .ensures ∙ head-there xs)
 
-scan-at-requires : tie.Need-scan-at-requires
-scan-at-requires c κs = long-enough (c .before .before .args .bytes .now) refl (c .before .before .pre)
+is-bad-at-requires : tie.Need-is-bad-at-requires
+is-bad-at-requires c κs = long-enough (c .before .before .args .bytes .now) refl (c .before .before .pre)
 
 reply-refused-requires : tie.Need-reply-refused-requires
 reply-refused-requires c κs = search needs
@@ -57,7 +57,7 @@ returns : tie.Need-returns
 returns c =
     let xs = c .before .before .before .before .before .args .bytes .now in
     stays xs (octets (c .before .before .before .before)) (c .before .before .before .before .before .pre) (resetReply (sessionOf xs))
-    (reset-bad (sessionOf xs) (sym (c .before .before .scan-at .ensures .bad) ∙ c .before .if1 .taken)) refl (c .reply-refused .ensures)
+    (reset-bad (sessionOf xs) (sym (c .before .before .is-bad-at .ensures) ∙ c .before .if1 .taken)) refl (c .reply-refused .ensures)
 
 head-at-requires : tie.Need-head-at-requires
 head-at-requires c κs = long-enough (c .before .before .before .before .before .args .bytes .now) refl (c .before .before .before .before .before .pre)
@@ -81,7 +81,7 @@ returns-2 c =
     let xs = c .before .before .before .before .before .before .before .before .before .before .before .before .args .bytes .now in
     stays xs (octets (c .before .before .before .before .before .before .before .before .before .before .before))
     (c .before .before .before .before .before .before .before .before .before .before .before .before .pre) (resetReply (sessionOf xs))
-    (reset-full (sessionOf xs) (sym (c .before .before .before .before .before .before .before .before .before .scan-at .ensures .bad)
+    (reset-full (sessionOf xs) (sym (c .before .before .before .before .before .before .before .before .before .is-bad-at .ensures)
     ∙ c .before .before .before .before .before .before .before .before .if1 .left) (ap not (sym (some (c .before .before)) ∙ c .before .if2 .taken))) refl
     (c .reply-refused2 .ensures)
 
@@ -102,7 +102,7 @@ returns-3 c =
     c .before .before .before .before .before .before .before .before .before .before .before .before .before .before .before .before .args .bytes .now in
     let s = sessionOf xs in
     becomes xs (resetReply s)
-    (reset-done s (sym (c .before .before .before .before .before .before .before .before .before .before .before .before .before .scan-at .ensures .bad)
+    (reset-done s (sym (c .before .before .before .before .before .before .before .before .before .before .before .before .before .is-bad-at .ensures)
     ∙ c .before .before .before .before .before .before .before .before .before .before .before .before .if1 .left)
     (ap not (sym (some (c .before .before .before .before .before .before)) ∙ c .before .before .before .before .before .if2 .left))) (c .reply-port .ensures)
     (left-is
@@ -117,7 +117,7 @@ pub reset-at-spec : {M : Type 1} → statement M
 reset-at-spec =
     tie.close
     (tie.spec
-    scan-at-requires
+    is-bad-at-requires
     reply-refused-requires
     same-length
     returns

@@ -1,7 +1,7 @@
 -- The invariant: what is still to walk holds a bad plan exactly if the whole does, and a slot is marked, or a pending plan still to be passed has it,
 -- just where a pending plan has it. The measure is how many plans are left.
 use mathlib.Core.Path.{_≡_, refl, _∙_, sym, ap}
-use mathlib.Core.Bool.{Bool, false, _||_}
+use mathlib.Core.Bool.{false, _||_}
 use mathlib.Core.Logic.{⊎-elim}
 use Prim.Native.Nat.{ℕ, _+_, _-_, _*_, _≤_, _<_}
 use native.Mathlib.Omega.{arith}
@@ -23,7 +23,7 @@ use Rattle.port.proofs.scan.plan_marks.Statement.{statement}
 use Rattle.port.proofs.scan.plan_marks.Tie as tie
 
 abbrev Inv-loop : tie.InvT-loop
-Inv-loop bytes all pending limit slots bad held₀ at₀ j₀ held at j =
+Inv-loop bytes all pending limit slots held₀ at₀ j₀ held at j =
     (j ≤ all) × (at ≡ 1320 + 7 * j)
     × (anyBadPlan limit slots (slice 0 all (sessionOf bytes .plans)) ≡ anyBadPlan limit slots (slice j all (sessionOf bytes .plans)))
     × (length held ≡ 256)
@@ -32,7 +32,7 @@ Inv-loop bytes all pending limit slots bad held₀ at₀ j₀ held at j =
     ≡ isHeld (slice (all - pending) all (sessionOf bytes .plans)) k)
 
 abbrev μ-loop : tie.MeasureT-loop
-μ-loop bytes all pending limit slots bad held₀ at₀ j₀ held at j = all - j
+μ-loop bytes all pending limit slots held₀ at₀ j₀ held at j = all - j
 
 within : (c : tie.Start Inv-loop μ-loop) → c .args .all ≤ length (sessionOf (c .args .bytes .now) .plans)
 within c = omega (arith, c .pre .1, plans-many (c .args .bytes .now))
@@ -84,7 +84,7 @@ returns c =
     (within (c .before .before .before .before .before .before .before)) found in
     let is-bad = ap (λ (r : RecordScan). r .bad) (c .bad-scan .ensures) in
     record {
-      bad = is-bad ∙ sym (ap (λ (b : Bool). b || a .bad) some);
+      bad = is-bad ∙ sym some;
       all = λ e. absurd (never (sym is-bad ∙ e));
       pending = λ e. absurd (never (sym is-bad ∙ e));
       tail = λ e. absurd (never (sym is-bad ∙ e));
@@ -154,7 +154,7 @@ returns-2 c =
     let from = a .all - a .pending in
     let none = now .inv .2 ∙ plan-past (a .limit) (a .slots) (now .j) (a .all) l (omega arith) in
     record {
-      bad = sym (ap (λ (b : Bool). b || a .bad) none);
+      bad = sym none;
       all = λ e. refl;
       pending = λ e. refl;
       tail = λ e.

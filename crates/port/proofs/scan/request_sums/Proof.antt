@@ -64,18 +64,19 @@ request-at-requires c κs = omega (arith, c .before .before .before .pre .0, c .
 is-bad-request-requires : tie.Need-is-bad-request-requires Inv-loop μ-loop
 is-bad-request-requires c κs = search needs
 
+bad-sums-requires : tie.Need-bad-sums-requires Inv-loop μ-loop
+bad-sums-requires c κs = search needs
+
 returns : tie.Need-returns Inv-loop μ-loop
 returns c =
-    let a = c .before .before .before .before .before .before .args in
-    let l = sessionOf (a .bytes .now) .requests in
-    let bad = sym (ap isBadRequest (here (c .before .before))) ∙ sym (c .before .is-bad-request .ensures) ∙ c .if1 .taken in
+    let a = c .before .before .before .before .before .before .before .args in
+    let bad = sym (ap isBadRequest (here (c .before .before .before))) ∙ sym (c .before .before .is-bad-request .ensures) ∙ c .before .if1 .taken in
+    let some =
+    c .before .before .before .before .before .loop .inv .4 ∙ request-here (c .before .before .before .before .before .loop .i) (a .count) (sessionOf (a .bytes .now) .requests) (omega arith) (within (c .before .before .before .before .before .before .before)) bad in
     record {
-      bad =
-          sym (c .before .before .before .before .loop .inv .4
-          ∙ request-here (c .before .before .before .before .loop .i) (a .count) l (omega arith) (within (c .before .before .before .before .before .before))
-          bad);
-      all = λ e. absurd (never e);
-      pending = λ e. absurd (never e);
+      bad = c .bad-sums .ensures .0 ∙ sym some;
+      all = λ e. absurd (never (sym (c .bad-sums .ensures .0) ∙ e));
+      pending = λ e. absurd (never (sym (c .bad-sums .ensures .0) ∙ e));
     }
 
 wide-requires : tie.Need-wide-requires Inv-loop μ-loop
@@ -157,6 +158,7 @@ request-sums-spec =
     loop-holds
     request-at-requires
     is-bad-request-requires
+    bad-sums-requires
     returns
     wide-requires
     add-all
