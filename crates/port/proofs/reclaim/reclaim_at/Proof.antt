@@ -5,7 +5,6 @@ use Prim.Native.Nat.{ℕ, _≤_}
 use native.Mathlib.Omega.{arith}
 use lib.Dec.{ltb}
 use lib.ListN.{length}
-use lib.Seq.{sets}
 use borrow.Author.Needs.{needs}
 use borrow.Author.Tests.{ltb-false}
 use Rattle.words.proofs.Laws.Tests.{neither}
@@ -14,8 +13,9 @@ use Rattle.session.specs.Record.{isBadRecord}
 use Rattle.session.specs.Reclaim.{isShort}
 use Rattle.session.proofs.Laws.Record.{Sound, sound}
 use Rattle.session.proofs.Laws.Reclaims.{reclaim-short, reclaim-bad}
-use Rattle.port.specs.Layout.{sessionOf, saved}
-use Rattle.port.proofs.Canonical.{loaded-saved}
+use Rattle.port.specs.Layout.{sessionOf}
+use Rattle.port.specs.Places.{Left}
+use Rattle.port.proofs.Canonical.{loaded-left}
 use Rattle.port.proofs.Laws.Calls.{long-enough}
 use Rattle.port.proofs.Laws.Walks.{config-there}
 use Rattle.port.proofs.Laws.Reclaiming.{refused-in-place, looked-layout, looked-good, done-in-place}
@@ -30,8 +30,8 @@ good : (c : tie.Start) → isBadRecord (sessionOf (c .args .bytes .now)) ≡ fal
 good c e = let xs = c .args .bytes .now in sound (sessionOf xs) (requests-many xs) (plans-many xs) e
 
 -- bytes that nothing is stored into
-same : (c : tie.After-slice-known) → c .before .args .bytes .now ≡ sets (c .before .args .bytes .now) 0 (saved (sessionOf (c .before .args .bytes .now)))
-same c = sym (loaded-saved (c .before .args .bytes .now) (λ i. omega (arith, c .slice-known .given i)) (c .before .pre))
+same : (c : tie.After-slice-known) → Left (c .before .args .bytes .now) (c .before .args .bytes .now) (sessionOf (c .before .args .bytes .now))
+same c = loaded-left (c .before .args .bytes .now) (c .before .pre) (λ i. omega (arith, c .slice-known .given i))
 
 -- the test of 17, by the words that the code counted
 test-short :
@@ -120,11 +120,9 @@ look-again-at-requires c κs =
     (sym (c .before .before .before .before .before .before .before .before .before .before .scan-at .ensures .bad)
     ∙ c .before .before .before .before .before .before .before .before .before .if2 .left) in
     let act = c .before .before .before .before .before .before .look-at .ensures .0 in (
-      looked-layout xs (a .ring .now) (a .results .now) (a .id) (a .event) (long
-          (c .before .before .before .before .before .before .before .before .before .before .before .before .before .before .before .before .before .before .before))
+      looked-layout xs (a .ring .now) (a .results .now) (a .id) (a .event) (c .before .before .before .before .before .before .before .before .before .before .before .before .before .before .before .before .before .before .before .pre)
           g act,
-      looked-good xs (a .ring .now) (a .results .now) (a .id) (a .event) (long
-          (c .before .before .before .before .before .before .before .before .before .before .before .before .before .before .before .before .before .before .before))
+      looked-good xs (a .ring .now) (a .results .now) (a .id) (a .event) (c .before .before .before .before .before .before .before .before .before .before .before .before .before .before .before .before .before .before .before .pre)
           g act,
       ltb-false (length (a .results .now)) 255 (enough .1),
     )
@@ -150,8 +148,7 @@ returns-3 c =
     (c .before .before .before .before .before .before .before .before .before .before .before .before .before .before .before .before .scan-at .ensures .bad)
     ∙ c .before .before .before .before .before .before .before .before .before .before .before .before .before .before .before .if2 .left in
     let again = c .before .before .before .before .before .look-again-at .ensures in
-    done-in-place (a .bytes .now) (a .ring .now) (a .results .now) (a .id) (a .event) (long
-    (c .before .before .before .before .before .before .before .before .before .before .before .before .before .before .before .before .before .before .before .before .before .before .before .before .before))
+    done-in-place (a .bytes .now) (a .ring .now) (a .results .now) (a .id) (a .event) (c .before .before .before .before .before .before .before .before .before .before .before .before .before .before .before .before .before .before .before .before .before .before .before .before .before .pre)
     (good
     (c .before .before .before .before .before .before .before .before .before .before .before .before .before .before .before .before .before .before .before .before .before .before .before .before .before)
     fine) (c .before .before .before .before .before .before .before .before .before .before .before .before .look-at .ensures .0)
