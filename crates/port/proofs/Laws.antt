@@ -4,6 +4,7 @@ pub mod Calls
 pub mod Closing
 pub mod Entries
 pub mod Head
+pub mod InUse
 pub mod Kept
 pub mod Left
 pub mod Loaded

@@ -37,7 +37,10 @@ pub(crate) fn put_outcome(bytes: &mut [u8], at: usize, outcome: IsoOutcome)
 
 // The outcome of the requests from `from` to `to`.
 fn fail_at(bytes: &mut [u8], from: u16, to: u16, outcome: IsoOutcome)
-    requires { ⌜ (layoutNumber (now bytes) ≡ 0) × (from ≤ to) × (to ≤ requestsIn (sessionOf (now bytes))) ⌝ }
+    requires { ⌜ (layoutNumber (now bytes) ≡ 0)
+        × Left (now bytes) (now bytes) (sessionOf (now bytes))
+        × (from ≤ to)
+        × (to ≤ requestsIn (sessionOf (now bytes))) ⌝ }
     ensures { λ _. ⌜ Left (now (bytes .entry)) (now (bytes .exit)) (withRequests (sessionOf (now (bytes .entry))) (sets (requestsOf (now (bytes .entry))) from (map (withOutcome outcome) (slice from to (requestsOf (now (bytes .entry))))))) ⌝ }
 {
     let mut i = from;

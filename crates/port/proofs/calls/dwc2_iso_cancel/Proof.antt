@@ -35,7 +35,7 @@ returns-2 c =
     reply-done xs (λ (s : IsoChannelState). cancelled s (c .before .before .before .before .before .before .before .before .args .id)) {s = sessionOf xs}
     {r = cancelled (sessionOf xs) (c .before .before .before .before .before .before .before .before .args .id)}
     (c .before .before .before .before .before .layout-refusal .ensures) (c .before .before .before .before .if1 .left) refl refl
-    (c .before .before .cancel-at .ensures .0) (c .before .before .cancel-at .ensures .1)
+    (c .before .before .cancel-at .ensures .0) (c .before .before .cancel-at .ensures .1 .bytes)
 
 pub dwc2-iso-cancel-spec : {M : Type 1} → statement M
 dwc2-iso-cancel-spec =

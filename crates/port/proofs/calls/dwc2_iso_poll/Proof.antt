@@ -2,12 +2,11 @@
 use mathlib.Core.List.{List}
 use mathlib.Core.Path.{refl, _∙_, sym, ap}
 use Prim.Native.Nat.{ℕ}
-use lib.Seq.{sets}
 use borrow.Author.Needs.{needs}
 use Rattle.session.specs.Poll.{polled, polledRing}
 use Rattle.session.specs.declared.reply.IsoEvent.{IsoEvent}
 use Rattle.session.specs.declared.types.IsoChannelState.{IsoChannelState}
-use Rattle.port.specs.Layout.{sessionOf, saved}
+use Rattle.port.specs.Layout.{sessionOf, leftBytes}
 use Rattle.port.specs.Calls.{eventOf, replyPort}
 use Rattle.port.proofs.Laws.Calls.{refused, done, reply-refused, reply-done}
 use Rattle.port.proofs.calls.dwc2_iso_poll.Statement.{statement}
@@ -59,8 +58,8 @@ returns-2 c =
     (c .before .before .before .before .before .before .before .before .if1 .left) refl refl
     (c .before .before .before .before .poll-on .ensures .0
     ∙ ap (λ (e : IsoEvent). replyPort (polled (sessionOf xs) e ring)) (c .before .before .before .before .before .before .before .event-of .ensures))
-    (c .before .before .before .before .poll-on .ensures .1
-    ∙ ap (λ (e : IsoEvent). sets xs 0 (saved (polled (sessionOf xs) e ring .session)))
+    (c .before .before .before .before .poll-on .ensures .1 .bytes
+    ∙ ap (λ (e : IsoEvent). leftBytes xs (polled (sessionOf xs) e ring .session))
     (c .before .before .before .before .before .before .before .event-of .ensures)) in (
       both .0,
       both .1,

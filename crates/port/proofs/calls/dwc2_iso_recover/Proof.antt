@@ -50,7 +50,7 @@ returns-2 c =
     reply-done xs (λ (s : IsoChannelState). recovered s (length ring)) {s = sessionOf xs} {r = recovered (sessionOf xs) (length ring)}
     (c .before .before .before .before .before .before .before .before .layout-refusal .ensures)
     (c .before .before .before .before .before .before .before .if1 .left) refl refl (c .before .before .before .before .recover-at .ensures .0)
-    (c .before .before .before .before .recover-at .ensures .1) in (
+    (c .before .before .before .before .recover-at .ensures .1 .bytes) in (
       both .0,
       both .1,
       done xs (λ (n : ℕ). ring) (λ (s : IsoChannelState). recoveredRing s ring) (λ (words : List ℕ). words) {s = sessionOf xs}

@@ -31,7 +31,7 @@ returns-2 : tie.Need-returns-2
 returns-2 c =
     let xs = c .before .before .before .before .before .before .before .before .args .session .now in
     reply-done xs resetReply {s = sessionOf xs} {r = resetReply (sessionOf xs)} (c .before .before .before .before .before .layout-refusal .ensures)
-    (c .before .before .before .before .if1 .left) refl refl (c .before .before .reset-at .ensures .0) (c .before .before .reset-at .ensures .1)
+    (c .before .before .before .before .if1 .left) refl refl (c .before .before .reset-at .ensures .0) (c .before .before .reset-at .ensures .1 .bytes)
 
 pub dwc2-iso-reset-spec : {M : Type 1} → statement M
 dwc2-iso-reset-spec =

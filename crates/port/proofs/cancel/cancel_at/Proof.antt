@@ -2,10 +2,11 @@
 use mathlib.Core.Path.{_≡_, refl, _∙_, sym, ap, ap₂, subst⁻¹}
 use mathlib.Core.Bool.{true, false}
 use Prim.Native.Nat.{ℕ, _≤_, _<_}
+use native.Mathlib.Nat.{lt-of-lt-of-le, min-le-right}
 use native.Mathlib.Omega.{arith}
 use lib.Dec.{ltb}
 use lib.ListN.{length}
-use lib.Seq.{slice, sets}
+use lib.Seq.{slice}
 use borrow.Author.Needs.{needs}
 use borrow.Author.Tests.{lt-ltb, le-ltb}
 use Rattle.session.specs.declared.types.IsoHead.{IsoHead}
@@ -15,11 +16,13 @@ use Rattle.session.specs.Record.{isBadRecord}
 use Rattle.session.specs.Cancel.{placeOf, requestAt, withCancelled, cancelled}
 use Rattle.session.proofs.Laws.Record.{Sound, sound}
 use Rattle.session.proofs.Laws.Replies.{cancel-bad, cancel-completed, cancel-unknown, cancel-again, cancel-halt}
-use Rattle.port.specs.Layout.{sessionOf, saved}
+use Rattle.port.specs.Layout.{sessionOf, requestsIn}
 use Rattle.port.proofs.Laws.Calls.{long-enough}
 use Rattle.port.proofs.Laws.Kept.{Octets}
 use Rattle.port.proofs.Laws.Scans.{head-there, reason-there}
+use Rattle.port.proofs.Laws.Left.{left-is}
 use Rattle.port.proofs.Laws.Steps.{outcome-here, stays, becomes}
+use Rattle.port.proofs.Laws.Walks.{requests-in}
 use Rattle.port.proofs.Laws.Placed.{requests-many, plans-many}
 use Rattle.port.proofs.cancel.cancel_at.Statement.{statement}
 use Rattle.port.proofs.cancel.cancel_at.Tie as tie
@@ -50,18 +53,21 @@ place-is c =
     (head-is (c .before .before))
 
 -- the place of a completed request
+in-use :
+    (c : tie.Then2)
+    → c .before .before .place-at .result
+    < requestsIn (sessionOf (c .before .before .before .before .before .before .before .before .before .before .args .bytes .now))
+in-use c =
+    let g = good (c .before .before .before .before .before .before) in
+    let s = sessionOf (c .before .before .before .before .before .before .before .before .before .before .args .bytes .now) in
+    let done : c .before .before .before .before .head-at .result .done ≡ s .head .done =
+    ap (λ (h : IsoHead). h .done) (head-is (c .before .before .before .before)) in
+    subst⁻¹ (λ (n : ℕ). c .before .before .place-at .result < n) (requests-in s (g .count-in)) (omega (arith, done, c .if2 .taken, g .done-in))
+
 below : (c : tie.Then2) → c .before .before .place-at .result < 64
 below c =
-    let done : c .before .before .before .before .head-at .result .done
-    ≡ sessionOf (c .before .before .before .before .before .before .before .before .before .before .args .bytes .now) .head .done =
-    ap (λ (h : IsoHead). h .done) (head-is (c .before .before .before .before)) in
-    omega (
-      arith,
-      done,
-      c .if2 .taken,
-      good (c .before .before .before .before .before .before) .done-in,
-      good (c .before .before .before .before .before .before) .count-in,
-    )
+    lt-of-lt-of-le (in-use c)
+    (min-le-right (sessionOf (c .before .before .before .before .before .before .before .before .before .before .args .bytes .now) .head .count) 64)
 
 not-done :
     (c : tie.Else2)
@@ -161,11 +167,12 @@ returns-2 c =
     (cancelled s (c .before .before .before .before .before .before .before .before .before .before .before .before .before .before .before .args .id))
     (cancel-completed s (c .before .before .before .before .before .before .before .before .before .before .before .before .before .before .before .args .id)
     (fine (c .before .before .before .before .before .before .before .before .before .before .before)) done) (c .reply-port .ensures)
-    (c .before .before .before .put-outcome .ensures
-    ∙ outcome-here xs (octets (c .before .before .before .before .before .before .before .before .before .before .before .before .before .before))
+    (left-is
+    (outcome-here xs (octets (c .before .before .before .before .before .before .before .before .before .before .before .before .before .before))
     (c .before .before .before .before .before .before .before .before .before .before .before .before .before .before .before .pre)
-    (c .before .before .before .before .before .before .before .place-at .result) outcome.Cancelled (below (c .before .before .before .before .before))
-    ∙ ap (λ (n : ℕ). sets xs 0 (saved (withCancelled n s))) (place-is (c .before .before .before .before .before .before .before)))
+    (c .before .before .before .before .before .before .before .place-at .result) outcome.Cancelled (in-use (c .before .before .before .before .before))
+    (below (c .before .before .before .before .before)) (c .before .before .before .put-outcome .ensures))
+    (ap (λ (n : ℕ). withCancelled n s) (place-is (c .before .before .before .before .before .before .before))))
 
 reply-refused-requires-2 : tie.Need-reply-refused-requires-2
 reply-refused-requires-2 c κs = search needs

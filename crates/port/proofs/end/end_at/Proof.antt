@@ -1,7 +1,8 @@
 -- Requests, head and reason are written one after the other, and the ring is cleared as far as the session's.
-use mathlib.Core.Path.{_≡_, refl, _∙_, ap, subst⁻¹}
+use mathlib.Core.Path.{_≡_, refl, _∙_, sym, ap, subst⁻¹}
 use mathlib.Core.Bool.{Bool, cond}
 use Prim.Native.Nat.{ℕ, _≤_}
+use native.Mathlib.Nat.{le-of-eq}
 use native.Mathlib.Omega.{arith}
 use lib.Dec.{ltb}
 use lib.ListN.{length}
@@ -15,6 +16,7 @@ use Rattle.port.proofs.Laws.Calls.{long-enough}
 use Rattle.port.proofs.Laws.Kept.{Octets}
 use Rattle.port.proofs.Laws.Scans.{config-there, head-there}
 use Rattle.port.proofs.Laws.Steps.{same-bytes, end-put}
+use Rattle.port.proofs.Laws.Walks.{requests-in}
 use Rattle.port.proofs.Laws.Placed.{requests-many, plans-many}
 use Rattle.port.proofs.end.end_at.Statement.{statement}
 use Rattle.port.proofs.end.end_at.Tie as tie
@@ -42,11 +44,11 @@ fail-at-requires : tie.Need-fail-at-requires
 fail-at-requires c κs =
     let xs = c .before .before .before .before .before .before .before .before .args .bytes .now in
     let g = good (c .before .before .before .before .before .before .before .before) in (
-      long-enough xs refl (c .before .before .before .before .before .before .before .before .pre .0),
+      c .before .before .before .before .before .before .before .before .pre .0,
       same-bytes xs (octets (c .before .before .before .before .before .before .before))
           (c .before .before .before .before .before .before .before .before .pre .0),
       subst⁻¹ (λ (h : IsoHead). h .done ≤ h .count) (head-is (c .before)) (g .done-in),
-      subst⁻¹ (λ (h : IsoHead). h .count ≤ 64) (head-is (c .before)) (g .count-in),
+      le-of-eq (ap (λ (h : IsoHead). h .count) (head-is (c .before)) ∙ sym (requests-in (sessionOf xs) (g .count-in))),
     )
 
 ended-head-requires : tie.Need-ended-head-requires

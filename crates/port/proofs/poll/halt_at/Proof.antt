@@ -32,10 +32,9 @@ same-length c = search needs
 returns : tie.Need-returns
 returns c =
     let xs = c .before .before .before .before .before .before .args .bytes .now in
-    c .before .before .put-tagged .ensures
-    ∙ ap (λ (t : Tagged). sets xs 34 (taggedBytes t)) (c .before .before .before .fatal-tagged .ensures)
-    ∙ reason-here xs (octets (c .before .before .before .before .before)) (c .before .before .before .before .before .before .pre)
+    reason-here xs (octets (c .before .before .before .before .before)) (c .before .before .before .before .before .before .pre)
     (Reason (c .before .before .before .before .before .before .args .reason))
+    (c .before .before .put-tagged .ensures ∙ ap (λ (t : Tagged). sets xs 34 (taggedBytes t)) (c .before .before .before .fatal-tagged .ensures))
 
 pub halt-at-spec : {M : Type 1} → statement M
 halt-at-spec =

@@ -3,17 +3,17 @@ use mathlib.Core.Path.{_≡_, refl, _∙_, sym, ap}
 use mathlib.Core.Bool.{Bool, not, _||_}
 use native.Mathlib.Omega.{arith}
 use lib.Dec.{eqb}
-use lib.Seq.{sets}
 use borrow.Author.Needs.{needs}
 use Rattle.session.specs.declared.types.IsoHead.{IsoHead}
 use Rattle.session.specs.Session.{hasReason}
 use Rattle.session.specs.Poll.{resetReply}
 use Rattle.session.proofs.Laws.Replies.{reset-bad, reset-full, reset-done}
 use Rattle.session.specs.Scan.{whole}
-use Rattle.port.specs.Layout.{sessionOf, saved}
+use Rattle.port.specs.Layout.{sessionOf}
 use Rattle.port.proofs.Laws.Calls.{long-enough}
 use Rattle.port.proofs.Laws.Kept.{Octets}
 use Rattle.port.proofs.Laws.Scans.{head-there, reason-there}
+use Rattle.port.proofs.Laws.Left.{left-is}
 use Rattle.port.proofs.Laws.Steps.{head-here, stays, becomes}
 use Rattle.port.proofs.reset.reset_at.Statement.{statement}
 use Rattle.port.proofs.reset.reset_at.Tie as tie
@@ -105,12 +105,13 @@ returns-3 c =
     (reset-done s (sym (c .before .before .before .before .before .before .before .before .before .before .before .before .before .scan-at .ensures .bad)
     ∙ c .before .before .before .before .before .before .before .before .before .before .before .before .if1 .left)
     (ap not (sym (some (c .before .before .before .before .before .before)) ∙ c .before .before .before .before .before .if2 .left))) (c .reply-port .ensures)
-    (c .before .before .before .put-head .ensures
-    ∙ head-here xs (octets (c .before .before .before .before .before .before .before .before .before .before .before .before .before .before .before))
+    (left-is
+    (head-here xs (octets (c .before .before .before .before .before .before .before .before .before .before .before .before .before .before .before))
     (c .before .before .before .before .before .before .before .before .before .before .before .before .before .before .before .before .pre)
     (cursor-first (c .before .before .before .before .before .before .before .before .before .before .head-at .result))
-    ∙ ap (λ (h : IsoHead). sets xs 0 (saved (whole (s .cfg) (cursor-first h) (s .fatal) (s .requests) (s .plans))))
-    (c .before .before .before .before .before .before .before .before .before .before .head-at .ensures ∙ head-there xs))
+    (c .before .before .before .put-head .ensures))
+    (ap (λ (h : IsoHead). whole (s .cfg) (cursor-first h) (s .fatal) (s .requests) (s .plans))
+    (c .before .before .before .before .before .before .before .before .before .before .head-at .ensures ∙ head-there xs)))
 
 pub reset-at-spec : {M : Type 1} → statement M
 reset-at-spec =

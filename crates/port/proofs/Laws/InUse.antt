@@ -1,0 +1,78 @@
+-- A poll has no more and no fewer entries in use than before it, so the bytes stay in the layout.
+use mathlib.Core.Path.{_≡_, refl, _∙_, sym, ap}
+use mathlib.Core.Bool.{Bool, true, false, _||_, cond}
+use mathlib.Core.List.{List}
+use Prim.Native.Nat.{ℕ, zero, suc, _+_, _-_, _≤_, _<_}
+use native.Mathlib.Nat.{le-of-eq}
+use native.Mathlib.Omega.{arith}
+use Rattle.session.specs.declared.reply.IsoEvent.{IsoEvent}
+use Rattle.session.specs.declared.reply.IsoReply.{IsoReply}
+use Rattle.session.specs.declared.reply.PollWay.{PollWay}
+use Rattle.session.specs.declared.reply.PollWay.the-variants as way
+use Rattle.session.specs.declared.reply.IsoAnswer.the-variants as answer
+use Rattle.session.specs.declared.types.IsoChannelState.{IsoChannelState}
+use Rattle.session.specs.Session.{allPackets}
+use Rattle.session.specs.End.{endedRequests}
+use Rattle.session.specs.Settle.{settledSession, settledRing, isServed, drain}
+use Rattle.session.specs.Poll.{reply, pollWay, polledBy}
+use Rattle.session.specs.Reclaim.{isFound, looked}
+use Rattle.session.proofs.Laws.Ended.{packets-kept, ended-packets}
+use Rattle.session.proofs.Laws.Record.{Sound}
+use Rattle.session.proofs.Laws.Settled.{all-settled, settled-sound}
+use Rattle.port.specs.Layout.{layoutNumber, sessionOf, requestsIn, plansIn}
+use Rattle.port.specs.Places.{Left}
+use Rattle.port.proofs.Canonical.{left-layout}
+use Rattle.port.proofs.Laws.Walks.{requests-in, plans-in}
+
+pub record InUse (s t : IsoChannelState) : Type 0 where
+  pub count : t .head .count ≡ s .head .count
+  pub packets : allPackets t ≡ allPackets s
+
+in-use-over : (s t u : IsoChannelState) → InUse s t → InUse t u → InUse s u
+in-use-over s t u a b = record { count = b .count ∙ a .count; packets = b .packets ∙ a .packets }
+
+in-use-same : (s : IsoChannelState) → InUse s s
+in-use-same s = record { count = refl; packets = refl }
+
+pub kept-layout :
+    (xs : List ℕ) {ys : List ℕ} {t : IsoChannelState} → layoutNumber xs ≡ 0 → Sound (sessionOf xs) → InUse (sessionOf xs) t → Left xs ys t
+    → layoutNumber ys ≡ 0
+kept-layout xs {ys} {t} z g u k =
+    let s : IsoChannelState = sessionOf xs in
+    let few : t .head .count ≤ 64 = omega (arith, u .count, g .count-in) in
+    let requests : requestsIn t ≡ requestsIn s = requests-in t few ∙ u .count ∙ sym (requests-in s (g .count-in)) in
+    let plans : plansIn t ≡ plansIn s =
+    plans-in t few (omega (arith, u .packets, g .all-few)) ∙ u .packets ∙ sym (plans-in s (g .count-in) (g .all-few)) in
+    left-layout xs z k (le-of-eq requests) (le-of-eq plans)
+
+pub settled-in-use : (s : IsoChannelState) (ring : List ℕ) → Sound s → s .head .done < s .head .count → InUse s (settledSession s ring)
+settled-in-use s ring g h = record { count = refl; packets = all-settled s ring g h }
+
+drain-in-use :
+    (k : ℕ) (bit : Bool) (s : IsoChannelState) (ring : List ℕ) → Sound s → s .head .done + k ≤ s .head .count → InUse s (drain k bit s ring .session)
+drain-in-use zero bit s ring g h = in-use-same s
+drain-in-use (suc k) bit s ring g h =
+    picked (bit || isServed s ring) (in-use-over s (settledSession s ring) (drain k false (settledSession s ring) (settledRing s ring) .session)
+    (settled-in-use s ring g (omega arith))
+    (drain-in-use k false (settledSession s ring) (settledRing s ring) (settled-sound s ring g (omega arith)) (omega arith)))
+  where
+    picked :
+        (b : Bool) → InUse s (drain k false (settledSession s ring) (settledRing s ring) .session)
+        → InUse s (cond b (drain k false (settledSession s ring) (settledRing s ring)) (record { session = s; ring = ring }) .session)
+    picked true n = n
+    picked false n = in-use-same s
+
+polled-in-use : (w : PollWay) (s : IsoChannelState) (ring : List ℕ) → Sound s → InUse s (polledBy w s ring .session)
+polled-in-use way.Nothing s ring g = in-use-same s
+polled-in-use (way.End o) s ring g =
+    record { count = refl; packets = packets-kept (s .requests) (endedRequests o s) (ended-packets o s g) 0 (s .head .count) }
+polled-in-use (way.Halt r) s ring g = record { count = refl; packets = refl }
+polled-in-use way.Wait s ring g = in-use-same s
+polled-in-use (way.Settle bit) s ring g = drain-in-use (s .head .count - s .head .done) bit s ring g (omega (arith, g .done-in))
+
+pub looked-in-use : (id : ℕ) (e : IsoEvent) (s : IsoChannelState) (ring : List ℕ) → Sound s → InUse s (looked id e s ring .session)
+looked-in-use id e s ring g = go (isFound id s)
+  where
+    go : (b : Bool) → InUse s (cond b (reply answer.Done false false s) (polledBy (pollWay s e) s ring) .session)
+    go true = in-use-same s
+    go false = polled-in-use (pollWay s e) s ring g
