@@ -67,17 +67,19 @@ loop-less c = omega arith
 
 loop-again : tie.Need-loop-again Inv-loop μ-loop
 loop-again c =
-    let a = c .before .before .before .before .before .before .before .before .before .args in
+    let start = c .before .before .before .before .before .before .before .before .before in
+    let a = start .args in
     let now = c .before .before .before .before .before .before .before .loop in
+    let got = c .before .before .before .before .plan-at in
+    let put = c .before .before .put-plan in
     let xs = a .bytes .now in
-    let in-table = small (c .before .before .before .before .before .before .before .before .before) in
-    let read = c .before .before .before .before .plan-at .ensures ∙ plan-there (now .bytes) (now .i) blankPlan (omega (arith, in-table)) in
+    let in-table = small start in
+    let read = got .ensures ∙ plan-there (now .bytes) (now .i) blankPlan (omega (arith, in-table)) in
     let less : now .at < a .to = omega arith in
     let turn =
-    plan-turn xs (c .before .before .before .before .before .before .before .before .before .pre .0) (sessionOf xs) (now .at) (c .before .before .before .before .plan-at .result)
-    (lt-of-lt-of-le less (c .before .before .before .before .before .before .before .before .before .pre .2)) (now .inv .2) (c .before .before .put-plan .ensures) in (
+    plan-turn xs (start .pre .0) (sessionOf xs) (now .at) (got .result) (lt-of-lt-of-le less (start .pre .2)) (now .inv .2) (put .ensures) in (
       omega arith,
-      c .before .before .put-plan .kept .0 ∙ now .inv .1,
+      put .kept .0 ∙ now .inv .1,
       turn .1,
       close-turn (now .at) (now .i) (a .to) (plansOf (now .bytes)) blankPlan (omega arith) (omega arith) (omega (arith, in-table, plans-many (now .bytes))) read
           (turn .0)
@@ -89,12 +91,13 @@ same-length c = c .before .loop .inv .1
 
 returns : tie.Need-returns Inv-loop μ-loop
 returns c =
-    let xs = c .before .before .before .args .bytes .now in
+    let a = c .before .before .before .args in
+    let xs = a .bytes .now in
     let now = c .before .loop in
     left-is (now .inv .2)
     (ap (withPlans (sessionOf xs))
     (sym
-    (write-past (λ (vs : List IsoPacketPlan). vs) (now .at) (now .i) (c .before .before .before .args .to) (plansOf (now .bytes)) (plansOf (now .bytes)) refl (omega arith))
+    (write-past (λ (vs : List IsoPacketPlan). vs) (now .at) (now .i) (a .to) (plansOf (now .bytes)) (plansOf (now .bytes)) refl (omega arith))
     ∙ now .inv .3))
 
 pub close-plans-at-spec : {M : Type 1} → statement M

@@ -60,7 +60,8 @@ returns c =
     omega (arith, c .if1 .taken, ap (λ (h : IsoHead). h .done) (head-is (c .before .before .before .before))) in
     let stays = looked-found (a .id) s (place-is (c .before .before)) (a .event) (a .ring .now) less refl in
     let same =
-    loaded-left xs (c .before .before .before .before .before .before .before .before .pre .0) (λ i. omega (arith, c .before .before .before .before .before .before .before .slice-known .given i)) in (
+    loaded-left xs (c .before .before .before .before .before .before .before .before .pre .0)
+    (λ i. omega (arith, c .before .before .before .before .before .before .before .slice-known .given i)) in (
       record {
         taken = ap (λ (r : IsoReply). r .taken) (stays .0);
         halt = ap (λ (r : IsoReply). r .halt) (stays .0);

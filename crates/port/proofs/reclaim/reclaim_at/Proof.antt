@@ -106,24 +106,18 @@ look-at-requires c κs =
 
 look-again-at-requires : tie.Need-look-again-at-requires
 look-again-at-requires c κs =
-    let a =
-    c .before .before .before .before .before .before .before .before .before .before .before .before .before .before .before .before .before .before .before .args in
+    let start = c .before .before .before .before .before .before .before .before .before .before .before .before .before .before .before .before .before .before .before in
+    let a = start .args in
     let xs = a .bytes .now in
-    let s = sessionOf xs in
     let enough =
-    neither (ltb (length (a .ring .now)) (ringWords (s .cfg))) (ltb (length (a .results .now)) 255)
+    neither (ltb (length (a .ring .now)) (ringWords (sessionOf xs .cfg))) (ltb (length (a .results .now)) 255)
     (test-short (c .before .before .before .before .before .before .before .before .before .before .before .before .before)
     (c .before .before .before .before .before .before .before .before .before .before .before .before .if1 .left)) in
-    let g =
-    good
-    (c .before .before .before .before .before .before .before .before .before .before .before .before .before .before .before .before .before .before .before)
-    (sym (c .before .before .before .before .before .before .before .before .before .before .scan-at .ensures .bad)
-    ∙ c .before .before .before .before .before .before .before .before .before .if2 .left) in
+    let scan = c .before .before .before .before .before .before .before .before .before .before .scan-at in
+    let g = good start (sym (scan .ensures .bad) ∙ c .before .before .before .before .before .before .before .before .before .if2 .left) in
     let act = c .before .before .before .before .before .before .look-at .ensures .0 in (
-      looked-layout xs (a .ring .now) (a .results .now) (a .id) (a .event) (c .before .before .before .before .before .before .before .before .before .before .before .before .before .before .before .before .before .before .before .pre)
-          g act,
-      looked-good xs (a .ring .now) (a .results .now) (a .id) (a .event) (c .before .before .before .before .before .before .before .before .before .before .before .before .before .before .before .before .before .before .before .pre)
-          g act,
+      looked-layout xs (a .ring .now) (a .results .now) (a .id) (a .event) (start .pre) g act,
+      looked-good xs (a .ring .now) (a .results .now) (a .id) (a .event) (start .pre) g act,
       ltb-false (length (a .results .now)) 255 (enough .1),
     )
 
@@ -141,22 +135,17 @@ same-length-5 c = search needs
 
 returns-3 : tie.Need-returns-3
 returns-3 c =
-    let a =
-    c .before .before .before .before .before .before .before .before .before .before .before .before .before .before .before .before .before .before .before .before .before .before .before .before .before .args in
-    let fine =
-    sym
-    (c .before .before .before .before .before .before .before .before .before .before .before .before .before .before .before .before .scan-at .ensures .bad)
-    ∙ c .before .before .before .before .before .before .before .before .before .before .before .before .before .before .before .if2 .left in
+    let start = c .before .before .before .before .before .before .before .before .before .before .before .before .before .before .before .before .before .before .before .before .before .before .before .before .before in
+    let a = start .args in
+    let scan = c .before .before .before .before .before .before .before .before .before .before .before .before .before .before .before .before .scan-at in
+    let fine = sym (scan .ensures .bad) ∙ c .before .before .before .before .before .before .before .before .before .before .before .before .before .before .before .if2 .left in
+    let look = c .before .before .before .before .before .before .before .before .before .before .before .before .look-at .ensures in
     let again = c .before .before .before .before .before .look-again-at .ensures in
-    done-in-place (a .bytes .now) (a .ring .now) (a .results .now) (a .id) (a .event) (c .before .before .before .before .before .before .before .before .before .before .before .before .before .before .before .before .before .before .before .before .before .before .before .before .before .pre)
-    (good
-    (c .before .before .before .before .before .before .before .before .before .before .before .before .before .before .before .before .before .before .before .before .before .before .before .before .before)
-    fine) (c .before .before .before .before .before .before .before .before .before .before .before .before .look-at .ensures .0)
+    done-in-place (a .bytes .now) (a .ring .now) (a .results .now) (a .id) (a .event) (start .pre) (good start fine) (look .0)
     (test-short
     (c .before .before .before .before .before .before .before .before .before .before .before .before .before .before .before .before .before .before .before)
     (c .before .before .before .before .before .before .before .before .before .before .before .before .before .before .before .before .before .before .if1 .left))
-    fine (c .before .before .before .before .before .before .before .before .before .before .before .before .look-at .ensures .1) (again .0) (again .1)
-    (again .2) (c .reclaim-port .ensures)
+    fine (look .1) (again .0) (again .1) (again .2) (c .reclaim-port .ensures)
 
 pub reclaim-at-spec : {M : Type 1} → statement M
 reclaim-at-spec =

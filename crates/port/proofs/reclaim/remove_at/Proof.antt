@@ -34,12 +34,14 @@ packets-before-requires c κs = (long (c .before .before .before .before), count
 
 close-plans-at-requires : tie.Need-close-plans-at-requires
 close-plans-at-requires c κs =
-    let a = c .before .before .before .before .before .before .args in
-    let g = good (c .before .before .before .before .before .before) in (
-      c .before .before .before .before .before .before .pre .0,
-      omega (arith, c .before .before .before .before .before .before .pre .3, c .before .before .before .before .before .before .pre .4),
-      plans-used (a .bytes .now) (a .at) (a .from) (a .to) (c .before .packets-before .result) (c .before .before .before .before .before .before .pre .0) (g .count-in) (head-is (c .before .before .before)) (c .before .before .before .before .before .before .pre .3) (c .before .before .before .before .before .before .pre .4)
-          (c .before .packets-before .ensures) (g .all-few),
+    let start = c .before .before .before .before .before .before in
+    let a = start .args in
+    let all = c .before .packets-before in
+    let eh = head-is (c .before .before .before) in (
+      start .pre .0,
+      omega (arith, start .pre .3, start .pre .4),
+      plans-used (a .bytes .now) (a .at) (a .from) (a .to) (all .result) (start .pre .0) (good start .count-in) eh (start .pre .3) (start .pre .4)
+          (all .ensures) (good start .all-few),
     )
 
 add-close-requests-at : tie.Need-add-close-requests-at
@@ -50,33 +52,46 @@ cast-close-requests-at c = search needs
 
 close-requests-at-requires : tie.Need-close-requests-at-requires
 close-requests-at-requires c κs =
-    let a = c .before .before .before .before .before .before .before .before .before .before .args in
-    let g = good (c .before .before .before .before .before .before .before .before .before .before) in (
-      closed-layout (a .bytes .now) (a .at) (a .from) (a .to) (c .before .before .before .before .before .packets-before .result) (c .before .before .before .before .before .before .before .before .before .before .pre .0) (g .count-in) (head-is (c .before .before .before .before .before .before .before)) (c .before .before .before .before .before .before .before .before .before .before .pre .3) (c .before .before .before .before .before .before .before .before .before .before .pre .4)
-          (c .before .before .before .before .before .packets-before .ensures) (c .before .before .before .close-plans-at .ensures),
+    let start = c .before .before .before .before .before .before .before .before .before .before in
+    let a = start .args in
+    let all = c .before .before .before .before .before .packets-before in
+    let plans = c .before .before .before .close-plans-at in
+    let eh = head-is (c .before .before .before .before .before .before .before) in (
+      closed-layout (a .bytes .now) (a .at) (a .from) (a .to) (all .result) (start .pre .0) (good start .count-in) eh (start .pre .3) (start .pre .4)
+          (all .ensures) (plans .ensures),
       omega arith,
-      requests-used (a .bytes .now) (a .at) (a .from) (a .to) (c .before .before .before .before .before .packets-before .result) (c .before .before .before .before .before .before .before .before .before .before .pre .0) (g .count-in) (head-is (c .before .before .before .before .before .before .before)) (c .before .before .before .before .before .before .before .before .before .before .pre .3) (c .before .before .before .before .before .before .before .before .before .before .pre .4)
-          (c .before .before .before .before .before .packets-before .ensures) (c .before .before .before .close-plans-at .ensures),
+      requests-used (a .bytes .now) (a .at) (a .from) (a .to) (all .result) (start .pre .0) (good start .count-in) eh (start .pre .3) (start .pre .4)
+          (all .ensures) (plans .ensures),
     )
 
 one-less-requires : tie.Need-one-less-requires
 one-less-requires c κs =
+    let start = c .before .before .before .before .before .before .before .before .before .before .before .before .before .before in
     let eh = head-is (c .before .before .before .before .before .before .before .before .before .before .before) in (
-      omega (arith, ap (λ (h : IsoHead). h .done) eh, c .before .before .before .before .before .before .before .before .before .before .before .before .before .before .pre .2),
-      omega (arith, ap (λ (h : IsoHead). h .count) eh, c .before .before .before .before .before .before .before .before .before .before .before .before .before .before .pre .2, good (c .before .before .before .before .before .before .before .before .before .before .before .before .before .before) .done-in),
+      omega (arith, ap (λ (h : IsoHead). h .done) eh, start .pre .2),
+      omega (arith, ap (λ (h : IsoHead). h .count) eh, start .pre .2, good start .done-in),
     )
 
 put-head-requires : tie.Need-put-head-requires
-put-head-requires c κs = omega (arith, long (c .before .before .before .before .before .before .before .before .before .before .before .before .before .before .before), c .before .before .before .before .before .before .before .before .close-plans-at .kept .0, c .before .before .before .before .close-requests-at .kept .0)
+put-head-requires c κs =
+    let start = c .before .before .before .before .before .before .before .before .before .before .before .before .before .before .before in
+    let plans = c .before .before .before .before .before .before .before .before .close-plans-at in
+    let requests = c .before .before .before .before .close-requests-at in
+    omega (arith, long start, plans .kept .0, requests .kept .0)
 
 same-length : tie.Need-same-length
 same-length c = search needs
 
 returns : tie.Need-returns
 returns c =
-    let a = c .before .before .before .before .before .before .before .before .before .before .before .before .before .before .before .before .before .before .args in
-    bytes-removed (a .bytes .now) (a .at) (a .from) (a .to) (c .before .before .before .before .before .before .before .before .before .before .before .before .before .packets-before .result) (c .before .before .before .before .before .before .before .before .before .before .before .before .before .before .before .before .before .before .pre .0) (good (c .before .before .before .before .before .before .before .before .before .before .before .before .before .before .before .before .before .before) .count-in) (head-is (c .before .before .before .before .before .before .before .before .before .before .before .before .before .before .before)) (c .before .before .before .before .before .before .before .before .before .before .before .before .before .before .before .before .before .before .pre .3) (c .before .before .before .before .before .before .before .before .before .before .before .before .before .before .before .before .before .before .pre .4)
-    (c .before .before .before .before .before .before .before .before .before .before .before .before .before .packets-before .ensures) (c .before .before .before .before .before .before .before .before .before .before .before .close-plans-at .ensures) (c .before .before .before .before .before .before .before .close-requests-at .ensures) (c .before .before .before .one-less .ensures) (c .before .before .put-head .ensures)
+    let start = c .before .before .before .before .before .before .before .before .before .before .before .before .before .before .before .before .before .before in
+    let a = start .args in
+    let all = c .before .before .before .before .before .before .before .before .before .before .before .before .before .packets-before in
+    let eh = head-is (c .before .before .before .before .before .before .before .before .before .before .before .before .before .before .before) in
+    let plans = c .before .before .before .before .before .before .before .before .before .before .before .close-plans-at in
+    let requests = c .before .before .before .before .before .before .before .close-requests-at in
+    bytes-removed (a .bytes .now) (a .at) (a .from) (a .to) (all .result) (start .pre .0) (good start .count-in) eh (start .pre .3) (start .pre .4) (all .ensures)
+    (plans .ensures) (requests .ensures) (c .before .before .before .one-less .ensures) (c .before .before .put-head .ensures)
 
 pub remove-at-spec : {M : Type 1} → statement M
 remove-at-spec =
