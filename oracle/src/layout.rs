@@ -1,6 +1,6 @@
 //! The bytes of a session, from the port's docs/LAYOUT.md, and the numbers of include/dwc2_port.h.
 
-use crate::model::{Behind, Entry, MAX_PACKETS, MAX_REQUESTS, Packet, Request, Session};
+use crate::model::{Behind, Entry, MAX_PACKETS, MAX_REQUESTS, Packet, Request, Session, Unused};
 use lifted::calls::*;
 
 pub const SESSION_BYTES: usize = 8_488;
@@ -162,6 +162,11 @@ fn packet_of(b: &Bytes, at: usize) -> Option<Packet> {
     Some(Packet { planned: b.u16(at), slot: b.u16(at + 2), actual: b.u16(at + 4), error: flag_named(b.u8(at + 6))? })
 }
 
+fn unused<T>(b: &Bytes, at: usize, width: usize, read: impl Fn(&Bytes, usize) -> Option<T>) -> Unused<T> {
+    read(b, at).map_or_else(|| Unused::Bytes(b.0[at..at + width].to_vec()), Unused::Entry)
+}
+
+/// The entries in use are named, or the bytes are refused; what stands behind them is not looked at.
 fn loaded(b: &Bytes) -> Option<Loaded> {
     if b.0[..3] != *b"DWS" || b.u16(3) != 1 {
         return None;
@@ -169,10 +174,11 @@ fn loaded(b: &Bytes) -> Option<Loaded> {
     let cfg = config_of(b)?;
     let live = flag_named(b.u8(15))?;
     let reason = reason_named(b.u8(34), b.u8(35), b.u32(36))?;
-    let entries = (0..MAX_REQUESTS).map(|i| entry_of(b, REQUESTS_AT + 20 * i)).collect::<Option<Vec<Entry>>>()?;
-    let packets = (0..MAX_PACKETS).map(|i| packet_of(b, PLANS_AT + 7 * i)).collect::<Option<Vec<Packet>>>()?;
     let (done, count) = (usize::from(b.u16(30)), usize::from(b.u16(32)));
-    let used: usize = entries.iter().take(count).map(|e| usize::from(e.packets)).sum();
+    let (request_at, packet_at) = (|i| REQUESTS_AT + 20 * i, |i| PLANS_AT + 7 * i);
+    let entries = (0..count.min(MAX_REQUESTS)).map(|i| entry_of(b, request_at(i))).collect::<Option<Vec<Entry>>>()?;
+    let used: usize = entries.iter().map(|e| usize::from(e.packets)).sum();
+    let packets = (0..used.min(MAX_PACKETS)).map(|i| packet_of(b, packet_at(i))).collect::<Option<Vec<Packet>>>()?;
     if done > count || count > MAX_REQUESTS || used > MAX_PACKETS {
         return Some(Loaded::Beyond(cfg));
     }
@@ -184,7 +190,10 @@ fn loaded(b: &Bytes) -> Option<Loaded> {
     };
     let completed = entries[..done].iter().map(&mut request).collect();
     let pending = entries[done..count].iter().map(&mut request).collect();
-    let behind = Behind { requests: entries[count..].to_vec(), packets: packets[used..].to_vec() };
+    let behind = Behind {
+        requests: (count..MAX_REQUESTS).map(|i| unused(b, request_at(i), 20, entry_of)).collect(),
+        packets: (used..MAX_PACKETS).map(|i| unused(b, packet_at(i), 7, packet_of)).collect(),
+    };
     Some(Loaded::Session(Session {
         cfg,
         next: b.u64(16),
@@ -215,6 +224,35 @@ impl Put<'_> {
         self.number(tag, 1);
         self.number(fault, 1);
         self.number(word, 4);
+    }
+
+    fn as_they_are(&mut self, bytes: &[u8]) {
+        self.bytes[self.at..self.at + bytes.len()].copy_from_slice(bytes);
+        self.at += bytes.len();
+    }
+
+    fn request(&mut self, entry: &Unused<Entry>) {
+        match entry {
+            Unused::Bytes(bytes) => self.as_they_are(bytes),
+            Unused::Entry(e) => {
+                self.number(e.id, 8);
+                self.number(e.total, 4);
+                self.number(e.packets, 2);
+                self.cause(failure_numbers(e.failure));
+            }
+        }
+    }
+
+    fn packet(&mut self, entry: &Unused<Packet>) {
+        match entry {
+            Unused::Bytes(bytes) => self.as_they_are(bytes),
+            Unused::Entry(p) => {
+                self.number(p.planned, 2);
+                self.number(p.slot, 2);
+                self.number(p.actual, 2);
+                self.number(p.error, 1);
+            }
+        }
     }
 
     fn head(&mut self, s: &Session) {
@@ -249,17 +287,13 @@ pub fn save(s: &Session, bytes: &mut [u8]) {
     let behind = s.behind.as_ref().unwrap_or(&blank);
     let all = || s.completed.iter().chain(&s.pending);
     let used = all().map(|r| Entry { id: r.id, total: r.total, packets: r.packets.len() as u16, failure: r.failure });
-    for e in used.chain(behind.requests.iter().copied()).chain(std::iter::repeat(Entry::default())).take(MAX_REQUESTS) {
-        put.number(e.id, 8);
-        put.number(e.total, 4);
-        put.number(e.packets, 2);
-        put.cause(failure_numbers(e.failure));
+    let rest = std::iter::repeat_with(|| Unused::Entry(Entry::default()));
+    for e in used.map(Unused::Entry).chain(behind.requests.iter().cloned()).chain(rest).take(MAX_REQUESTS) {
+        put.request(&e);
     }
     let used = all().flat_map(|r| r.packets.iter().copied());
-    for p in used.chain(behind.packets.iter().copied()).chain(std::iter::repeat(Packet::default())).take(MAX_PACKETS) {
-        put.number(p.planned, 2);
-        put.number(p.slot, 2);
-        put.number(p.actual, 2);
-        put.number(p.error, 1);
+    let rest = std::iter::repeat_with(|| Unused::Entry(Packet::default()));
+    for p in used.map(Unused::Entry).chain(behind.packets.iter().cloned()).chain(rest).take(MAX_PACKETS) {
+        put.packet(&p);
     }
 }

@@ -52,9 +52,10 @@ impl Session {
         let Some(mut behind) = self.behind.take() else { return };
         let all = || self.completed.iter().chain(&self.pending);
         let last = all().last().expect("a request to remove");
-        behind.requests.insert(0, Entry { id: last.id, total: last.total, packets: last.packets.len() as u16, failure: last.failure });
+        let entry = Entry { id: last.id, total: last.total, packets: last.packets.len() as u16, failure: last.failure };
+        behind.requests.insert(0, Unused::Entry(entry));
         let table: Vec<Packet> = all().flat_map(|r| r.packets.iter().copied()).collect();
-        behind.packets.splice(0..0, table[table.len() - packets..].iter().copied());
+        behind.packets.splice(0..0, table[table.len() - packets..].iter().copied().map(Unused::Entry));
         self.behind = Some(behind);
     }
 }

@@ -32,12 +32,19 @@ pub struct Entry {
     pub failure: Option<Failure>,
 }
 
+/// An entry that is not in use: what an entry of the layout says, or bytes that are none and stay.
+#[derive(Clone, PartialEq, Eq, Debug, Hash)]
+pub enum Unused<T> {
+    Entry(T),
+    Bytes(Vec<u8>),
+}
+
 /// What stands behind the entries in use: not of 01, kept only to foretell every byte of the port's session. Removing a request
 /// moves those behind it down and leaves the last where it was (DECISIONS 39 and the promise of `reclaim`).
 #[derive(Clone, PartialEq, Eq, Debug, Hash, Default)]
 pub struct Behind {
-    pub requests: Vec<Entry>,
-    pub packets: Vec<Packet>,
+    pub requests: Vec<Unused<Entry>>,
+    pub packets: Vec<Unused<Packet>>,
 }
 
 #[derive(Clone, PartialEq, Eq, Debug, Hash)]
@@ -110,7 +117,8 @@ impl Session {
 
     /// the same session, with what stands behind its entries
     pub fn with_behind(mut self) -> Session {
-        self.behind = Some(Behind { requests: vec![Entry::default(); MAX_REQUESTS], packets: vec![Packet::default(); MAX_PACKETS] });
+        let (request, packet) = (Unused::Entry(Entry::default()), Unused::Entry(Packet::default()));
+        self.behind = Some(Behind { requests: vec![request; MAX_REQUESTS], packets: vec![packet; MAX_PACKETS] });
         self
     }
 

@@ -11,6 +11,8 @@ struct Aim {
     /// the byte at which a request begins, and at which a packet's plan does
     request: usize,
     plan: usize,
+    /// where the requests in use end, and the plans
+    ends: [usize; 2],
 }
 
 impl Aim {
@@ -19,7 +21,7 @@ impl Aim {
         let used: usize = s.map_or(1, |s| s.completed.iter().chain(&s.pending).map(|r| r.packets.len()).sum::<usize>().max(1));
         let request = 40 + 20 * rng.below(count as u64) as usize;
         let plan = 1_320 + 7 * rng.below(used as u64) as usize;
-        Aim { completed: done as u16, requests: count as u16, request, plan }
+        Aim { completed: done as u16, requests: count as u16, request, plan, ends: [40 + 20 * count, 1_320 + 7 * used] }
     }
 }
 
@@ -42,12 +44,20 @@ fn stretch(rng: &mut Rng) -> (u32, Vec<u8>) {
     (from, (0..count).map(|_| rng.word() as u8).collect())
 }
 
+/// bytes without a meaning, just behind the entries in use of one of the tables
+fn behind(rng: &mut Rng, ends: [usize; 2]) -> (u32, Vec<u8>) {
+    let table = rng.below(2) as usize;
+    let from = ends[table];
+    let room = [1_320, SESSION_BYTES][table].saturating_sub(from).min(600);
+    (from as u32, (0..room).map(|_| rng.word() as u8).collect())
+}
+
 /// damage to the bytes of a session: where it goes, and what stands there then
 pub(super) fn damage(rng: &mut Rng, s: Option<&Session>, bytes: &[u8]) -> (u32, Vec<u8>) {
-    let Aim { completed, requests, request, plan } = Aim::at(rng, s);
+    let Aim { completed, requests, request, plan, ends } = Aim::at(rng, s);
     let small = |rng: &mut Rng| rng.pick(&[0u16, 1, 2, 63, 64, 65, 255, 256, 257, 1_023, 1_024, 1_025, 3_072, 3_073, 65_535]);
     let word16 = |at: usize, value: u16| (at as u32, value.to_le_bytes().to_vec());
-    match rng.below(24) {
+    match rng.below(28) {
         0 => flipped(rng, bytes, 0, 40),
         1 => flipped(rng, bytes, request, 20),
         2 => flipped(rng, bytes, plan, 7),
@@ -71,6 +81,7 @@ pub(super) fn damage(rng: &mut Rng, s: Option<&Session>, bytes: &[u8]) -> (u32, 
         20 => (request as u32, rng.below(8).to_le_bytes().to_vec()),
         21 => ((request + 14) as u32, cause(rng, 6, &[0, 0, 2, 3, 8, 10])),
         22 => (rng.below(3) as u32, vec![rng.word() as u8]),
-        _ => stretch(rng),
+        23 => stretch(rng),
+        _ => behind(rng, ends),
     }
 }

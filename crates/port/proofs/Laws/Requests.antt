@@ -18,7 +18,8 @@ use Rattle.session.specs.declared.types.IsoChannelState.{IsoChannelState}
 use Rattle.port.specs.declared.answers.PortSubmitted.{PortSubmitted}
 use Rattle.port.specs.declared.answers.PortTransfer.{PortTransfer}
 use Rattle.port.specs.Layout.{layoutNumber, sessionOf, saved}
-use Rattle.port.specs.Calls.{byBytes, byKind, submitRefused, submittedPort, transferOf, submitBy, submitBytes, submitRing, byOpen, openBy, openBytes, openRing}
+use Rattle.port.specs.Calls.{byBytes, byKind, submitRefused, submittedPort, transferOf, submitBy, grownBytes, submitBytes, submitRing}
+use Rattle.port.specs.Calls.{byOpen, openBy, openBytes, openRing}
 use Rattle.port.proofs.Laws.Calls.{refused, done}
 
 -- ---- a call whose kind may name nothing
@@ -48,7 +49,7 @@ module _ (xs : List ℕ) (t : PortTransfer) (lengths ring : List ℕ) where
   answerFor s = submittedPort (submitted s (transferOf t) lengths ring)
 
   abbrev bytesFor : IsoChannelState → List ℕ
-  bytesFor s = sets xs 0 (saved (submitted s (transferOf t) lengths ring .session))
+  bytesFor s = grownBytes xs (submitted s (transferOf t) lengths ring .session)
 
   abbrev ringFor : IsoChannelState → List ℕ
   ringFor s = submittedRing s (transferOf t) lengths ring
@@ -74,7 +75,7 @@ module _ (xs : List ℕ) (t : PortTransfer) (lengths ring : List ℕ) where
   pub submit-done :
       {n : ℕ} {u : IsoTransfer} {p : PortSubmitted} {after words : List ℕ} → n ≡ layoutNumber xs → n ≡ 0 → t .kind ≤ 3 → u ≡ transferOf t
       → p ≡ submittedPort (submitted (sessionOf xs) u lengths ring)
-      → after ≡ sets xs 0 (saved (submitted (sessionOf xs) u lengths ring .session))
+      → after ≡ grownBytes xs (submitted (sessionOf xs) u lengths ring .session)
       → words ≡ submittedRing (sessionOf xs) u lengths ring
       → (p ≡ submitBy xs t lengths ring) × (after ≡ submitBytes xs t lengths ring) × (words ≡ submitRing xs t lengths ring)
   submit-done e z h w p b k =
@@ -84,8 +85,8 @@ module _ (xs : List ℕ) (t : PortTransfer) (lengths ring : List ℕ) where
             ∙ ap (λ (x : IsoTransfer). submittedPort (submitted s x lengths ring)) w
             ∙ kind-done xs (t .kind) submitRefused call submittedPort {s = s} {r = call s} e z h refl refl,
         b
-            ∙ ap (λ (x : IsoTransfer). sets xs 0 (saved (submitted s x lengths ring .session))) w
-            ∙ kind-done xs (t .kind) (λ (n : ℕ). xs) call (λ (x : Submitted). sets xs 0 (saved (x .session))) {s = s} {r = call s} e z h refl refl,
+            ∙ ap (λ (x : IsoTransfer). grownBytes xs (submitted s x lengths ring .session)) w
+            ∙ kind-done xs (t .kind) (λ (n : ℕ). xs) call (λ (x : Submitted). grownBytes xs (x .session)) {s = s} {r = call s} e z h refl refl,
         k
             ∙ ap (λ (x : IsoTransfer). submittedRing s x lengths ring) w
             ∙ kind-done xs (t .kind) (λ (n : ℕ). ring) ringFor (λ (x : List ℕ). x) {s = s} {r = ringFor s} e z h refl refl,

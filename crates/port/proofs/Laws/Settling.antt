@@ -3,8 +3,8 @@ use mathlib.Core.Path.{_≡_, refl, _∙_, sym, ap}
 use mathlib.Core.List.{List, [], _∷_, map}
 use Prim.Native.Nat.{ℕ, _+_, _*_, _≤_, _<_}
 use native.Mathlib.Omega.{arith}
-use lib.ListN.{length, getD, set, drop, length-map, length-set}
-use lib.Seq.{slice, sets, length-sets, length-slice}
+use lib.ListN.{length, getD, set, drop, length-map}
+use lib.Seq.{slice, sets, length-slice}
 use Rattle.words.specs.declared.types.Direction.{Direction}
 use Rattle.session.specs.declared.types.IsoHead.{IsoHead}
 use Rattle.session.specs.declared.types.IsoOutcome.the-variants.{Done}
@@ -18,11 +18,14 @@ use Rattle.session.proofs.Laws.Sums.{packets-append}
 use Rattle.session.proofs.Laws.Record.{Sound}
 use Rattle.session.proofs.Laws.Settled.{oldest-in, settled-by}
 use Rattle.session.specs.Scan.{whole}
-use Rattle.port.specs.Layout.{headBytes, requestBytes, requestOf, sessionOf, saved}
-use Rattle.port.specs.Places.{plansOf, withPlans}
+use Rattle.port.specs.Layout.{headBytes, requestBytes, requestOf, layoutNumber, sessionOf}
+use Rattle.port.specs.Places.{plansOf, withPlans, Left}
+use Rattle.port.proofs.Canonical.{request-clear}
+use Rattle.port.proofs.Laws.Calls.{long-enough}
 use Rattle.port.proofs.Laws.Entries.{request}
-use Rattle.port.proofs.Laws.Placed.{request-there, request-put, head-put, requests-many, plans-many}
-use Rattle.port.proofs.Laws.Walks.{there}
+use Rattle.port.proofs.Laws.Left.{kept-head, left-is, left-request}
+use Rattle.port.proofs.Laws.Placed.{request-there, plans-many}
+use Rattle.port.proofs.Laws.Walks.{requests-in}
 
 -- ---- one turn: the plan at `i` became `v`
 
@@ -50,7 +53,7 @@ same-slots d ring now (p ∷ ps) = same-slots d ring (set (set now (2 * p .«des
 
 -- ---- the whole: `b` holds the settled plans, `c` the settled request besides, `d` the head
 
-module _ (xs ring : List ℕ) (from to : ℕ) (dir : Direction) (long : 8488 ≤ length xs) (g : Sound (sessionOf xs))
+module _ (xs ring : List ℕ) (from to : ℕ) (dir : Direction) (z : layoutNumber xs ≡ 0) (g : Sound (sessionOf xs))
     (h : sessionOf xs .head .done < sessionOf xs .head .count) (ef : from ≡ oldestFrom (sessionOf xs)) (et : to ≡ oldestTo (sessionOf xs))
     (ed : dir ≡ sessionOf xs .cfg .direction) where
   abbrev s : IsoChannelState
@@ -61,9 +64,6 @@ module _ (xs ring : List ℕ) (from to : ℕ) (dir : Direction) (long : 8488 ≤
 
   abbrev table : List IsoPacketPlan
   table = sets (s .plans) from (settledBy dir)
-
-  table-many : length table ≡ 1024
-  table-many = length-sets (s .plans) from (settledBy dir) ∙ plans-many xs
 
   plans-end : to ≤ 1024
   plans-end = omega (arith, et, oldest-in s g h, g .all-few)
@@ -82,14 +82,11 @@ module _ (xs ring : List ℕ) (from to : ℕ) (dir : Direction) (long : 8488 ≤
   settled-slice =
       ap (λ (n : ℕ). slice from n table) (sym fits) ∙ slice-sets (settledBy dir) (s .plans) from (omega (arith, fits, plans-end, plans-many xs))
 
-  module _ {b : List ℕ} (eb : b ≡ sets xs 0 (saved (withPlans s table))) where
-    held : sessionOf b ≡ withPlans s table
-    held = ap sessionOf eb ∙ there xs (withPlans s table) long (requests-many xs) table-many
-
+  module _ {b : List ℕ} (eb : Left xs b (withPlans s table)) where
     pub ring-settled : {now : List ℕ} → now ≡ slotsCleared (slice from to (plansOf b)) ring → now ≡ settledRing s ring
     ring-settled e =
         e
-        ∙ ap (λ (t : IsoChannelState). slotsCleared (slice from to (t .plans)) ring) held
+        ∙ ap (λ (t : IsoChannelState). slotsCleared (slice from to (t .plans)) ring) (eb .holds)
         ∙ ap (λ (ps : List IsoPacketPlan). slotsCleared ps ring) settled-slice
         ∙ same-slots dir ring ring (slice from to (s .plans))
         ∙ ap (λ (n : ℕ). slotsCleared (slice n to (s .plans)) ring) ef
@@ -101,7 +98,7 @@ module _ (xs ring : List ℕ) (from to : ℕ) (dir : Direction) (long : 8488 ≤
         → c ≡ sets b (40 + 20 * head .done) (requestBytes (request (r .id) (r .packets) total Done))
         → next ≡ oneMore head
         → d ≡ sets c 15 (headBytes next)
-        → d ≡ sets xs 0 (saved (settledSession s ring))
+        → Left xs d (settledSession s ring)
     bytes-settled {c} {d} {head} {next} {r} {total} eh es er ec en ex =
         let done : ℕ = s .head .done in
         let in-use : done < 64 = omega (arith, h, g .count-in) in
@@ -110,21 +107,16 @@ module _ (xs ring : List ℕ) (from to : ℕ) (dir : Direction) (long : 8488 ≤
         er
         ∙ ap (λ (k : IsoHead). requestOf (drop (40 + 20 * k .done) b)) eh
         ∙ request-there b done blankRequest in-use
-        ∙ ap (λ (t : IsoChannelState). getD (t .requests) done blankRequest) held in
-        let put : c ≡ sets xs 0 (saved (whole (s .cfg) (s .head) (s .fatal) (set (s .requests) done (new (oldest s))) table)) =
-        ec
+        ∙ ap (λ (t : IsoChannelState). getD (t .requests) done blankRequest) (eb .holds) in
+        let long : 8488 ≤ length xs = long-enough xs refl z in
+        let put : Left xs c (whole (s .cfg) (s .head) (s .fatal) (set (s .requests) done (new (oldest s))) table) =
+        left-request long eb done (new (oldest s)) in-use (request-clear xs z done (omega (arith, h, requests-in s (g .count-in))))
+        (ec
         ∙ ap (λ (k : IsoHead). sets b (40 + 20 * k .done) (requestBytes (new r))) eh
-        ∙ ap (λ (q : IsoRequest). sets b (40 + 20 * done) (requestBytes (new q))) read
-        ∙ ap (λ (m : List ℕ). sets m (40 + 20 * done) (requestBytes (new (oldest s)))) eb
-        ∙ request-put xs (withPlans s table) long (requests-many xs) table-many done (new (oldest s)) in-use in
+        ∙ ap (λ (q : IsoRequest). sets b (40 + 20 * done) (requestBytes (new q))) read) in
         let same : table ≡ sets (s .plans) from (settledBy (s .cfg .direction)) = ap (λ (x : Direction). sets (s .plans) from (settledBy x)) ed in
         let sum : total ≡ movedTotal (slice from to table) = es ∙ ap movedTotal (sym settled-slice) in
-        ex
-        ∙ ap (λ (k : IsoHead). sets c 15 (headBytes k)) (en ∙ ap oneMore eh)
-        ∙ ap (λ (m : List ℕ). sets m 15 (headBytes (oneMore (s .head)))) put
-        ∙ head-put xs (whole (s .cfg) (s .head) (s .fatal) (set (s .requests) done (new (oldest s))) table) long
-        (length-set (s .requests) done (new (oldest s)) ∙ requests-many xs) table-many (oneMore (s .head))
-        ∙ ap (λ (t : IsoChannelState). sets xs 0 (saved t))
+        left-is (kept-head long put (oneMore (s .head)) (ex ∙ ap (λ (k : IsoHead). sets c 15 (headBytes k)) (en ∙ ap oneMore eh)))
         (settled-by s ring from to ef et total table (omega (arith, et, plans-end, plans-many xs)) same sum)
 
 -- ---- request by request

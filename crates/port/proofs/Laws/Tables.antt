@@ -77,6 +77,10 @@ module _ (bad : List ℕ → Bool) (w : ℕ) where
       → (b || anyOf bad w more (drop next xs)) ≡ anyOf bad w left (drop at xs)
   any-group k more left at next xs e f p = any-both k more at next xs f p refl ∙ ap (λ (m : ℕ). anyOf bad w m (drop at xs)) (sym e)
 
+  -- before the walk all are still to be looked at
+  pub any-first : (n : ℕ) (xs : List ℕ) → anyOf bad w (n - 0) xs ≡ anyOf bad w n xs
+  any-first n xs = let all : n - 0 ≡ n = omega arith in ap (λ (k : ℕ). anyOf bad w k xs) all
+
   pub any-more :
       (n i at : ℕ) (xs : List ℕ) {b : Bool} → i < n → b ≡ bad (drop at xs) → b ≡ false
       → anyOf bad w (n - (i + 1)) (drop (at + w) xs) ≡ anyOf bad w (n - i) (drop at xs)

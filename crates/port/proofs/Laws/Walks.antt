@@ -27,6 +27,10 @@ pub head-there : (xs : List ℕ) → headOf xs ≡ sessionOf xs .head
 unfolding sessionOf
 head-there xs = refl
 
+pub count-there : (xs : List ℕ) → u16Of (drop 32 xs) ≡ sessionOf xs .head .count
+unfolding sessionOf headOf
+count-there xs = refl
+
 pub config-there : (xs : List ℕ) → configOf xs ≡ sessionOf xs .cfg
 unfolding sessionOf
 config-there xs = refl

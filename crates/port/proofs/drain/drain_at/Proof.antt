@@ -1,11 +1,11 @@
--- The invariant: the bytes hold a good record whose plans pending begin at `from`, and draining it from here gives the goal. The measure is how many
--- requests are pending.
+-- The invariant: the bytes are of the layout and hold, in the place of those at the beginning, a good record whose plans pending begin at `from`, and
+-- draining it from here gives the goal. The measure is how many requests are pending.
 use mathlib.Core.Path.{_≡_, refl, _∙_, sym, ap, subst⁻¹}
 use mathlib.Core.Bool.{Bool, true, false, not, _||_}
 use Prim.Native.Nat.{ℕ, _+_, _-_, _*_, _≤_, _<_}
 use native.Mathlib.Omega.{arith}
 use lib.ListN.{length, getD}
-use lib.Seq.{slice, sets}
+use lib.Seq.{slice}
 use borrow.Author.Tests.{not-true, not-false}
 use Rattle.words.specs.Words.{isSet, active}
 use Rattle.session.specs.declared.types.IsoHead.{IsoHead}
@@ -14,11 +14,13 @@ use Rattle.session.specs.Session.{blankPlan, packetsOf}
 use Rattle.session.specs.Settle.{oldestFrom, oldestTo, isServed, settledSession, Drained, drained}
 use Rattle.session.proofs.Laws.Record.{Sound, sound, not-bad}
 use Rattle.session.proofs.Laws.Settled.{oldest-in, oldest-some, settled-sound, drained-past, drained-stop, drained-next}
-use Rattle.port.specs.Layout.{layoutNumber, sessionOf, saved}
-use Rattle.port.specs.Places.{requestsOf, plansOf}
-use Rattle.port.proofs.Canonical.{loaded-saved}
+use Rattle.port.specs.Layout.{layoutNumber, sessionOf}
+use Rattle.port.specs.Places.{requestsOf, plansOf, Left}
+use Rattle.port.proofs.Canonical.{loaded-left}
 use Rattle.port.proofs.Laws.Calls.{long-enough}
-use Rattle.port.proofs.Laws.Walks.{head-there, called-again}
+use Rattle.port.proofs.Laws.InUse.{kept-layout, settled-in-use}
+use Rattle.port.proofs.Laws.Left.{left-is, left-over}
+use Rattle.port.proofs.Laws.Walks.{head-there}
 use Rattle.port.proofs.Laws.Settling.{oldest-ends, settled-from}
 use Rattle.port.proofs.Laws.Placed.{requests-many, plans-many}
 use Rattle.port.proofs.drain.drain_at.Statement.{statement}
@@ -27,7 +29,7 @@ use Rattle.port.proofs.drain.drain_at.Tie as tie
 abbrev Inv-loop : tie.InvT-loop
 Inv-loop bytes₀ bit ring₀ count done₀ from₀ at-once₀ bytes ring done from at-once =
     Sound (sessionOf bytes) × (layoutNumber bytes ≡ 0) × (length bytes ≡ length bytes₀) × (length ring ≡ length ring₀) × (done ≡ sessionOf bytes .head .done)
-    × (count ≡ sessionOf bytes .head .count) × (from ≡ oldestFrom (sessionOf bytes)) × (bytes ≡ sets bytes₀ 0 (saved (sessionOf bytes)))
+    × (count ≡ sessionOf bytes .head .count) × (from ≡ oldestFrom (sessionOf bytes)) × (Left bytes₀ bytes (sessionOf bytes))
     × (drained at-once (sessionOf bytes) ring ≡ drained bit (sessionOf bytes₀) ring₀)
 
 abbrev μ-loop : tie.MeasureT-loop
@@ -91,8 +93,8 @@ loop-holds c =
       ap (λ (h : IsoHead). h .done) eh,
       ap (λ (h : IsoHead). h .count) eh,
       c .packets-before .ensures ∙ ap (λ (h : IsoHead). packetsOf (slice 0 (h .done) (requestsOf xs))) eh,
-      sym (loaded-saved xs (λ i. omega (arith, c .before .before .before .before .before .slice-known .given i))
-          (c .before .before .before .before .before .before .pre .0)),
+      loaded-left xs (c .before .before .before .before .before .before .pre .0)
+          (λ i. omega (arith, c .before .before .before .before .before .slice-known .given i)),
       refl,
     )
 
@@ -134,10 +136,7 @@ returns c =
     let stop : (now .at-once || isServed s (now .ring)) ≡ false =
     ap (λ (b : Bool). now .at-once || b) (sym (served-is (c .before))) ∙ not-true _ (c .if1 .taken) in
     let e = sym (drained-stop (now .at-once) s (now .ring) (pending (c .before .before .before .before .before .before)) stop) ∙ now .inv .8 in (
-      now .inv .7
-          ∙ ap (λ (d : Drained).
-          sets (c .before .before .before .before .before .before .before .before .before .before .before .before .before .before .args .bytes .now) 0
-          (saved (d .session))) e,
+      left-is (now .inv .7) (ap (λ (d : Drained). d .session) e),
       ap (λ (d : Drained). d .ring) e,
     )
 
@@ -171,26 +170,26 @@ loop-again c =
     let more : s .head .done < s .head .count =
     pending (c .before .before .before .before .before .before .before .before .before .before .before .before .before) in
     let g : Sound t = settled-sound s (now .ring) (now .inv .0) more in
-    let call =
-    called-again
-    (c .before .before .before .before .before .before .before .before .before .before .before .before .before .before .before .before .before .before .before .before .before .args .bytes .now)
-    (now .bytes) t (long
-    (c .before .before .before .before .before .before .before .before .before .before .before .before .before .before .before .before .before .before .before .before .before))
-    (now .inv .2) (g .requests-long) (g .plans-long) (now .inv .7) (after .ensures .0) in
+    let left = after .ensures .0 in
+    let holds = left .holds in
     let go : (now .at-once || isServed s (now .ring)) ≡ true =
     ap (λ (b : Bool). now .at-once || b) (sym (served-is (c .before .before .before .before .before .before .before .before)))
     ∙ not-false _ (c .before .before .before .before .before .before .before .if1 .left) in (
-      subst⁻¹ Sound (call .0) g,
-      call .1,
+      subst⁻¹ Sound holds g,
+      kept-layout (now .bytes) (now .inv .1) (now .inv .0) (settled-in-use s (now .ring) (now .inv .0) more) left,
       after .kept .0 ∙ now .inv .2,
       after .kept .1 .1 .1 .0 ∙ now .inv .3,
-      omega (arith, now .inv .4, ap (λ (u : IsoChannelState). u .head .done) (call .0)),
-      now .inv .5 ∙ sym (ap (λ (u : IsoChannelState). u .head .count) (call .0)),
+      omega (arith, now .inv .4, ap (λ (u : IsoChannelState). u .head .done) holds),
+      now .inv .5 ∙ sym (ap (λ (u : IsoChannelState). u .head .count) holds),
       to-is (c .before .before .before .before .before .before .before .before .before .before .before)
           ∙ sym (settled-from s (now .ring) (now .inv .0) more)
-          ∙ sym (ap oldestFrom (call .0)),
-      call .2,
-      ap (λ (u : IsoChannelState). drained false u (after .last .1 .1 .1 .0)) (call .0)
+          ∙ sym (ap oldestFrom holds),
+      left-is
+          (left-over (long
+          (c .before .before .before .before .before .before .before .before .before .before .before .before .before .before .before .before .before .before .before .before .before))
+          (now .inv .7) left)
+          (sym holds),
+      ap (λ (u : IsoChannelState). drained false u (after .last .1 .1 .1 .0)) holds
           ∙ ap (drained false t) (after .ensures .1)
           ∙ sym (drained-next (now .at-once) s (now .ring) more go)
           ∙ now .inv .8,
@@ -207,8 +206,7 @@ returns-2 c =
     let now = c .before .loop in
     let s = sessionOf (now .bytes) in
     let e = sym (drained-past (now .at-once) s (now .ring) (omega (arith, now .inv .4, now .inv .5))) ∙ now .inv .8 in (
-      now .inv .7
-          ∙ ap (λ (d : Drained). sets (c .before .before .before .before .before .before .before .before .args .bytes .now) 0 (saved (d .session))) e,
+      left-is (now .inv .7) (ap (λ (d : Drained). d .session) e),
       ap (λ (d : Drained). d .ring) e,
     )
 

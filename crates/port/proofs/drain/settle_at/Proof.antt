@@ -4,13 +4,14 @@ use Prim.Native.Nat.{_≤_, _<_}
 use native.Mathlib.Omega.{arith}
 use lib.ListN.{length}
 use borrow.Author.Needs.{needs}
+use Rattle.session.specs.Session.{allPackets}
 use Rattle.session.proofs.Laws.Record.{Sound, sound}
 use Rattle.session.proofs.Laws.Settled.{oldest-in}
 use Rattle.session.specs.declared.types.IsoHead.{IsoHead}
 use Rattle.port.specs.Tags.{directionOf}
 use Rattle.port.specs.Layout.{sessionOf}
 use Rattle.port.proofs.Laws.Calls.{long-enough}
-use Rattle.port.proofs.Laws.Walks.{head-there, direction-there}
+use Rattle.port.proofs.Laws.Walks.{head-there, direction-there, plans-in}
 use Rattle.port.proofs.Laws.Settling.{ring-settled, bytes-settled}
 use Rattle.port.proofs.Laws.Placed.{requests-many, plans-many}
 use Rattle.port.proofs.drain.settle_at.Statement.{statement}
@@ -22,8 +23,9 @@ long c = long-enough (c .args .bytes .now) refl (c .pre .0)
 good : (c : tie.Start) → Sound (sessionOf (c .args .bytes .now))
 good c = let xs = c .args .bytes .now in sound (sessionOf xs) (requests-many xs) (plans-many xs) (c .pre .1)
 
-ends : (c : tie.Start) → c .args .to ≤ 1024
-ends c = let g = good c in omega (arith, c .pre .4, oldest-in (sessionOf (c .args .bytes .now)) g (c .pre .2), g .all-few)
+-- the plans of the oldest request are in use
+ends : (c : tie.Start) → c .args .to ≤ allPackets (sessionOf (c .args .bytes .now))
+ends c = omega (arith, c .pre .4, oldest-in (sessionOf (c .args .bytes .now)) (good c) (c .pre .2))
 
 head-is : (c : tie.After-head-at) → c .head-at .result ≡ sessionOf (c .before .before .before .before .args .bytes .now) .head
 head-is c = c .head-at .ensures ∙ head-there (c .before .before .before .before .args .bytes .now)
@@ -49,7 +51,13 @@ settle-plans-at-requires c κs = (
     c .before .before .before .before .before .before .before .before .before .pre .3,
     c .before .before .before .before .before .before .before .before .before .pre .4,
   ),
-  ends (c .before .before .before .before .before .before .before .before .before),
+  omega (
+    arith,
+    ends (c .before .before .before .before .before .before .before .before .before),
+    plans-in (sessionOf (c .before .before .before .before .before .before .before .before .before .args .bytes .now))
+        (good (c .before .before .before .before .before .before .before .before .before) .count-in)
+        (good (c .before .before .before .before .before .before .before .before .before) .all-few),
+  ),
 )
 
 clear-slots-at-requires : tie.Need-clear-slots-at-requires
@@ -59,7 +67,11 @@ clear-slots-at-requires c κs = (
     long (c .before .before .before .before .before .before .before .before .before .before .before .before .before .before),
     c .before .before .before .before .settle-plans-at .kept .0,
   ),
-  ends (c .before .before .before .before .before .before .before .before .before .before .before .before .before .before),
+  omega (
+    arith,
+    ends (c .before .before .before .before .before .before .before .before .before .before .before .before .before .before),
+    good (c .before .before .before .before .before .before .before .before .before .before .before .before .before .before) .all-few,
+  ),
 )
 
 cast-place : tie.Need-cast-place
@@ -126,8 +138,8 @@ returns c =
     ∙ direction-there xs in
     let plans =
     c .before .before .before .before .before .before .before .before .before .before .before .before .before .before .before .before .before .before .before .settle-plans-at .ensures in (
-      bytes-settled xs (a .ring .now) (a .from) (a .to) dir (long
-          (c .before .before .before .before .before .before .before .before .before .before .before .before .before .before .before .before .before .before .before .before .before .before .before .before .before .before .before .before .before))
+      bytes-settled xs (a .ring .now) (a .from) (a .to) dir
+          (c .before .before .before .before .before .before .before .before .before .before .before .before .before .before .before .before .before .before .before .before .before .before .before .before .before .before .before .before .before .pre .0)
           (good
           (c .before .before .before .before .before .before .before .before .before .before .before .before .before .before .before .before .before .before .before .before .before .before .before .before .before .before .before .before .before))
           (c .before .before .before .before .before .before .before .before .before .before .before .before .before .before .before .before .before .before .before .before .before .before .before .before .before .before .before .before .before .pre .2)
@@ -139,8 +151,8 @@ returns c =
           (c .before .before .before .before .before .before .before .before .before .request-at .ensures)
           (c .before .before .before .before .before .before .before .put-request .ensures) (c .before .before .before .one-more .ensures)
           (c .before .before .put-head .ensures),
-      ring-settled xs (a .ring .now) (a .from) (a .to) dir (long
-          (c .before .before .before .before .before .before .before .before .before .before .before .before .before .before .before .before .before .before .before .before .before .before .before .before .before .before .before .before .before))
+      ring-settled xs (a .ring .now) (a .from) (a .to) dir
+          (c .before .before .before .before .before .before .before .before .before .before .before .before .before .before .before .before .before .before .before .before .before .before .before .before .before .before .before .before .before .pre .0)
           (good
           (c .before .before .before .before .before .before .before .before .before .before .before .before .before .before .before .before .before .before .before .before .before .before .before .before .before .before .before .before .before))
           (c .before .before .before .before .before .before .before .before .before .before .before .before .before .before .before .before .before .before .before .before .before .before .before .before .before .before .before .before .before .pre .2)

@@ -1,72 +1,89 @@
--- The invariant: a bad entry is among those still to be looked at exactly if one is in the table. The measure is how many turns are left.
+-- The invariant of both loops: a bad entry is among those still to be looked at exactly if one is in use. The measure is how many are left.
 use mathlib.Core.Path.{_≡_, refl, _∙_, sym}
 use Prim.Native.Nat.{_+_, _-_, _*_, _≤_}
 use native.Mathlib.Omega.{arith}
 use lib.ListN.{drop}
 use Rattle.port.specs.Layout.{anyOf, isBadPlanBytes}
-use Rattle.port.proofs.Laws.Tables.{any-both, any-group, any-end}
+use Rattle.port.proofs.Laws.Tables.{any-first, any-group, any-found, any-more, any-end}
 use Rattle.port.proofs.load.any_bad_plan.Statement.{statement}
 use Rattle.port.proofs.load.any_bad_plan.Tie as tie
 
 abbrev Inv-loop : tie.InvT-loop
-Inv-loop bytes at₀ i₀ at i =
-    (i ≤ 64) × (at ≡ 1320 + 112 * i) × (anyOf isBadPlanBytes 7 (1024 - 16 * i) (drop at bytes) ≡ anyOf isBadPlanBytes 7 1024 (drop 1320 bytes))
+Inv-loop bytes m at₀ i₀ at i =
+    (i ≤ m) × (at ≡ 1320 + 7 * i) × (anyOf isBadPlanBytes 7 (m - i) (drop at bytes) ≡ anyOf isBadPlanBytes 7 m (drop 1320 bytes))
 
 abbrev μ-loop : tie.MeasureT-loop
-μ-loop bytes at₀ i₀ at i = 64 - i
+μ-loop bytes m at₀ i₀ at i = m - i
 
-loop-holds : tie.Need-loop-holds Inv-loop μ-loop
-loop-holds c = (omega arith, refl, refl)
+abbrev Inv-loop2 : tie.InvT-loop2
+Inv-loop2 = Inv-loop
 
-any-of-eight-requires : tie.Need-any-of-eight-requires Inv-loop μ-loop
+abbrev μ-loop2 : tie.MeasureT-loop2
+μ-loop2 = μ-loop
+
+loop-holds : tie.Need-loop-holds Inv-loop μ-loop Inv-loop2 μ-loop2
+loop-holds c = (omega arith, refl, any-first isBadPlanBytes 7 (c .before .args .m) (drop 1320 (c .before .args .bytes .now)))
+
+add-loop : tie.Need-add-loop Inv-loop μ-loop Inv-loop2 μ-loop2
+add-loop c = omega arith
+
+any-of-eight-requires : tie.Need-any-of-eight-requires Inv-loop μ-loop Inv-loop2 μ-loop2
 any-of-eight-requires c κs = omega arith
 
-add-any-of-eight : tie.Need-add-any-of-eight Inv-loop μ-loop
-add-any-of-eight c = omega arith
-
-any-of-eight-requires-2 : tie.Need-any-of-eight-requires-2 Inv-loop μ-loop
-any-of-eight-requires-2 c κs = omega arith
-
-returns : tie.Need-returns Inv-loop μ-loop
+returns : tie.Need-returns Inv-loop μ-loop Inv-loop2 μ-loop2
 returns c =
-    any-group isBadPlanBytes 7 16 (1024 - 16 * (c .before .before .before .before .loop .i + 1)) (1024 - 16 * c .before .before .before .before .loop .i)
-    (c .before .before .before .before .loop .at) (c .before .before .before .before .loop .at + 112)
-    (c .before .before .before .before .before .before .args .bytes .now) (omega arith)
-    (omega arith)
-    (sym (c .if1 .taken)
-    ∙ any-both isBadPlanBytes 7 8 8 (c .before .before .before .before .loop .at) (c .before .before .before .before .loop .at + 56)
-    (c .before .before .before .before .before .before .args .bytes .now) (omega arith) (c .before .before .any-of-eight .ensures)
-    (c .before .any-of-eight2 .ensures))
-    ∙ c .before .before .before .before .loop .inv .2
+    any-group isBadPlanBytes 7 8 (c .before .before .before .before .before .args .m - (c .before .before .before .loop .i + 8)) (c .before .before .before .before .before .args .m - c .before .before .before .loop .i) (c .before .before .before .loop .at) (c .before .before .before .loop .at + 56) (c .before .before .before .before .before .args .bytes .now) (omega arith)
+    (omega arith) (sym (c .if1 .taken) ∙ c .before .any-of-eight .ensures)
+    ∙ c .before .before .before .loop .inv .2
 
-add-at : tie.Need-add-at Inv-loop μ-loop
+add-at : tie.Need-add-at Inv-loop μ-loop Inv-loop2 μ-loop2
 add-at c = omega arith
 
-add-i : tie.Need-add-i Inv-loop μ-loop
+add-i : tie.Need-add-i Inv-loop μ-loop Inv-loop2 μ-loop2
 add-i c = omega arith
 
-loop-less : tie.Need-loop-less Inv-loop μ-loop
+loop-less : tie.Need-loop-less Inv-loop μ-loop Inv-loop2 μ-loop2
 loop-less c = omega arith
 
-loop-again : tie.Need-loop-again Inv-loop μ-loop
+loop-again : tie.Need-loop-again Inv-loop μ-loop Inv-loop2 μ-loop2
 loop-again c = (
   omega arith,
   omega arith,
-  any-group isBadPlanBytes 7 16 (1024 - 16 * (c .before .before .before .before .loop .i + 1)) (1024 - 16 * c .before .before .before .before .loop .i)
-      (c .before .before .before .before .loop .at) (c .before .before .before .before .loop .at + 112)
-      (c .before .before .before .before .before .before .args .bytes .now) (omega arith)
-      (omega arith)
-      (sym (c .if1 .left)
-      ∙ any-both isBadPlanBytes 7 8 8 (c .before .before .before .before .loop .at) (c .before .before .before .before .loop .at + 56)
-      (c .before .before .before .before .before .before .args .bytes .now) (omega arith) (c .before .before .any-of-eight .ensures)
-      (c .before .any-of-eight2 .ensures))
-      ∙ c .before .before .before .before .loop .inv .2,
+  any-group isBadPlanBytes 7 8 (c .before .before .before .before .before .args .m - (c .before .before .before .loop .i + 8)) (c .before .before .before .before .before .args .m - c .before .before .before .loop .i) (c .before .before .before .loop .at) (c .before .before .before .loop .at + 56) (c .before .before .before .before .before .args .bytes .now) (omega arith)
+      (omega arith) (sym (c .if1 .left) ∙ c .before .any-of-eight .ensures)
+      ∙ c .before .before .before .loop .inv .2,
 )
 
-returns-2 : tie.Need-returns-2 Inv-loop μ-loop
+loop2-holds : tie.Need-loop2-holds Inv-loop μ-loop Inv-loop2 μ-loop2
+loop2-holds c = c .before .loop .inv
+
+is-bad-plan-at-requires : tie.Need-is-bad-plan-at-requires Inv-loop μ-loop Inv-loop2 μ-loop2
+is-bad-plan-at-requires c κs = omega arith
+
+returns-2 : tie.Need-returns-2 Inv-loop μ-loop Inv-loop2 μ-loop2
 returns-2 c =
-    any-end isBadPlanBytes 7 1024 (16 * c .before .loop .i) (drop (c .before .loop .at) (c .before .before .before .args .bytes .now)) (omega arith)
-    ∙ c .before .loop .inv .2
+    any-found isBadPlanBytes 7 (c .before .before .before .before .before .before .before .args .m) (c .before .before .before .loop2 .i) (c .before .before .before .loop2 .at) (c .before .before .before .before .before .before .before .args .bytes .now) (omega arith) (c .before .is-bad-plan-at .ensures) (c .if2 .taken)
+    ∙ c .before .before .before .loop2 .inv .2
+
+add-at-2 : tie.Need-add-at-2 Inv-loop μ-loop Inv-loop2 μ-loop2
+add-at-2 c = omega arith
+
+add-i-2 : tie.Need-add-i-2 Inv-loop μ-loop Inv-loop2 μ-loop2
+add-i-2 c = omega arith
+
+loop2-less : tie.Need-loop2-less Inv-loop μ-loop Inv-loop2 μ-loop2
+loop2-less c = omega arith
+
+loop2-again : tie.Need-loop2-again Inv-loop μ-loop Inv-loop2 μ-loop2
+loop2-again c = (
+  omega arith,
+  omega arith,
+  any-more isBadPlanBytes 7 (c .before .before .before .before .before .before .before .args .m) (c .before .before .before .loop2 .i) (c .before .before .before .loop2 .at) (c .before .before .before .before .before .before .before .args .bytes .now) (omega arith) (c .before .is-bad-plan-at .ensures) (c .if2 .left)
+      ∙ c .before .before .before .loop2 .inv .2,
+)
+
+returns-3 : tie.Need-returns-3 Inv-loop μ-loop Inv-loop2 μ-loop2
+returns-3 c = any-end isBadPlanBytes 7 (c .before .before .before .before .before .args .m) (c .before .loop2 .i) (drop (c .before .loop2 .at) (c .before .before .before .before .before .args .bytes .now)) (omega arith) ∙ c .before .loop2 .inv .2
 
 pub any-bad-plan-spec : {M : Type 1} → statement M
 any-bad-plan-spec =
@@ -74,13 +91,21 @@ any-bad-plan-spec =
     (tie.spec
     Inv-loop
     μ-loop
+    Inv-loop2
+    μ-loop2
     loop-holds
+    add-loop
     any-of-eight-requires
-    add-any-of-eight
-    any-of-eight-requires-2
     returns
     add-at
     add-i
     loop-less
     loop-again
-    returns-2)
+    loop2-holds
+    is-bad-plan-at-requires
+    returns-2
+    add-at-2
+    add-i-2
+    loop2-less
+    loop2-again
+    returns-3)

@@ -1,30 +1,29 @@
--- The invariant: a bad entry is among those still to be looked at exactly if one is in the table. The measure is how many are left.
+-- The invariant: a bad entry is among those still to be looked at exactly if one is in use. The measure is how many are left.
 use mathlib.Core.Path.{_≡_, refl, _∙_}
 use Prim.Native.Nat.{_+_, _-_, _*_, _≤_}
 use native.Mathlib.Omega.{arith}
 use lib.ListN.{drop}
 use Rattle.port.specs.Layout.{anyOf, isBadRequestBytes}
-use Rattle.port.proofs.Laws.Tables.{any-found, any-more, any-end}
+use Rattle.port.proofs.Laws.Tables.{any-first, any-found, any-more, any-end}
 use Rattle.port.proofs.load.any_bad_request.Statement.{statement}
 use Rattle.port.proofs.load.any_bad_request.Tie as tie
 
 abbrev Inv-loop : tie.InvT-loop
-Inv-loop bytes at₀ i₀ at i =
-    (i ≤ 64) × (at ≡ 40 + 20 * i) × (anyOf isBadRequestBytes 20 (64 - i) (drop at bytes) ≡ anyOf isBadRequestBytes 20 64 (drop 40 bytes))
+Inv-loop bytes n at₀ i₀ at i =
+    (i ≤ n) × (at ≡ 40 + 20 * i) × (anyOf isBadRequestBytes 20 (n - i) (drop at bytes) ≡ anyOf isBadRequestBytes 20 n (drop 40 bytes))
 
 abbrev μ-loop : tie.MeasureT-loop
-μ-loop bytes at₀ i₀ at i = 64 - i
+μ-loop bytes n at₀ i₀ at i = n - i
 
 loop-holds : tie.Need-loop-holds Inv-loop μ-loop
-loop-holds c = (omega arith, refl, refl)
+loop-holds c = (omega arith, refl, any-first isBadRequestBytes 20 (c .before .args .n) (drop 40 (c .before .args .bytes .now)))
 
 is-bad-outcome-at-requires : tie.Need-is-bad-outcome-at-requires Inv-loop μ-loop
 is-bad-outcome-at-requires c κs = omega arith
 
 returns : tie.Need-returns Inv-loop μ-loop
 returns c =
-    any-found isBadRequestBytes 20 64 (c .before .before .before .loop .i) (c .before .before .before .loop .at)
-    (c .before .before .before .before .before .args .bytes .now) (omega arith) (c .before .is-bad-outcome-at .ensures) (c .if1 .taken)
+    any-found isBadRequestBytes 20 (c .before .before .before .before .before .args .n) (c .before .before .before .loop .i) (c .before .before .before .loop .at) (c .before .before .before .before .before .args .bytes .now) (omega arith) (c .before .is-bad-outcome-at .ensures) (c .if1 .taken)
     ∙ c .before .before .before .loop .inv .2
 
 add-at : tie.Need-add-at Inv-loop μ-loop
@@ -40,15 +39,12 @@ loop-again : tie.Need-loop-again Inv-loop μ-loop
 loop-again c = (
   omega arith,
   omega arith,
-  any-more isBadRequestBytes 20 64 (c .before .before .before .loop .i) (c .before .before .before .loop .at)
-      (c .before .before .before .before .before .args .bytes .now) (omega arith) (c .before .is-bad-outcome-at .ensures) (c .if1 .left)
+  any-more isBadRequestBytes 20 (c .before .before .before .before .before .args .n) (c .before .before .before .loop .i) (c .before .before .before .loop .at) (c .before .before .before .before .before .args .bytes .now) (omega arith) (c .before .is-bad-outcome-at .ensures) (c .if1 .left)
       ∙ c .before .before .before .loop .inv .2,
 )
 
 returns-2 : tie.Need-returns-2 Inv-loop μ-loop
-returns-2 c =
-    any-end isBadRequestBytes 20 64 (c .before .loop .i) (drop (c .before .loop .at) (c .before .before .before .args .bytes .now)) (omega arith)
-    ∙ c .before .loop .inv .2
+returns-2 c = any-end isBadRequestBytes 20 (c .before .before .before .args .n) (c .before .loop .i) (drop (c .before .loop .at) (c .before .before .before .args .bytes .now)) (omega arith) ∙ c .before .loop .inv .2
 
 pub any-bad-request-spec : {M : Type 1} → statement M
 any-bad-request-spec =

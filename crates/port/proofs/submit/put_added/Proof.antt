@@ -32,6 +32,7 @@ returns : tie.Need-returns
 returns c =
     none-put (c .before .before .before .args .bytes .now) (octets (c .before .before)) (c .before .before .before .pre .0)
     (c .before .before .before .args .lengths .now) (c .before .before .before .args .parts) (omega (arith, c .if1 .taken))
+    (c .before .before .before .pre .4)
 
 mul-at : tie.Need-mul-at
 mul-at c = omega (arith, fit (c .before) .plans)
@@ -82,9 +83,9 @@ returns-2 c =
     (c .before .before .before .before .before .before .before .before .before .before .before .before .before .before .pre .0)
     (c .before .before .before .before .before .before .before .before .before .before .before .before .before .before .args .lengths .now)
     (c .before .before .before .before .before .before .before .before .before .before .before .before .before .before .args .parts)
-    (c .before .before .before .before .before .before .before .before .before .before .before .before .before .before .pre .1)
     (omega (arith, c .before .before .before .before .before .before .before .before .before .before .before .if1 .left))
     (fit (c .before .before .before .before .before .before .before .before .before .before .before))
+    (c .before .before .before .before .before .before .before .before .before .before .before .before .before .before .pre .1)
     (c .before .before .before .before .before .before .before .before .put-packets .ensures) (c .before .before .before .before .before .new-request .ensures)
     (c .before .before .put-request .ensures)
 

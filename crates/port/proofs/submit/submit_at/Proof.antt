@@ -84,6 +84,7 @@ put-added-requires c κs =
       ap (λ (s : IsoChannelState). s .head) (read-is (c .before .before .before .before .before .before .before)),
       p .some-slots,
       p .fitting,
+      p .as-many,
     )
 
 put-head-requires : tie.Need-put-head-requires
