@@ -106,7 +106,8 @@ look-at-requires c κs =
 
 look-again-at-requires : tie.Need-look-again-at-requires
 look-again-at-requires c κs =
-    let start = c .before .before .before .before .before .before .before .before .before .before .before .before .before .before .before .before .before .before .before in
+    let start =
+    c .before .before .before .before .before .before .before .before .before .before .before .before .before .before .before .before .before .before .before in
     let a = start .args in
     let xs = a .bytes .now in
     let enough =
@@ -135,10 +136,13 @@ same-length-5 c = search needs
 
 returns-3 : tie.Need-returns-3
 returns-3 c =
-    let start = c .before .before .before .before .before .before .before .before .before .before .before .before .before .before .before .before .before .before .before .before .before .before .before .before .before in
+    let start =
+    c .before .before .before .before .before .before .before .before .before .before .before .before .before .before .before .before .before .before .before .before .before .before .before .before .before in
     let a = start .args in
     let scan = c .before .before .before .before .before .before .before .before .before .before .before .before .before .before .before .before .scan-at in
-    let fine = sym (scan .ensures .bad) ∙ c .before .before .before .before .before .before .before .before .before .before .before .before .before .before .before .if2 .left in
+    let fine =
+    sym (scan .ensures .bad)
+    ∙ c .before .before .before .before .before .before .before .before .before .before .before .before .before .before .before .if2 .left in
     let look = c .before .before .before .before .before .before .before .before .before .before .before .before .look-at .ensures in
     let again = c .before .before .before .before .before .look-again-at .ensures in
     done-in-place (a .bytes .now) (a .ring .now) (a .results .now) (a .id) (a .event) (start .pre) (good start fine) (look .0)
