@@ -28,7 +28,8 @@ extern "C" {
  *
  * Every call that takes a session tests its bytes first:
  *    17  fewer than DWC2_ISO_SESSION_BYTES bytes;
- *    18  a wrong mark or version, or a byte that names nothing (docs/LAYOUT.md, "What is refused").
+ *    18  a wrong mark or version, or a byte that names nothing, of the head or an entry in use (docs/LAYOUT.md, "What is refused").
+ * The bytes of entries that are not in use have no meaning and are not looked at.
  * Refused so, a call answers that number and zeros, and alters nothing. Else it acts on the session where it stands, as document 01
  * says, and answers. The call's own 17 (its other arrays), 18 (the record) and the rest follow in 01's order. A refusal that leaves
  * the session as it was leaves its bytes as they were. A call that does not return (power lost) may leave the bytes part of the way:

@@ -1,10 +1,11 @@
 -- Closing up in place: one turn of a walk that moves a table's entries down, and the bytes without a request after the last store.
-use mathlib.Core.Path.{_≡_, refl, _∙_, ap}
+use mathlib.Core.Path.{_≡_, refl, _∙_, sym, ap}
 use mathlib.Core.Bool.{Bool, cond}
 use mathlib.Core.List.{List, map}
 use Prim.Native.Nat.{ℕ, _+_, _≤_, _<_}
+use native.Mathlib.Nat.{le-refl, le-of-eq}
 use lib.ListN.{length, getD, set}
-use lib.Seq.{slice, sets, length-sets}
+use lib.Seq.{slice, sets}
 use Rattle.session.specs.declared.types.IsoHead.{IsoHead}
 use Rattle.session.specs.declared.types.IsoRequest.{IsoRequest}
 use Rattle.session.specs.declared.types.IsoPacketPlan.{IsoPacketPlan}
@@ -14,10 +15,12 @@ use Rattle.session.specs.Reclaim.{isDone, resultWord, plansBegin, plansEnd, clo
 use Rattle.session.proofs.Laws.Lists.{amend-next}
 use Rattle.session.proofs.Laws.Handed.{removed-by}
 use Rattle.session.specs.Scan.{whole}
-use Rattle.port.specs.Layout.{headBytes, layoutNumber, sessionOf, saved}
-use Rattle.port.specs.Places.{plansOf, withRequests, withPlans}
-use Rattle.port.proofs.Laws.Placed.{head-put, requests-many, plans-many}
-use Rattle.port.proofs.Laws.Walks.{there, layout-there, saved-over}
+use Rattle.port.specs.Layout.{headBytes, layoutNumber, sessionOf, requestsIn, plansIn}
+use Rattle.port.specs.Places.{requestsOf, withRequests, withPlans, Left}
+use Rattle.port.proofs.Canonical.{left-layout}
+use Rattle.port.proofs.Laws.Calls.{long-enough}
+use Rattle.port.proofs.Laws.Left.{left-is, left-over, kept-head}
+use Rattle.port.proofs.Laws.Walks.{requests-in, plans-in}
 
 -- one turn: the entry at `i` was stored at `into`
 pub close-turn :
@@ -27,10 +30,10 @@ close-turn {A} into i t l d h k n ev e =
     ap (λ (m : List A). sets m (into + 1) (slice (i + 1) t m)) (e ∙ ap (set l into) ev)
     ∙ amend-next (λ (vs : List A). vs) into i t l d (getD l i d) h k n (λ rest. refl)
 
--- ---- the whole: `b` holds the requests closed up, `c` the plans besides, `d` the head
+-- ---- the whole: `b` holds the plans closed up, `c` the requests besides, `d` the head
 
-module _ (xs : List ℕ) (at from to all : ℕ) {head : IsoHead} (long : 8488 ≤ length xs) (eh : head ≡ sessionOf xs .head)
-    (ef : from ≡ plansBegin at (sessionOf xs)) (et : to ≡ plansEnd at (sessionOf xs))
+module _ (xs : List ℕ) (at from to all : ℕ) {head : IsoHead} (z : layoutNumber xs ≡ 0) (few : sessionOf xs .head .count ≤ 64)
+    (eh : head ≡ sessionOf xs .head) (ef : from ≡ plansBegin at (sessionOf xs)) (et : to ≡ plansEnd at (sessionOf xs))
     (ea : all ≡ packetsOf (slice 0 (head .count) (sessionOf xs .requests))) where
   abbrev s : IsoChannelState
   s = sessionOf xs
@@ -41,41 +44,36 @@ module _ (xs : List ℕ) (at from to all : ℕ) {head : IsoHead} (long : 8488 �
   abbrev table : List IsoPacketPlan
   table = closedUp from to all (s .plans)
 
-  left-many : length left ≡ 64
-  left-many = length-sets (s .requests) at (slice (at + 1) (head .count) (s .requests)) ∙ requests-many xs
-
-  table-many : length table ≡ 1024
-  table-many = length-sets (s .plans) from (slice to all (s .plans)) ∙ plans-many xs
-
   all-is : all ≡ allPackets s
   all-is = ea ∙ ap (λ (h : IsoHead). packetsOf (slice 0 (h .count) (s .requests))) eh
 
-  module _ {b : List ℕ} (eb : b ≡ sets xs 0 (saved (withRequests s left))) where
-    pub closed-layout : layoutNumber b ≡ 0
-    closed-layout = ap layoutNumber eb ∙ layout-there xs (withRequests s left) long left-many (plans-many xs)
+  -- the plans that move are in use
+  pub plans-used : allPackets s ≤ 1024 → all ≤ plansIn s
+  plans-used h = le-of-eq (all-is ∙ sym (plans-in s few h))
 
-    held : sessionOf b ≡ withRequests s left
-    held = ap sessionOf eb ∙ there xs (withRequests s left) long left-many (plans-many xs)
+  module _ {b : List ℕ} (eb : Left xs b (withPlans s table)) where
+    -- as many entries are in use as before
+    pub closed-layout : layoutNumber b ≡ 0
+    closed-layout = left-layout xs z eb (le-refl (requestsIn s)) (le-refl (plansIn s))
+
+    -- the requests that move are in use
+    pub requests-used : head .count ≤ requestsIn (sessionOf b)
+    requests-used = le-of-eq (ap (λ (h : IsoHead). h .count) eh ∙ sym (requests-in s few) ∙ sym (ap requestsIn (eb .holds)))
 
     pub bytes-removed :
-        {c d : List ℕ} {next : IsoHead} → c ≡ sets b 0 (saved (withPlans (sessionOf b) (closedUp from to all (plansOf b))))
+        {c d : List ℕ} {next : IsoHead} → Left b c (withRequests (sessionOf b) (closedUp at (at + 1) (head .count) (requestsOf b)))
         → next ≡ oneLess head
         → d ≡ sets c 15 (headBytes next)
-        → d ≡ sets xs 0 (saved (removed at s))
+        → Left xs d (removed at s)
     bytes-removed {c} ec en ed =
-        let both : IsoChannelState = whole (s .cfg) (s .head) (s .fatal) left table in
+        let long : 8488 ≤ length xs = long-enough xs refl z in
         let count-is : left ≡ closedUp at (at + 1) (s .head .count) (s .requests) =
         ap (λ (h : IsoHead). closedUp at (at + 1) (h .count) (s .requests)) eh in
-        let put : c ≡ sets xs 0 (saved both) =
-        ec
-        ∙ ap (λ (t : IsoChannelState). sets b 0 (saved (withPlans t (closedUp from to all (t .plans))))) held
-        ∙ ap (λ (m : List ℕ). sets m 0 (saved both)) eb
-        ∙ saved-over xs (withRequests s left) both long left-many (plans-many xs) left-many table-many in
-        ed
-        ∙ ap (λ (h : IsoHead). sets c 15 (headBytes h)) (en ∙ ap oneLess eh)
-        ∙ ap (λ (m : List ℕ). sets m 15 (headBytes (oneLess (s .head)))) put
-        ∙ head-put xs both long left-many table-many (oneLess (s .head))
-        ∙ ap (λ (t : IsoChannelState). sets xs 0 (saved t)) (removed-by at s from to ef et all left table all-is count-is refl)
+        let both : Left xs c (whole (s .cfg) (s .head) (s .fatal) left table) =
+        left-is (left-over long eb ec)
+        (ap (λ (t : IsoChannelState). withRequests t (closedUp at (at + 1) (head .count) (t .requests))) (eb .holds)) in
+        let put = kept-head long both (oneLess (s .head)) (ed ∙ ap (λ (h : IsoHead). sets c 15 (headBytes h)) (en ∙ ap oneLess eh)) in
+        left-is put (removed-by at s from to ef et all left table all-is count-is refl)
 
 -- the results that a request hands out, by what was read of it
 pub handed-in-place :

@@ -356,10 +356,10 @@ left-over {xs} {ys} {zs} {s} {t} long k l =
     record {
       bytes =
           l .bytes
-              ∙ parts 0 0 ys t
-              ∙ ap (λ (x : List ℕ). front t ++ (x ++ (P 0 0 ys t ++ E 0 0 ys t))) r
-              ∙ ap₂ (λ (x y : List ℕ). front t ++ (R 0 0 xs t ++ (x ++ y))) p e
-              ∙ sym (parts 0 0 xs t);
+          ∙ parts 0 0 ys t
+          ∙ ap (λ (x : List ℕ). front t ++ (x ++ (P 0 0 ys t ++ E 0 0 ys t))) r
+          ∙ ap₂ (λ (x y : List ℕ). front t ++ (R 0 0 xs t ++ (x ++ y))) p e
+          ∙ sym (parts 0 0 xs t);
       holds = l .holds;
     }
 

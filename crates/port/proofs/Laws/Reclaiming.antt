@@ -2,9 +2,8 @@
 use mathlib.Core.Path.{_≡_, refl, _∙_, ap, subst⁻¹}
 use mathlib.Core.Bool.{Bool, false}
 use mathlib.Core.List.{List}
-use Prim.Native.Nat.{ℕ, _≤_}
+use Prim.Native.Nat.{ℕ}
 use lib.ListN.{length}
-use lib.Seq.{sets}
 use Rattle.session.specs.declared.types.IsoChannelState.{IsoChannelState}
 use Rattle.session.specs.declared.reply.IsoEvent.{IsoEvent}
 use Rattle.session.specs.declared.reply.IsoReply.{IsoReply}
@@ -18,12 +17,12 @@ use Rattle.session.proofs.Laws.Reclaims.{reclaim-done, looked-sound}
 use Rattle.port.specs.declared.answers.PortReclaimed.{PortReclaimed}
 use Rattle.port.specs.declared.poll.PollSaid.{PollSaid}
 use Rattle.port.specs.Tags.{flagTag}
-use Rattle.port.specs.Layout.{layoutNumber, sessionOf, saved}
+use Rattle.port.specs.Layout.{layoutNumber, sessionOf, leftBytes}
 use Rattle.port.specs.Calls.{bytesBy, wordsBy, reclaimPort, reclaimRefused, reclaimedPort, reclaimBy}
-use Rattle.port.specs.Places.{Acted}
-use Rattle.port.proofs.Laws.Calls.{refused, done}
-use Rattle.port.proofs.Laws.Walks.{there, layout-there, saved-over}
-use Rattle.port.proofs.Laws.Placed.{requests-many, plans-many}
+use Rattle.port.specs.Places.{Acted, Left}
+use Rattle.port.proofs.Laws.Calls.{long-enough, refused, done}
+use Rattle.port.proofs.Laws.InUse.{kept-layout, looked-in-use}
+use Rattle.port.proofs.Laws.Left.{left-is, left-over}
 
 module _ (xs ring results : List ℕ) (id : ℕ) (e : IsoEvent) where
   abbrev s : IsoChannelState
@@ -33,44 +32,38 @@ module _ (xs ring results : List ℕ) (id : ℕ) (e : IsoEvent) where
   abbrev Told : PortReclaimed → List ℕ → List ℕ → List ℕ → Type 0
   Told p ys words after =
       (p ≡ reclaimedPort (reclaimed s id e ring (length results)))
-      × (ys ≡ sets xs 0 (saved (reclaimed s id e ring (length results) .session)))
+      × Left xs ys (reclaimed s id e ring (length results) .session)
       × (words ≡ reclaimedRing s id e ring (length results))
       × (after ≡ reclaimedResults s id e ring results)
 
   pub refused-in-place :
-      {n : ℕ} {p : PortReclaimed} → xs ≡ sets xs 0 (saved s) → p ≡ reclaimRefused n
+      {n : ℕ} {p : PortReclaimed} → Left xs xs s → p ≡ reclaimRefused n
       → (reclaimReply (Refused n) false false s ≡ reclaimed s id e ring (length results))
       × (ring ≡ reclaimedRing s id e ring (length results))
       × (results ≡ reclaimedResults s id e ring results)
       → Told p xs ring results
   refused-in-place same ep told = (
     ep ∙ ap reclaimedPort (told .0),
-    same ∙ ap (λ (r : Reclaimed). sets xs 0 (saved (r .session))) (told .0),
+    left-is same (ap (λ (r : Reclaimed). r .session) (told .0)),
     told .1,
     told .2,
   )
 
-  module _ (long : 8488 ≤ length xs) (g : Sound s) {look : PollSaid} {b : List ℕ} (act : Acted xs b look (looked id e s ring)) where
+  module _ (z : layoutNumber xs ≡ 0) (g : Sound s) {look : PollSaid} {b : List ℕ} (act : Acted xs b look (looked id e s ring)) where
     abbrev t : IsoChannelState
     t = looked id e s ring .session
 
-    sound-t : Sound t
-    sound-t = looked-sound id e s ring g
-
-    held : sessionOf b ≡ t
-    held = ap sessionOf (act .bytes) ∙ there xs t long (sound-t .requests-long) (sound-t .plans-long)
-
     pub looked-layout : layoutNumber b ≡ 0
-    looked-layout = ap layoutNumber (act .bytes) ∙ layout-there xs t long (sound-t .requests-long) (sound-t .plans-long)
+    looked-layout = kept-layout xs z g (looked-in-use id e s ring g) (act .bytes)
 
     pub looked-good : isBadRecord (sessionOf b) ≡ false
-    looked-good = not-bad (sessionOf b) (subst⁻¹ Sound held sound-t)
+    looked-good = not-bad (sessionOf b) (subst⁻¹ Sound (act .bytes .holds) (looked-sound id e s ring g))
 
     pub done-in-place :
         {a : ReclaimAnswer} {c words after : List ℕ} {p : PortReclaimed} → isShort s (length ring) (length results) ≡ false → isBadRecord s ≡ false
         → words ≡ lookedRing id e s ring
         → ((taken halt : Bool) → reclaimReply a taken halt (sessionOf c) ≡ lookedAgain id taken halt (sessionOf b))
-        → c ≡ sets b 0 (saved (sessionOf c))
+        → Left b c (sessionOf c)
         → after ≡ lookedResults id (sessionOf b) results
         → p ≡ reclaimPort a (flagTag (look .taken)) (flagTag (look .halt))
         → Told p c words after
@@ -78,15 +71,13 @@ module _ (xs ring results : List ℕ) (id : ℕ) (e : IsoEvent) where
         let x : IsoReply = looked id e s ring in
         let r : reclaimReply a (look .taken) (look .halt) (sessionOf c) ≡ lookedAgain id (x .taken) (x .halt) (x .session) =
         again (look .taken) (look .halt)
-        ∙ ap (lookedAgain id (look .taken) (look .halt)) held
+        ∙ ap (lookedAgain id (look .taken) (look .halt)) (act .bytes .holds)
         ∙ ap (λ (y : Bool). lookedAgain id y (look .halt) t) (act .taken)
         ∙ ap (λ (y : Bool). lookedAgain id (x .taken) y t) (act .halt) in
-        let told = reclaim-done s id e ring results {first-look = x} h k refl r ew (ea ∙ ap (λ (u : IsoChannelState). lookedResults id u results) held) in (
+        let told =
+        reclaim-done s id e ring results {first-look = x} h k refl r ew (ea ∙ ap (λ (u : IsoChannelState). lookedResults id u results) (act .bytes .holds)) in (
           ep ∙ ap reclaimedPort (told .0),
-          ec
-              ∙ ap (λ (m : List ℕ). sets m 0 (saved (sessionOf c))) (act .bytes)
-              ∙ saved-over xs t (sessionOf c) long (sound-t .requests-long) (sound-t .plans-long) (requests-many c) (plans-many c)
-              ∙ ap (λ (y : Reclaimed). sets xs 0 (saved (y .session))) (told .0),
+          left-is (left-over (long-enough xs refl z) (act .bytes) ec) (ap (λ (y : Reclaimed). y .session) (told .0)),
           told .1,
           told .2,
         )
@@ -107,7 +98,7 @@ module _ (xs ring results : List ℕ) (id : ℕ) (e : IsoEvent) where
   pub refused-by-bytes : {n : ℕ} {p : PortReclaimed} → n ≡ layoutNumber xs → (n ≡ 0 → ⊥) → p ≡ reclaimRefused n → Promised p xs ring results
   refused-by-bytes l z ep = (
     ep ∙ refused xs reclaimRefused (λ (s : IsoChannelState). reclaimedPort (call s)) l z,
-    refused xs (λ (n : ℕ). xs) (λ (s : IsoChannelState). sets xs 0 (saved (call s .session))) l z,
+    refused xs (λ (n : ℕ). xs) (λ (s : IsoChannelState). leftBytes xs (call s .session)) l z,
     refused xs (λ (n : ℕ). ring) (λ (s : IsoChannelState). reclaimedRing s id e ring (length results)) l z,
     refused xs (λ (n : ℕ). results) (λ (s : IsoChannelState). reclaimedResults s id e ring results) l z,
   )
@@ -119,7 +110,7 @@ module _ (xs ring results : List ℕ) (id : ℕ) (e : IsoEvent) where
       let s : IsoChannelState = sessionOf xs in
       let same : List ℕ → List ℕ = λ (words : List ℕ). words in (
         told .0 ∙ done xs reclaimRefused call reclaimedPort {s = s} {r = call s} l z refl refl,
-        told .1 ∙ done xs (λ (n : ℕ). xs) call (λ (r : Reclaimed). sets xs 0 (saved (r .session))) {s = s} {r = call s} l z refl refl,
+        told .1 .bytes ∙ done xs (λ (n : ℕ). xs) call (λ (r : Reclaimed). leftBytes xs (r .session)) {s = s} {r = call s} l z refl refl,
         told .2
             ∙ done xs (λ (n : ℕ). ring) (λ (t : IsoChannelState). reclaimedRing t id e ring (length results)) same {s = s}
             {r = reclaimedRing s id e ring (length results)} l z refl refl,

@@ -32,9 +32,11 @@ any-of-eight-requires c κs = omega arith
 
 returns : tie.Need-returns Inv-loop μ-loop Inv-loop2 μ-loop2
 returns c =
-    any-group isBadPlanBytes 7 8 (c .before .before .before .before .before .args .m - (c .before .before .before .loop .i + 8)) (c .before .before .before .before .before .args .m - c .before .before .before .loop .i) (c .before .before .before .loop .at) (c .before .before .before .loop .at + 56) (c .before .before .before .before .before .args .bytes .now) (omega arith)
-    (omega arith) (sym (c .if1 .taken) ∙ c .before .any-of-eight .ensures)
-    ∙ c .before .before .before .loop .inv .2
+    let a = c .before .before .before .before .before .args in
+    let l = c .before .before .before .loop in
+    any-group isBadPlanBytes 7 8 (a .m - (l .i + 8)) (a .m - l .i) (l .at) (l .at + 56) (a .bytes .now) (omega arith) (omega arith)
+    (sym (c .if1 .taken) ∙ c .before .any-of-eight .ensures)
+    ∙ l .inv .2
 
 add-at : tie.Need-add-at Inv-loop μ-loop Inv-loop2 μ-loop2
 add-at c = omega arith
@@ -46,13 +48,13 @@ loop-less : tie.Need-loop-less Inv-loop μ-loop Inv-loop2 μ-loop2
 loop-less c = omega arith
 
 loop-again : tie.Need-loop-again Inv-loop μ-loop Inv-loop2 μ-loop2
-loop-again c = (
-  omega arith,
-  omega arith,
-  any-group isBadPlanBytes 7 8 (c .before .before .before .before .before .args .m - (c .before .before .before .loop .i + 8)) (c .before .before .before .before .before .args .m - c .before .before .before .loop .i) (c .before .before .before .loop .at) (c .before .before .before .loop .at + 56) (c .before .before .before .before .before .args .bytes .now) (omega arith)
-      (omega arith) (sym (c .if1 .left) ∙ c .before .any-of-eight .ensures)
-      ∙ c .before .before .before .loop .inv .2,
-)
+loop-again c =
+    let a = c .before .before .before .before .before .args in
+    let l = c .before .before .before .loop in
+    let rest =
+    any-group isBadPlanBytes 7 8 (a .m - (l .i + 8)) (a .m - l .i) (l .at) (l .at + 56) (a .bytes .now) (omega arith) (omega arith)
+    (sym (c .if1 .left) ∙ c .before .any-of-eight .ensures) in
+    (omega arith, omega arith, rest ∙ l .inv .2)
 
 loop2-holds : tie.Need-loop2-holds Inv-loop μ-loop Inv-loop2 μ-loop2
 loop2-holds c = c .before .loop .inv
@@ -62,8 +64,9 @@ is-bad-plan-at-requires c κs = omega arith
 
 returns-2 : tie.Need-returns-2 Inv-loop μ-loop Inv-loop2 μ-loop2
 returns-2 c =
-    any-found isBadPlanBytes 7 (c .before .before .before .before .before .before .before .args .m) (c .before .before .before .loop2 .i) (c .before .before .before .loop2 .at) (c .before .before .before .before .before .before .before .args .bytes .now) (omega arith) (c .before .is-bad-plan-at .ensures) (c .if2 .taken)
-    ∙ c .before .before .before .loop2 .inv .2
+    let a = c .before .before .before .before .before .before .before .args in
+    let l = c .before .before .before .loop2 in
+    any-found isBadPlanBytes 7 (a .m) (l .i) (l .at) (a .bytes .now) (omega arith) (c .before .is-bad-plan-at .ensures) (c .if2 .taken) ∙ l .inv .2
 
 add-at-2 : tie.Need-add-at-2 Inv-loop μ-loop Inv-loop2 μ-loop2
 add-at-2 c = omega arith
@@ -75,15 +78,17 @@ loop2-less : tie.Need-loop2-less Inv-loop μ-loop Inv-loop2 μ-loop2
 loop2-less c = omega arith
 
 loop2-again : tie.Need-loop2-again Inv-loop μ-loop Inv-loop2 μ-loop2
-loop2-again c = (
-  omega arith,
-  omega arith,
-  any-more isBadPlanBytes 7 (c .before .before .before .before .before .before .before .args .m) (c .before .before .before .loop2 .i) (c .before .before .before .loop2 .at) (c .before .before .before .before .before .before .before .args .bytes .now) (omega arith) (c .before .is-bad-plan-at .ensures) (c .if2 .left)
-      ∙ c .before .before .before .loop2 .inv .2,
-)
+loop2-again c =
+    let a = c .before .before .before .before .before .before .before .args in
+    let l = c .before .before .before .loop2 in
+    let rest = any-more isBadPlanBytes 7 (a .m) (l .i) (l .at) (a .bytes .now) (omega arith) (c .before .is-bad-plan-at .ensures) (c .if2 .left) in
+    (omega arith, omega arith, rest ∙ l .inv .2)
 
 returns-3 : tie.Need-returns-3 Inv-loop μ-loop Inv-loop2 μ-loop2
-returns-3 c = any-end isBadPlanBytes 7 (c .before .before .before .before .before .args .m) (c .before .loop2 .i) (drop (c .before .loop2 .at) (c .before .before .before .before .before .args .bytes .now)) (omega arith) ∙ c .before .loop2 .inv .2
+returns-3 c =
+    let a = c .before .before .before .before .before .args in
+    let l = c .before .loop2 in
+    any-end isBadPlanBytes 7 (a .m) (l .i) (drop (l .at) (a .bytes .now)) (omega arith) ∙ l .inv .2
 
 pub any-bad-plan-spec : {M : Type 1} → statement M
 any-bad-plan-spec =

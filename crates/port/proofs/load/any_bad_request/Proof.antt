@@ -23,8 +23,9 @@ is-bad-outcome-at-requires c κs = omega arith
 
 returns : tie.Need-returns Inv-loop μ-loop
 returns c =
-    any-found isBadRequestBytes 20 (c .before .before .before .before .before .args .n) (c .before .before .before .loop .i) (c .before .before .before .loop .at) (c .before .before .before .before .before .args .bytes .now) (omega arith) (c .before .is-bad-outcome-at .ensures) (c .if1 .taken)
-    ∙ c .before .before .before .loop .inv .2
+    let a = c .before .before .before .before .before .args in
+    let l = c .before .before .before .loop in
+    any-found isBadRequestBytes 20 (a .n) (l .i) (l .at) (a .bytes .now) (omega arith) (c .before .is-bad-outcome-at .ensures) (c .if1 .taken) ∙ l .inv .2
 
 add-at : tie.Need-add-at Inv-loop μ-loop
 add-at c = omega arith
@@ -36,15 +37,17 @@ loop-less : tie.Need-loop-less Inv-loop μ-loop
 loop-less c = omega arith
 
 loop-again : tie.Need-loop-again Inv-loop μ-loop
-loop-again c = (
-  omega arith,
-  omega arith,
-  any-more isBadRequestBytes 20 (c .before .before .before .before .before .args .n) (c .before .before .before .loop .i) (c .before .before .before .loop .at) (c .before .before .before .before .before .args .bytes .now) (omega arith) (c .before .is-bad-outcome-at .ensures) (c .if1 .left)
-      ∙ c .before .before .before .loop .inv .2,
-)
+loop-again c =
+    let a = c .before .before .before .before .before .args in
+    let l = c .before .before .before .loop in
+    let rest = any-more isBadRequestBytes 20 (a .n) (l .i) (l .at) (a .bytes .now) (omega arith) (c .before .is-bad-outcome-at .ensures) (c .if1 .left) in
+    (omega arith, omega arith, rest ∙ l .inv .2)
 
 returns-2 : tie.Need-returns-2 Inv-loop μ-loop
-returns-2 c = any-end isBadRequestBytes 20 (c .before .before .before .args .n) (c .before .loop .i) (drop (c .before .loop .at) (c .before .before .before .args .bytes .now)) (omega arith) ∙ c .before .loop .inv .2
+returns-2 c =
+    let a = c .before .before .before .args in
+    let l = c .before .loop in
+    any-end isBadRequestBytes 20 (a .n) (l .i) (drop (l .at) (a .bytes .now)) (omega arith) ∙ l .inv .2
 
 pub any-bad-request-spec : {M : Type 1} → statement M
 any-bad-request-spec =

@@ -4,20 +4,19 @@ use mathlib.Core.Bool.{false}
 use Prim.Native.Nat.{_≤_, _<_}
 use native.Mathlib.Omega.{arith}
 use lib.ListN.{length}
-use lib.Seq.{slice, sets}
+use lib.Seq.{slice}
 use borrow.Author.Needs.{needs}
 use Rattle.session.specs.declared.types.IsoHead.{IsoHead}
-use Rattle.session.specs.declared.types.IsoChannelState.{IsoChannelState}
 use Rattle.session.specs.Cancel.{placeOf, requestAt}
 use Rattle.session.specs.Reclaim.{removed}
 use Rattle.session.proofs.Laws.Record.{Sound, sound}
 use Rattle.session.proofs.Laws.Reclaims.{again-found, again-pending, again-unknown}
-use Rattle.session.proofs.Laws.Removed.{removed-sound}
-use Rattle.port.specs.Layout.{sessionOf, saved}
-use Rattle.port.specs.Places.{requestsOf}
-use Rattle.port.proofs.Canonical.{loaded-saved}
+use Rattle.port.specs.Layout.{sessionOf}
+use Rattle.port.specs.Places.{requestsOf, Left}
+use Rattle.port.proofs.Canonical.{loaded-left}
 use Rattle.port.proofs.Laws.Calls.{long-enough}
-use Rattle.port.proofs.Laws.Walks.{head-there, there}
+use Rattle.port.proofs.Laws.Left.{left-is}
+use Rattle.port.proofs.Laws.Walks.{head-there}
 use Rattle.port.proofs.Laws.Placed.{requests-many, plans-many}
 use Rattle.port.proofs.reclaim.look_again_at.Statement.{statement}
 use Rattle.port.proofs.reclaim.look_again_at.Tie as tie
@@ -42,8 +41,8 @@ place-is c =
     (slice 0 (h .count) (requestsOf (c .before .before .before .before .before .before .args .bytes .now)))) (head-is (c .before .before))
 
 -- bytes that nothing is stored into
-same : (c : tie.After-slice-known) → c .before .args .bytes .now ≡ sets (c .before .args .bytes .now) 0 (saved (sessionOf (c .before .args .bytes .now)))
-same c = sym (loaded-saved (c .before .args .bytes .now) (λ i. omega (arith, c .slice-known .given i)) (c .before .pre .0))
+same : (c : tie.After-slice-known) → Left (c .before .args .bytes .now) (c .before .args .bytes .now) (sessionOf (c .before .args .bytes .now))
+same c = loaded-left (c .before .args .bytes .now) (c .before .pre .0) (λ i. omega (arith, c .slice-known .given i))
 
 head-at-requires : tie.Need-head-at-requires
 head-at-requires c κs = long (c .before .before .before)
@@ -71,8 +70,7 @@ same-length-2 c = search needs
 returns : tie.Need-returns
 returns c =
     let a = c .before .before .before .before .before .before .before .before .before .before .before .before .before .before .before .args in
-    let xs = a .bytes .now in
-    let s = sessionOf xs in
+    let s = sessionOf (a .bytes .now) in
     let at = c .before .before .before .before .before .before .before .before .before .place-at .result in
     let out = c .before .before .before .before .hand-out-at .ensures in
     let less : at < s .head .done =
@@ -81,18 +79,12 @@ returns c =
       c .before .before .before .before .before .before .before .if1 .taken,
       ap (λ (h : IsoHead). h .done) (head-is (c .before .before .before .before .before .before .before .before .before .before .before)),
     ) in
-    let g : Sound (removed at s) =
-    removed-sound at s (good (c .before .before .before .before .before .before .before .before .before .before .before .before .before .before .before))
-    less in
-    let held : sessionOf (c .before .before .before .before .hand-out-at .last .0) ≡ removed at s =
-    ap sessionOf (out .1)
-    ∙ there xs (removed at s) (long (c .before .before .before .before .before .before .before .before .before .before .before .before .before .before .before))
-    (g .requests-long) (g .plans-long) in (
+    let held : sessionOf (c .before .before .before .before .hand-out-at .last .0) ≡ removed at s = out .1 .holds in (
       λ taken halt.
           again-found (a .id) s (place-is (c .before .before .before .before .before .before .before .before .before)) taken halt (a .results .now) less
           (out .0)
           held refl (out .2) .0,
-      out .1 ∙ ap (λ (t : IsoChannelState). sets xs 0 (saved t)) (sym held),
+      left-is (out .1) (sym held),
       again-found (a .id) s (place-is (c .before .before .before .before .before .before .before .before .before)) false false (a .results .now) less (out .0)
           held refl (out .2) .1,
     )

@@ -1,19 +1,20 @@
 -- `look` leaves all as it is where the number is found, and polls where it is not.
-use mathlib.Core.Path.{_≡_, refl, _∙_, sym, ap}
+use mathlib.Core.Path.{_≡_, refl, _∙_, ap}
 use Prim.Native.Nat.{_≤_, _<_}
 use native.Mathlib.Omega.{arith}
 use lib.ListN.{length}
-use lib.Seq.{slice, sets}
+use lib.Seq.{slice}
 use borrow.Author.Needs.{needs}
 use Rattle.session.specs.declared.types.IsoHead.{IsoHead}
 use Rattle.session.specs.declared.reply.IsoReply.{IsoReply}
 use Rattle.session.specs.Cancel.{placeOf, requestAt}
 use Rattle.session.proofs.Laws.Record.{Sound, sound}
 use Rattle.session.proofs.Laws.Reclaims.{looked-found, looked-polled}
-use Rattle.port.specs.Layout.{sessionOf, saved}
+use Rattle.port.specs.Layout.{sessionOf}
 use Rattle.port.specs.Places.{requestsOf}
-use Rattle.port.proofs.Canonical.{loaded-saved}
+use Rattle.port.proofs.Canonical.{loaded-left}
 use Rattle.port.proofs.Laws.Calls.{long-enough}
+use Rattle.port.proofs.Laws.Left.{left-is}
 use Rattle.port.proofs.Laws.Walks.{head-there}
 use Rattle.port.proofs.Laws.Placed.{requests-many, plans-many}
 use Rattle.port.proofs.reclaim.look_at.Statement.{statement}
@@ -59,12 +60,12 @@ returns c =
     omega (arith, c .if1 .taken, ap (λ (h : IsoHead). h .done) (head-is (c .before .before .before .before))) in
     let stays = looked-found (a .id) s (place-is (c .before .before)) (a .event) (a .ring .now) less refl in
     let same =
-    sym (loaded-saved xs (λ i. omega (arith, c .before .before .before .before .before .before .before .slice-known .given i))
-    (c .before .before .before .before .before .before .before .before .pre .0)) in (
+    loaded-left xs (c .before .before .before .before .before .before .before .before .pre .0)
+    (λ i. omega (arith, c .before .before .before .before .before .before .before .slice-known .given i)) in (
       record {
         taken = ap (λ (r : IsoReply). r .taken) (stays .0);
         halt = ap (λ (r : IsoReply). r .halt) (stays .0);
-        bytes = same ∙ ap (λ (r : IsoReply). sets xs 0 (saved (r .session))) (stays .0);
+        bytes = left-is same (ap (λ (r : IsoReply). r .session) (stays .0));
       },
       stays .1,
     )
@@ -95,7 +96,7 @@ returns-2 c =
       record {
         taken = said .0 ∙ ap (λ (r : IsoReply). r .taken) (polls .0);
         halt = said .1 ∙ ap (λ (r : IsoReply). r .halt) (polls .0);
-        bytes = said .2 ∙ ap (λ (r : IsoReply). sets (a .bytes .now) 0 (saved (r .session))) (polls .0);
+        bytes = left-is (said .2) (ap (λ (r : IsoReply). r .session) (polls .0));
       },
       polls .1,
     )

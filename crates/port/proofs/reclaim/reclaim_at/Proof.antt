@@ -5,7 +5,6 @@ use Prim.Native.Nat.{ℕ, _≤_}
 use native.Mathlib.Omega.{arith}
 use lib.Dec.{ltb}
 use lib.ListN.{length}
-use lib.Seq.{sets}
 use borrow.Author.Needs.{needs}
 use borrow.Author.Tests.{ltb-false}
 use Rattle.words.proofs.Laws.Tests.{neither}
@@ -14,8 +13,9 @@ use Rattle.session.specs.Record.{isBadRecord}
 use Rattle.session.specs.Reclaim.{isShort}
 use Rattle.session.proofs.Laws.Record.{Sound, sound}
 use Rattle.session.proofs.Laws.Reclaims.{reclaim-short, reclaim-bad}
-use Rattle.port.specs.Layout.{sessionOf, saved}
-use Rattle.port.proofs.Canonical.{loaded-saved}
+use Rattle.port.specs.Layout.{sessionOf}
+use Rattle.port.specs.Places.{Left}
+use Rattle.port.proofs.Canonical.{loaded-left}
 use Rattle.port.proofs.Laws.Calls.{long-enough}
 use Rattle.port.proofs.Laws.Walks.{config-there}
 use Rattle.port.proofs.Laws.Reclaiming.{refused-in-place, looked-layout, looked-good, done-in-place}
@@ -30,8 +30,8 @@ good : (c : tie.Start) → isBadRecord (sessionOf (c .args .bytes .now)) ≡ fal
 good c e = let xs = c .args .bytes .now in sound (sessionOf xs) (requests-many xs) (plans-many xs) e
 
 -- bytes that nothing is stored into
-same : (c : tie.After-slice-known) → c .before .args .bytes .now ≡ sets (c .before .args .bytes .now) 0 (saved (sessionOf (c .before .args .bytes .now)))
-same c = sym (loaded-saved (c .before .args .bytes .now) (λ i. omega (arith, c .slice-known .given i)) (c .before .pre))
+same : (c : tie.After-slice-known) → Left (c .before .args .bytes .now) (c .before .args .bytes .now) (sessionOf (c .before .args .bytes .now))
+same c = loaded-left (c .before .args .bytes .now) (c .before .pre) (λ i. omega (arith, c .slice-known .given i))
 
 -- the test of 17, by the words that the code counted
 test-short :
@@ -106,26 +106,19 @@ look-at-requires c κs =
 
 look-again-at-requires : tie.Need-look-again-at-requires
 look-again-at-requires c κs =
-    let a =
-    c .before .before .before .before .before .before .before .before .before .before .before .before .before .before .before .before .before .before .before .args in
+    let start =
+    c .before .before .before .before .before .before .before .before .before .before .before .before .before .before .before .before .before .before .before in
+    let a = start .args in
     let xs = a .bytes .now in
-    let s = sessionOf xs in
     let enough =
-    neither (ltb (length (a .ring .now)) (ringWords (s .cfg))) (ltb (length (a .results .now)) 255)
+    neither (ltb (length (a .ring .now)) (ringWords (sessionOf xs .cfg))) (ltb (length (a .results .now)) 255)
     (test-short (c .before .before .before .before .before .before .before .before .before .before .before .before .before)
     (c .before .before .before .before .before .before .before .before .before .before .before .before .if1 .left)) in
-    let g =
-    good
-    (c .before .before .before .before .before .before .before .before .before .before .before .before .before .before .before .before .before .before .before)
-    (sym (c .before .before .before .before .before .before .before .before .before .before .scan-at .ensures .bad)
-    ∙ c .before .before .before .before .before .before .before .before .before .if2 .left) in
+    let scan = c .before .before .before .before .before .before .before .before .before .before .scan-at in
+    let g = good start (sym (scan .ensures .bad) ∙ c .before .before .before .before .before .before .before .before .before .if2 .left) in
     let act = c .before .before .before .before .before .before .look-at .ensures .0 in (
-      looked-layout xs (a .ring .now) (a .results .now) (a .id) (a .event) (long
-          (c .before .before .before .before .before .before .before .before .before .before .before .before .before .before .before .before .before .before .before))
-          g act,
-      looked-good xs (a .ring .now) (a .results .now) (a .id) (a .event) (long
-          (c .before .before .before .before .before .before .before .before .before .before .before .before .before .before .before .before .before .before .before))
-          g act,
+      looked-layout xs (a .ring .now) (a .results .now) (a .id) (a .event) (start .pre) g act,
+      looked-good xs (a .ring .now) (a .results .now) (a .id) (a .event) (start .pre) g act,
       ltb-false (length (a .results .now)) 255 (enough .1),
     )
 
@@ -143,23 +136,20 @@ same-length-5 c = search needs
 
 returns-3 : tie.Need-returns-3
 returns-3 c =
-    let a =
-    c .before .before .before .before .before .before .before .before .before .before .before .before .before .before .before .before .before .before .before .before .before .before .before .before .before .args in
+    let start =
+    c .before .before .before .before .before .before .before .before .before .before .before .before .before .before .before .before .before .before .before .before .before .before .before .before .before in
+    let a = start .args in
+    let scan = c .before .before .before .before .before .before .before .before .before .before .before .before .before .before .before .before .scan-at in
     let fine =
-    sym
-    (c .before .before .before .before .before .before .before .before .before .before .before .before .before .before .before .before .scan-at .ensures .bad)
+    sym (scan .ensures .bad)
     ∙ c .before .before .before .before .before .before .before .before .before .before .before .before .before .before .before .if2 .left in
+    let look = c .before .before .before .before .before .before .before .before .before .before .before .before .look-at .ensures in
     let again = c .before .before .before .before .before .look-again-at .ensures in
-    done-in-place (a .bytes .now) (a .ring .now) (a .results .now) (a .id) (a .event) (long
-    (c .before .before .before .before .before .before .before .before .before .before .before .before .before .before .before .before .before .before .before .before .before .before .before .before .before))
-    (good
-    (c .before .before .before .before .before .before .before .before .before .before .before .before .before .before .before .before .before .before .before .before .before .before .before .before .before)
-    fine) (c .before .before .before .before .before .before .before .before .before .before .before .before .look-at .ensures .0)
+    done-in-place (a .bytes .now) (a .ring .now) (a .results .now) (a .id) (a .event) (start .pre) (good start fine) (look .0)
     (test-short
     (c .before .before .before .before .before .before .before .before .before .before .before .before .before .before .before .before .before .before .before)
     (c .before .before .before .before .before .before .before .before .before .before .before .before .before .before .before .before .before .before .if1 .left))
-    fine (c .before .before .before .before .before .before .before .before .before .before .before .before .look-at .ensures .1) (again .0) (again .1)
-    (again .2) (c .reclaim-port .ensures)
+    fine (look .1) (again .0) (again .1) (again .2) (c .reclaim-port .ensures)
 
 pub reclaim-at-spec : {M : Type 1} → statement M
 reclaim-at-spec =

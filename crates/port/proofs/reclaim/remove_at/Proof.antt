@@ -1,18 +1,15 @@
--- Removing is its definition at what the two walks leave.
+-- Removing is its definition at what the two walks leave: all that moves is in use, and the plans that moved leave the layout as it is.
 use mathlib.Core.Path.{_≡_, refl, _∙_, ap}
 use Prim.Native.Nat.{_≤_}
 use native.Mathlib.Omega.{arith}
 use lib.ListN.{length}
-use lib.Seq.{slice}
 use borrow.Author.Needs.{needs}
 use Rattle.session.specs.declared.types.IsoHead.{IsoHead}
-use Rattle.session.specs.Session.{packetsOf}
 use Rattle.session.proofs.Laws.Record.{Sound, sound}
 use Rattle.port.specs.Layout.{sessionOf}
-use Rattle.port.specs.Places.{requestsOf}
 use Rattle.port.proofs.Laws.Calls.{long-enough}
 use Rattle.port.proofs.Laws.Walks.{head-there}
-use Rattle.port.proofs.Laws.Closing.{closed-layout, bytes-removed}
+use Rattle.port.proofs.Laws.Closing.{plans-used, closed-layout, requests-used, bytes-removed}
 use Rattle.port.proofs.Laws.Placed.{requests-many, plans-many}
 use Rattle.port.proofs.reclaim.remove_at.Statement.{statement}
 use Rattle.port.proofs.reclaim.remove_at.Tie as tie
@@ -35,6 +32,18 @@ head-at-requires c κs = long (c .before .before)
 packets-before-requires : tie.Need-packets-before-requires
 packets-before-requires c κs = (long (c .before .before .before .before), count-in (c .before))
 
+close-plans-at-requires : tie.Need-close-plans-at-requires
+close-plans-at-requires c κs =
+    let start = c .before .before .before .before .before .before in
+    let a = start .args in
+    let all = c .before .packets-before in
+    let eh = head-is (c .before .before .before) in (
+      start .pre .0,
+      omega (arith, start .pre .3, start .pre .4),
+      plans-used (a .bytes .now) (a .at) (a .from) (a .to) (all .result) (start .pre .0) (good start .count-in) eh (start .pre .3) (start .pre .4)
+          (all .ensures) (good start .all-few),
+    )
+
 add-close-requests-at : tie.Need-add-close-requests-at
 add-close-requests-at c = search needs
 
@@ -42,72 +51,47 @@ cast-close-requests-at : tie.Need-cast-close-requests-at
 cast-close-requests-at c = search needs
 
 close-requests-at-requires : tie.Need-close-requests-at-requires
-close-requests-at-requires c κs = (c .before .before .before .before .before .before .pre .0, omega arith, count-in (c .before .before .before))
-
-close-plans-at-requires : tie.Need-close-plans-at-requires
-close-plans-at-requires c κs =
-    let a = c .before .before .before .before .before .before .before .before .before .before .args in
-    let xs = a .bytes .now in
-    let all =
-    c .before .before .before .before .before .packets-before .ensures
-    ∙ ap (λ (h : IsoHead). packetsOf (slice 0 (h .count) (requestsOf xs))) (head-is (c .before .before .before .before .before .before .before)) in (
-      closed-layout xs (a .at) (a .from) (a .to) (c .before .before .before .before .before .packets-before .result)
-          (long (c .before .before .before .before .before .before .before .before .before .before))
-          (head-is (c .before .before .before .before .before .before .before))
-          (c .before .before .before .before .before .before .before .before .before .before .pre .3)
-          (c .before .before .before .before .before .before .before .before .before .before .pre .4)
-          (c .before .before .before .before .before .packets-before .ensures) (c .before .before .before .close-requests-at .ensures),
-      omega (
-        arith,
-        c .before .before .before .before .before .before .before .before .before .before .pre .3,
-        c .before .before .before .before .before .before .before .before .before .before .pre .4,
-      ),
-      omega (arith, all, good (c .before .before .before .before .before .before .before .before .before .before) .all-few),
+close-requests-at-requires c κs =
+    let start = c .before .before .before .before .before .before .before .before .before .before in
+    let a = start .args in
+    let all = c .before .before .before .before .before .packets-before in
+    let plans = c .before .before .before .close-plans-at in
+    let eh = head-is (c .before .before .before .before .before .before .before) in (
+      closed-layout (a .bytes .now) (a .at) (a .from) (a .to) (all .result) (start .pre .0) (good start .count-in) eh (start .pre .3) (start .pre .4)
+          (all .ensures) (plans .ensures),
+      omega arith,
+      requests-used (a .bytes .now) (a .at) (a .from) (a .to) (all .result) (start .pre .0) (good start .count-in) eh (start .pre .3) (start .pre .4)
+          (all .ensures) (plans .ensures),
     )
 
 one-less-requires : tie.Need-one-less-requires
 one-less-requires c κs =
-    let eh = head-is (c .before .before .before .before .before .before .before .before .before .before .before) in
-    let g = good (c .before .before .before .before .before .before .before .before .before .before .before .before .before .before) in (
-      omega (
-        arith,
-        ap (λ (h : IsoHead). h .done) eh,
-        c .before .before .before .before .before .before .before .before .before .before .before .before .before .before .pre .2,
-      ),
-      omega (
-        arith,
-        ap (λ (h : IsoHead). h .count) eh,
-        c .before .before .before .before .before .before .before .before .before .before .before .before .before .before .pre .2,
-        g .done-in,
-      ),
+    let start = c .before .before .before .before .before .before .before .before .before .before .before .before .before .before in
+    let eh = head-is (c .before .before .before .before .before .before .before .before .before .before .before) in (
+      omega (arith, ap (λ (h : IsoHead). h .done) eh, start .pre .2),
+      omega (arith, ap (λ (h : IsoHead). h .count) eh, start .pre .2, good start .done-in),
     )
 
 put-head-requires : tie.Need-put-head-requires
 put-head-requires c κs =
-    omega (
-      arith,
-      long (c .before .before .before .before .before .before .before .before .before .before .before .before .before .before .before),
-      c .before .before .before .before .before .before .before .before .close-requests-at .kept .0,
-      c .before .before .before .before .close-plans-at .kept .0,
-    )
+    let start = c .before .before .before .before .before .before .before .before .before .before .before .before .before .before .before in
+    let plans = c .before .before .before .before .before .before .before .before .close-plans-at in
+    let requests = c .before .before .before .before .close-requests-at in
+    omega (arith, long start, plans .kept .0, requests .kept .0)
 
 same-length : tie.Need-same-length
 same-length c = search needs
 
 returns : tie.Need-returns
 returns c =
-    let a =
-    c .before .before .before .before .before .before .before .before .before .before .before .before .before .before .before .before .before .before .args in
-    bytes-removed (a .bytes .now) (a .at) (a .from) (a .to)
-    (c .before .before .before .before .before .before .before .before .before .before .before .before .before .packets-before .result)
-    (long (c .before .before .before .before .before .before .before .before .before .before .before .before .before .before .before .before .before .before))
-    (head-is (c .before .before .before .before .before .before .before .before .before .before .before .before .before .before .before))
-    (c .before .before .before .before .before .before .before .before .before .before .before .before .before .before .before .before .before .before .pre .3)
-    (c .before .before .before .before .before .before .before .before .before .before .before .before .before .before .before .before .before .before .pre .4)
-    (c .before .before .before .before .before .before .before .before .before .before .before .before .before .packets-before .ensures)
-    (c .before .before .before .before .before .before .before .before .before .before .before .close-requests-at .ensures)
-    (c .before .before .before .before .before .before .before .close-plans-at .ensures) (c .before .before .before .one-less .ensures)
-    (c .before .before .put-head .ensures)
+    let start = c .before .before .before .before .before .before .before .before .before .before .before .before .before .before .before .before .before .before in
+    let a = start .args in
+    let all = c .before .before .before .before .before .before .before .before .before .before .before .before .before .packets-before in
+    let eh = head-is (c .before .before .before .before .before .before .before .before .before .before .before .before .before .before .before) in
+    let plans = c .before .before .before .before .before .before .before .before .before .before .before .close-plans-at in
+    let requests = c .before .before .before .before .before .before .before .close-requests-at in
+    bytes-removed (a .bytes .now) (a .at) (a .from) (a .to) (all .result) (start .pre .0) (good start .count-in) eh (start .pre .3) (start .pre .4) (all .ensures)
+    (plans .ensures) (requests .ensures) (c .before .before .before .one-less .ensures) (c .before .before .put-head .ensures)
 
 pub remove-at-spec : {M : Type 1} → statement M
 remove-at-spec =
@@ -115,10 +99,10 @@ remove-at-spec =
     (tie.spec
     head-at-requires
     packets-before-requires
+    close-plans-at-requires
     add-close-requests-at
     cast-close-requests-at
     close-requests-at-requires
-    close-plans-at-requires
     one-less-requires
     put-head-requires
     same-length
