@@ -3,7 +3,6 @@ ghost use mathlib.Core.Path.{_≡_};
 ghost use mathlib.Core.Bool.{false};
 ghost use Prim.Native.Nat.{_≤_};
 ghost use lib.ListN.{length};
-ghost use lib.Seq.{sets};
 ghost use Rattle.session.specs.Session.{ringWords};
 ghost use Rattle.session.specs.Record.{isBadRecord};
 ghost use Rattle.session.specs.Poll.{pollWay, withReason, polledBy, polledRingBy, polled, polledRing, recovered, recoveredRing};

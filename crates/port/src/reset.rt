@@ -1,6 +1,5 @@
 // Reset on a session's bytes where they stand: document 01, "Reset". Only the cursor is written.
 ghost use mathlib.Core.Path.{_≡_};
-ghost use lib.Seq.{sets};
 ghost use Rattle.session.specs.Poll.{resetReply};
 ghost use Rattle.port.specs.Layout.{layoutNumber, sessionOf};
 ghost use Rattle.port.specs.Calls.{replyPort};
