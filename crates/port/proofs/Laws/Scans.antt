@@ -120,15 +120,17 @@ last false false false true false = refl
 last false false false false true = refl
 last false false false false false = refl
 
+abbrev badPlans : IsoChannelState → Bool
+badPlans s = anyBadPlan (packetLimit (s .cfg .speed)) (slots (s .cfg)) (slice 0 (allPackets s) (s .plans))
+
 module _ (s : IsoChannelState) (sums : RequestSums) (counted : Counted s sums) where
-  whole-is : isBadRecord s ≡ (sums .bad || anyBadPlan (packetLimit (s .cfg .speed)) (slots (s .cfg)) (slice 0 (allPackets s) (s .plans)))
-  whole-is =
-      last (isBadConfig (s .cfg) || isBadCounts s) (anyBadRequest (slice 0 (s .head .count) (s .requests))) (isBadSums s)
-      (anyBadPlan (packetLimit (s .cfg .speed)) (slots (s .cfg)) (slice 0 (allPackets s) (s .plans))) (isBadState s)
-      ∙ ap (λ (b : Bool). b || anyBadPlan (packetLimit (s .cfg .speed)) (slots (s .cfg)) (slice 0 (allPackets s) (s .plans))) (sym (counted .bad))
+  with-plans : (b : Bool) → sums .bad ≡ b → isBadRecord s ≡ (b || badPlans s)
+  with-plans b e =
+      last (isBadConfig (s .cfg) || isBadCounts s) (anyBadRequest (slice 0 (s .head .count) (s .requests))) (isBadSums s) (badPlans s) (isBadState s)
+      ∙ ap (λ (a : Bool). a || badPlans s) (sym (counted .bad) ∙ e)
 
   pub record-bad : sums .bad ≡ true → isBadRecord s ≡ true
-  record-bad e = whole-is ∙ ap (λ (b : Bool). b || anyBadPlan (packetLimit (s .cfg .speed)) (slots (s .cfg)) (slice 0 (allPackets s) (s .plans))) e
+  record-bad = with-plans true
 
   module _ (good : sums .bad ≡ false) where
     fronts : ((isBadConfig (s .cfg) || isBadCounts s) ≡ false) × (isBadSums s ≡ false)
@@ -163,8 +165,7 @@ module _ (s : IsoChannelState) (sums : RequestSums) (counted : Counted s sums) w
       plans-decide =
           ap₂ (λ (l z : ℕ). anyBadPlan l z (slice 0 (sums .all) (s .plans))) el es
           ∙ ap (λ (n : ℕ). anyBadPlan (packetLimit (s .cfg .speed)) (slots (s .cfg)) (slice 0 n (s .plans))) (counted .all good)
-          ∙ sym (whole-is
-          ∙ ap (λ (b : Bool). b || anyBadPlan (packetLimit (s .cfg .speed)) (slots (s .cfg)) (slice 0 (allPackets s) (s .plans))) good)
+          ∙ sym (with-plans false good)
 
       pub all-scanned : (r : RecordScan) → Marked (sums .all) (sums .pending) limit size (s .plans) r → Scanned s r
       all-scanned r m =

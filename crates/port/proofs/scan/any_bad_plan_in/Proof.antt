@@ -28,14 +28,15 @@ within c = omega (arith, c .pre .1, plans-many (c .args .bytes .now))
 here :
     (c : tie.After-is-bad-plan Inv-loop μ-loop)
     → c .is-bad-plan .result
-    ≡ isBadPlan (c .before .before .before .before .before .args .limit) (c .before .before .before .before .before .args .slots) (getD (sessionOf (c .before .before .before .before .before .args .bytes .now) .plans) (c .before .before .before .loop .j) blankPlan)
+    ≡ isBadPlan (c .before .before .before .before .before .args .limit) (c .before .before .before .before .before .args .slots)
+    (getD (sessionOf (c .before .before .before .before .before .args .bytes .now) .plans) (c .before .before .before .loop .j) blankPlan)
 here c =
-    let xs = c .before .before .before .before .before .args .bytes .now in
+    let a = c .before .before .before .before .before .args in
     c .is-bad-plan .ensures
-    ∙ ap (isBadPlan (c .before .before .before .before .before .args .limit) (c .before .before .before .before .before .args .slots))
+    ∙ ap (isBadPlan (a .limit) (a .slots))
     (c .before .plan-at .ensures
-    ∙ ap (λ (n : ℕ). planOf (drop n xs)) (c .before .before .before .loop .inv .1)
-    ∙ plan-there xs (c .before .before .before .loop .j) blankPlan (omega (arith, c .before .before .before .before .before .pre .1)))
+    ∙ ap (λ (n : ℕ). planOf (drop n (a .bytes .now))) (c .before .before .before .loop .inv .1)
+    ∙ plan-there (a .bytes .now) (c .before .before .before .loop .j) blankPlan (omega (arith, c .before .before .before .before .before .pre .1)))
 
 loop-holds : tie.Need-loop-holds Inv-loop μ-loop
 loop-holds c = (omega arith, refl, refl)
@@ -49,8 +50,9 @@ is-bad-plan-requires c κs = search needs
 returns : tie.Need-returns Inv-loop μ-loop
 returns c =
     let a = c .before .before .before .before .before .before .args in
-    sym (c .before .before .before .before .loop .inv .2
-    ∙ plan-here (a .limit) (a .slots) (c .before .before .before .before .loop .j) (a .all) (sessionOf (a .bytes .now) .plans) (omega arith) (within (c .before .before .before .before .before .before))
+    let now = c .before .before .before .before .loop in
+    sym (now .inv .2
+    ∙ plan-here (a .limit) (a .slots) (now .j) (a .all) (sessionOf (a .bytes .now) .plans) (omega arith) (within (c .before .before .before .before .before .before))
     (sym (here (c .before)) ∙ c .if1 .taken))
 
 add-at : tie.Need-add-at Inv-loop μ-loop
@@ -64,11 +66,13 @@ loop-less c = omega arith
 
 loop-again : tie.Need-loop-again Inv-loop μ-loop
 loop-again c =
-    let a = c .before .before .before .before .before .before .args in (
+    let a = c .before .before .before .before .before .before .args in
+    let now = c .before .before .before .before .loop in
+    let fits = within (c .before .before .before .before .before .before) in (
       omega arith,
-      omega (arith, c .before .before .before .before .loop .inv .1),
-      c .before .before .before .before .loop .inv .2
-          ∙ plan-next (a .limit) (a .slots) (c .before .before .before .before .loop .j) (a .all) (sessionOf (a .bytes .now) .plans) (omega arith) (within (c .before .before .before .before .before .before))
+      omega (arith, now .inv .1),
+      now .inv .2
+          ∙ plan-next (a .limit) (a .slots) (now .j) (a .all) (sessionOf (a .bytes .now) .plans) (omega arith) fits
           (sym (here (c .before)) ∙ c .if1 .left),
     )
 

@@ -19,8 +19,14 @@ config-is c = c .config-at .ensures ∙ config-there (c .before .before .args .b
 head-is : (c : tie.After-head-at) → c .head-at .result ≡ sessionOf (c .before .before .before .args .bytes .now) .head
 head-is c = c .head-at .ensures ∙ head-there (c .before .before .before .args .bytes .now)
 
-front : (c : tie.Else1) → (isBadConfig (sessionOf (c .before .before .before .before .before .before .before .args .bytes .now) .cfg) || isBadCounts (sessionOf (c .before .before .before .before .before .before .before .args .bytes .now))) ≡ false
-front c = front-test (sessionOf (c .before .before .before .before .before .before .before .args .bytes .now)) (config-is (c .before .before .before .before .before)) (head-is (c .before .before .before .before)) (c .before .before .before .is-bad-config .ensures) (c .if1 .left)
+front :
+    (c : tie.Else1)
+    → (isBadConfig (sessionOf (c .before .before .before .before .before .before .before .args .bytes .now) .cfg)
+    || isBadCounts (sessionOf (c .before .before .before .before .before .before .before .args .bytes .now)))
+    ≡ false
+front c =
+    front-test (sessionOf (c .before .before .before .before .before .before .before .args .bytes .now)) (config-is (c .before .before .before .before .before))
+    (head-is (c .before .before .before .before)) (c .before .before .before .is-bad-config .ensures) (c .if1 .left)
 
 config-at-requires : tie.Need-config-at-requires
 config-at-requires c κs = search needs
@@ -38,12 +44,14 @@ returns : tie.Need-returns
 returns c =
     let s = sessionOf (c .before .before .before .before .before .before .before .before .args .bytes .now) in
     front-counted s (c .bad-sums .result) (c .bad-sums .ensures .0)
-    (front-test s (config-is (c .before .before .before .before .before .before)) (head-is (c .before .before .before .before .before)) (c .before .before .before .before .is-bad-config .ensures) (c .before .if1 .taken))
+    (front-test s (config-is (c .before .before .before .before .before .before)) (head-is (c .before .before .before .before .before))
+    (c .before .before .before .before .is-bad-config .ensures) (c .before .if1 .taken))
 
 request-sums-requires : tie.Need-request-sums-requires
 request-sums-requires c κs = (
   c .before .before .before .before .before .before .before .pre,
-  subst⁻¹ (λ (h : IsoHead). h .count ≤ 64) (head-is (c .before .before .before .before)) (counts-in (sessionOf (c .before .before .before .before .before .before .before .args .bytes .now)) (front c) .1),
+  subst⁻¹ (λ (h : IsoHead). h .count ≤ 64) (head-is (c .before .before .before .before))
+      (counts-in (sessionOf (c .before .before .before .before .before .before .before .args .bytes .now)) (front c) .1),
 )
 
 room-requires : tie.Need-room-requires
@@ -63,14 +71,18 @@ is-bad-state-requires c κs = search needs
 
 returns-2 : tie.Need-returns-2
 returns-2 c =
-    let s = sessionOf (c .before .before .before .before .before .before .before .before .before .before .before .before .before .before .before .before .args .bytes .now) in
-    let summed : Summed (s .head .done) (s .head .count) (s .requests) (c .before .before .before .before .before .before .before .before .request-sums .result) =
-    subst (λ (h : IsoHead). Summed (h .done) (h .count) (s .requests) (c .before .before .before .before .before .before .before .before .request-sums .result)) (head-is (c .before .before .before .before .before .before .before .before .before .before .before .before .before)) (c .before .before .before .before .before .before .before .before .request-sums .ensures) in
-    let capacity = c .before .before .before .before .before .wide .ensures .0 ∙ c .before .before .before .before .before .before .room .ensures ∙ ap room (config-is (c .before .before .before .before .before .before .before .before .before .before .before .before .before .before)) in
+    let xs = c .before .before .before .before .before .before .before .before .before .before .before .before .before .before .before .before .args .bytes .now in
+    let s = sessionOf xs in
+    let sums = c .before .before .before .before .before .before .before .before .request-sums in
+    let config = config-is (c .before .before .before .before .before .before .before .before .before .before .before .before .before .before) in
+    let head = head-is (c .before .before .before .before .before .before .before .before .before .before .before .before .before) in
+    let summed : Summed (s .head .done) (s .head .count) (s .requests) (sums .result) =
+    subst (λ (h : IsoHead). Summed (h .done) (h .count) (s .requests) (sums .result)) head (sums .ensures) in
+    let capacity = c .before .before .before .before .before .wide .ensures .0 ∙ c .before .before .before .before .before .before .room .ensures ∙ ap room config in
     let state =
-    state-test s (head-is (c .before .before .before .before .before .before .before .before .before .before .before .before .before)) (c .before .before .reason-at .ensures ∙ reason-there (c .before .before .before .before .before .before .before .before .before .before .before .before .before .before .before .before .args .bytes .now)) (c .before .before .before .iso-ring-size .ensures ∙ ap slots (config-is (c .before .before .before .before .before .before .before .before .before .before .before .before .before .before)))
+    state-test s head (c .before .before .reason-at .ensures ∙ reason-there xs) (c .before .before .before .iso-ring-size .ensures ∙ ap slots config)
     (c .before .is-bad-state .ensures) in
-    all-counted s (front (c .before .before .before .before .before .before .before .before .before)) (c .before .before .before .before .before .before .before .before .request-sums .result) summed capacity _ state refl refl refl
+    all-counted s (front (c .before .before .before .before .before .before .before .before .before)) (sums .result) summed capacity _ state refl refl refl
 
 pub counted-at-spec : {M : Type 1} → statement M
 counted-at-spec =

@@ -16,7 +16,9 @@ counted-at-requires : tie.Need-counted-at-requires
 counted-at-requires c κs = search needs
 
 returns : tie.Need-returns
-returns c = sym (record-bad (sessionOf (c .before .before .before .args .bytes .now)) (c .before .counted-at .result) (c .before .counted-at .ensures) (c .if1 .taken))
+returns c =
+    let sums = c .before .counted-at in
+    sym (record-bad (sessionOf (c .before .before .before .args .bytes .now)) (sums .result) (sums .ensures) (c .if1 .taken))
 
 config-at-requires : tie.Need-config-at-requires
 config-at-requires c κs = search needs
@@ -28,14 +30,21 @@ iso-ring-size-requires : tie.Need-iso-ring-size-requires
 iso-ring-size-requires c κs = search needs
 
 any-bad-plan-in-requires : tie.Need-any-bad-plan-in-requires
-any-bad-plan-in-requires c κs = (c .before .before .before .before .before .before .pre, all-in (sessionOf (c .before .before .before .before .before .before .args .bytes .now)) (c .before .before .before .before .counted-at .result) (c .before .before .before .before .counted-at .ensures) (c .before .before .before .if1 .left))
+any-bad-plan-in-requires c κs =
+    let sums = c .before .before .before .before .counted-at in (
+      c .before .before .before .before .before .before .pre,
+      all-in (sessionOf (c .before .before .before .before .before .before .args .bytes .now)) (sums .result) (sums .ensures) (c .before .before .before .if1 .left),
+    )
 
 returns-2 : tie.Need-returns-2
 returns-2 c =
+    let s = sessionOf (c .before .before .before .before .before .before .before .args .bytes .now) in
+    let sums = c .before .before .before .before .before .counted-at in
+    let config = config-is (c .before .before .before) in
     c .any-bad-plan-in .ensures
-    ∙ plans-decide (sessionOf (c .before .before .before .before .before .before .before .args .bytes .now)) (c .before .before .before .before .before .counted-at .result) (c .before .before .before .before .before .counted-at .ensures) (c .before .before .before .before .if1 .left)
-    (c .before .before .iso-max-xfer-size .ensures ∙ ap (λ (k : IsoConfig). packetLimit (k .speed)) (config-is (c .before .before .before)))
-    (c .before .iso-ring-size .ensures ∙ ap slots (config-is (c .before .before .before)))
+    ∙ plans-decide s (sums .result) (sums .ensures) (c .before .before .before .before .if1 .left)
+    (c .before .before .iso-max-xfer-size .ensures ∙ ap (λ (k : IsoConfig). packetLimit (k .speed)) config)
+    (c .before .iso-ring-size .ensures ∙ ap slots config)
 
 pub is-bad-at-spec : {M : Type 1} → statement M
 is-bad-at-spec =

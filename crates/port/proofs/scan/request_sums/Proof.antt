@@ -70,13 +70,15 @@ bad-sums-requires c κs = search needs
 returns : tie.Need-returns Inv-loop μ-loop
 returns c =
     let a = c .before .before .before .before .before .before .before .args in
+    let l = sessionOf (a .bytes .now) .requests in
+    let now = c .before .before .before .before .before .loop in
     let bad = sym (ap isBadRequest (here (c .before .before .before))) ∙ sym (c .before .before .is-bad-request .ensures) ∙ c .before .if1 .taken in
-    let some =
-    c .before .before .before .before .before .loop .inv .4 ∙ request-here (c .before .before .before .before .before .loop .i) (a .count) (sessionOf (a .bytes .now) .requests) (omega arith) (within (c .before .before .before .before .before .before .before)) bad in
+    let some = now .inv .4 ∙ request-here (now .i) (a .count) l (omega arith) (within (c .before .before .before .before .before .before .before)) bad in
+    let said = c .bad-sums .ensures .0 in
     record {
-      bad = c .bad-sums .ensures .0 ∙ sym some;
-      all = λ e. absurd (never (sym (c .bad-sums .ensures .0) ∙ e));
-      pending = λ e. absurd (never (sym (c .bad-sums .ensures .0) ∙ e));
+      bad = said ∙ sym some;
+      all = λ e. absurd (never (sym said ∙ e));
+      pending = λ e. absurd (never (sym said ∙ e));
     }
 
 wide-requires : tie.Need-wide-requires Inv-loop μ-loop

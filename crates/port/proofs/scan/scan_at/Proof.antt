@@ -25,7 +25,8 @@ bad-scan-requires c κs = search needs
 returns : tie.Need-returns
 returns c =
     let s = sessionOf (c .before .before .before .before .args .bytes .now) in
-    bad-found s (c .bad-scan .result) (c .bad-scan .ensures) (record-bad s (c .before .before .counted-at .result) (c .before .before .counted-at .ensures) (c .before .if1 .taken))
+    let sums = c .before .before .counted-at in
+    bad-found s (c .bad-scan .result) (c .bad-scan .ensures) (record-bad s (sums .result) (sums .ensures) (c .before .if1 .taken))
 
 config-at-requires : tie.Need-config-at-requires
 config-at-requires c κs = search needs
@@ -38,18 +39,23 @@ iso-ring-size-requires c κs = search needs
 
 plan-marks-requires : tie.Need-plan-marks-requires
 plan-marks-requires c κs =
-    let xs = c .before .before .before .before .before .before .args .bytes .now in (
+    let xs = c .before .before .before .before .before .before .args .bytes .now in
+    let sums = c .before .before .before .before .counted-at in
+    let good = c .before .before .before .if1 .left in (
       c .before .before .before .before .before .before .pre,
-      all-in (sessionOf xs) (c .before .before .before .before .counted-at .result) (c .before .before .before .before .counted-at .ensures) (c .before .before .before .if1 .left),
-      pending-in (sessionOf xs) (c .before .before .before .before .counted-at .result) (c .before .before .before .before .counted-at .ensures) (c .before .before .before .if1 .left) (requests-many xs),
+      all-in (sessionOf xs) (sums .result) (sums .ensures) good,
+      pending-in (sessionOf xs) (sums .result) (sums .ensures) good (requests-many xs),
       omega (arith, c .iso-ring-size .ensures, ring-few (c .before .before .config-at .result .speed)),
     )
 
 returns-2 : tie.Need-returns-2
 returns-2 c =
-    all-scanned (sessionOf (c .before .before .before .before .before .before .before .args .bytes .now)) (c .before .before .before .before .before .counted-at .result) (c .before .before .before .before .before .counted-at .ensures) (c .before .before .before .before .if1 .left)
-    (c .before .before .iso-max-xfer-size .ensures ∙ ap (λ (k : IsoConfig). packetLimit (k .speed)) (config-is (c .before .before .before)))
-    (c .before .iso-ring-size .ensures ∙ ap slots (config-is (c .before .before .before))) (c .plan-marks .result) (c .plan-marks .ensures)
+    let s = sessionOf (c .before .before .before .before .before .before .before .args .bytes .now) in
+    let sums = c .before .before .before .before .before .counted-at in
+    let config = config-is (c .before .before .before) in
+    all-scanned s (sums .result) (sums .ensures) (c .before .before .before .before .if1 .left)
+    (c .before .before .iso-max-xfer-size .ensures ∙ ap (λ (k : IsoConfig). packetLimit (k .speed)) config)
+    (c .before .iso-ring-size .ensures ∙ ap slots config) (c .plan-marks .result) (c .plan-marks .ensures)
 
 pub scan-at-spec : {M : Type 1} → statement M
 scan-at-spec =
