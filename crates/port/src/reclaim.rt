@@ -26,7 +26,7 @@ use crate::load::head_at;
 use crate::poll::PollSaid;
 use crate::poll::poll_at;
 use crate::save::put_head;
-use crate::scan::scan_at;
+use crate::scan::is_bad_at;
 use session::IsoEvent;
 use session::IsoHead;
 use session::ReclaimAnswer;
@@ -191,8 +191,7 @@ pub(crate) fn reclaim_at(
     if (ring.len() < words) | (results.len() < 255) {
         return reclaim_refused(17);
     }
-    let scan = scan_at(bytes);
-    if scan.bad {
+    if is_bad_at(bytes) {
         return reclaim_refused(18);
     }
     let look = look_at(bytes, id, event, ring);

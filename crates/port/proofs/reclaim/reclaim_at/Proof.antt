@@ -73,8 +73,8 @@ returns c =
     refused-in-place (a .bytes .now) (a .ring .now) (a .results .now) (a .id) (a .event) (same (c .before .before .before .before .before .before .before))
     (c .reclaim-refused .ensures) told
 
-scan-at-requires : tie.Need-scan-at-requires
-scan-at-requires c κs = long (c .before .before .before .before .before .before .before .before)
+is-bad-at-requires : tie.Need-is-bad-at-requires
+is-bad-at-requires c κs = long (c .before .before .before .before .before .before .before .before)
 
 reclaim-refused-requires-2 : tie.Need-reclaim-refused-requires-2
 reclaim-refused-requires-2 c κs = search needs
@@ -85,7 +85,7 @@ same-length-2 c = search needs
 returns-2 : tie.Need-returns-2
 returns-2 c =
     let a = c .before .before .before .before .before .before .before .before .before .before .before .args in
-    let bad = sym (c .before .before .scan-at .ensures .bad) ∙ c .before .if2 .taken in
+    let bad = sym (c .before .before .is-bad-at .ensures) ∙ c .before .if2 .taken in
     let told =
     reclaim-bad (sessionOf (a .bytes .now)) (a .id) (a .event) (a .ring .now) (a .results .now)
     (test-short (c .before .before .before .before .before) (c .before .before .before .before .if1 .left)) bad refl in
@@ -100,7 +100,7 @@ look-at-requires c κs =
     neither (ltb (length (a .ring .now)) (ringWords (s .cfg))) (ltb (length (a .results .now)) 255)
     (test-short (c .before .before .before .before .before .before) (c .before .before .before .before .before .if1 .left)) in (
       c .before .before .before .before .before .before .before .before .before .before .before .before .pre,
-      sym (c .before .before .before .scan-at .ensures .bad) ∙ c .before .before .if2 .left,
+      sym (c .before .before .before .is-bad-at .ensures) ∙ c .before .before .if2 .left,
       ltb-false (length (a .ring .now)) (ringWords (s .cfg)) (enough .0),
     )
 
@@ -114,8 +114,8 @@ look-again-at-requires c κs =
     neither (ltb (length (a .ring .now)) (ringWords (sessionOf xs .cfg))) (ltb (length (a .results .now)) 255)
     (test-short (c .before .before .before .before .before .before .before .before .before .before .before .before .before)
     (c .before .before .before .before .before .before .before .before .before .before .before .before .if1 .left)) in
-    let scan = c .before .before .before .before .before .before .before .before .before .before .scan-at in
-    let g = good start (sym (scan .ensures .bad) ∙ c .before .before .before .before .before .before .before .before .before .if2 .left) in
+    let checked = c .before .before .before .before .before .before .before .before .before .before .is-bad-at in
+    let g = good start (sym (checked .ensures) ∙ c .before .before .before .before .before .before .before .before .before .if2 .left) in
     let act = c .before .before .before .before .before .before .look-at .ensures .0 in (
       looked-layout xs (a .ring .now) (a .results .now) (a .id) (a .event) (start .pre) g act,
       looked-good xs (a .ring .now) (a .results .now) (a .id) (a .event) (start .pre) g act,
@@ -139,9 +139,9 @@ returns-3 c =
     let start =
     c .before .before .before .before .before .before .before .before .before .before .before .before .before .before .before .before .before .before .before .before .before .before .before .before .before in
     let a = start .args in
-    let scan = c .before .before .before .before .before .before .before .before .before .before .before .before .before .before .before .before .scan-at in
+    let checked = c .before .before .before .before .before .before .before .before .before .before .before .before .before .before .before .before .is-bad-at in
     let fine =
-    sym (scan .ensures .bad)
+    sym (checked .ensures)
     ∙ c .before .before .before .before .before .before .before .before .before .before .before .before .before .before .before .if2 .left in
     let look = c .before .before .before .before .before .before .before .before .before .before .before .before .look-at .ensures in
     let again = c .before .before .before .before .before .look-again-at .ensures in
@@ -160,7 +160,7 @@ reclaim-at-spec =
     reclaim-refused-requires
     same-length
     returns
-    scan-at-requires
+    is-bad-at-requires
     reclaim-refused-requires-2
     same-length-2
     returns-2

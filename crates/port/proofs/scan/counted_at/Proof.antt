@@ -1,8 +1,10 @@
 -- What was read is the session's, so each test is one of the record check; the laws of the check say what they decide.
 use mathlib.Core.Path.{_≡_, refl, _∙_, ap, subst, subst⁻¹}
-use mathlib.Core.Bool.{false, _||_}
+use mathlib.Core.Bool.{Bool, false, _||_}
 use Prim.Native.Nat.{_≤_}
+use lib.Dec.{ltb}
 use borrow.Author.Needs.{needs}
+use Rattle.session.specs.declared.types.IsoConfig.{IsoConfig}
 use Rattle.session.specs.declared.types.IsoHead.{IsoHead}
 use Rattle.session.specs.Session.{slots, room}
 use Rattle.session.specs.Record.{isBadConfig, isBadCounts}
@@ -54,11 +56,8 @@ request-sums-requires c κs = (
       (counts-in (sessionOf (c .before .before .before .before .before .before .before .args .bytes .now)) (front c) .1),
 )
 
-room-requires : tie.Need-room-requires
-room-requires c κs = search needs
-
-wide-requires : tie.Need-wide-requires
-wide-requires c κs = search needs
+is-over-room-requires : tie.Need-is-over-room-requires
+is-over-room-requires c κs = search needs
 
 iso-ring-size-requires : tie.Need-iso-ring-size-requires
 iso-ring-size-requires c κs = search needs
@@ -71,18 +70,19 @@ is-bad-state-requires c κs = search needs
 
 returns-2 : tie.Need-returns-2
 returns-2 c =
-    let xs = c .before .before .before .before .before .before .before .before .before .before .before .before .before .before .before .before .args .bytes .now in
+    let xs = c .before .before .before .before .before .before .before .before .before .before .before .before .before .before .args .bytes .now in
     let s = sessionOf xs in
-    let sums = c .before .before .before .before .before .before .before .before .request-sums in
-    let config = config-is (c .before .before .before .before .before .before .before .before .before .before .before .before .before .before) in
-    let head = head-is (c .before .before .before .before .before .before .before .before .before .before .before .before .before) in
+    let sums = c .before .before .before .before .before .before .request-sums in
+    let config = config-is (c .before .before .before .before .before .before .before .before .before .before .before .before) in
+    let head = head-is (c .before .before .before .before .before .before .before .before .before .before .before) in
     let summed : Summed (s .head .done) (s .head .count) (s .requests) (sums .result) =
     subst (λ (h : IsoHead). Summed (h .done) (h .count) (s .requests) (sums .result)) head (sums .ensures) in
-    let capacity = c .before .before .before .before .before .wide .ensures .0 ∙ c .before .before .before .before .before .before .room .ensures ∙ ap room config in
+    let over = c .before .before .before .before .is-over-room .ensures ∙ ap (λ (k : IsoConfig). ltb (room k) (sums .result .pending)) config in
     let state =
     state-test s head (c .before .before .reason-at .ensures ∙ reason-there xs) (c .before .before .before .iso-ring-size .ensures ∙ ap slots config)
     (c .before .is-bad-state .ensures) in
-    all-counted s (front (c .before .before .before .before .before .before .before .before .before)) (sums .result) summed capacity _ state refl refl refl
+    all-counted s (front (c .before .before .before .before .before .before .before)) (sums .result) summed refl _ state
+    (ap (λ (b : Bool). sums .result .bad || ((ltb 1024 (sums .result .all) || b) || c .before .is-bad-state .result)) over) refl refl
 
 pub counted-at-spec : {M : Type 1} → statement M
 counted-at-spec =
@@ -94,8 +94,7 @@ counted-at-spec =
     bad-sums-requires
     returns
     request-sums-requires
-    room-requires
-    wide-requires
+    is-over-room-requires
     iso-ring-size-requires
     reason-at-requires
     is-bad-state-requires
