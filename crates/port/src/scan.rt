@@ -5,8 +5,6 @@ ghost use mathlib.Core.Bool.{true};
 ghost use Prim.Native.Nat.{_≤_};
 ghost use lib.ListN.{length};
 ghost use lib.Seq.{slice};
-ghost use lib.Dec.{ltb};
-ghost use Rattle.session.specs.Session.{room};
 ghost use Rattle.session.specs.Record.{anyBadPlan, isBadRecord};
 ghost use Rattle.session.specs.Scan.{Scanned};
 ghost use Rattle.port.specs.Layout.{sessionOf};
@@ -18,15 +16,14 @@ use crate::load::head_at;
 use crate::load::reason_at;
 use ring::iso_max_xfer_size;
 use ring::iso_ring_size;
-use session::IsoConfig;
 use session::RecordScan;
 use session::bad_scan;
 use session::is_bad_config;
 use session::is_bad_plan;
 use session::is_bad_request;
 use session::is_bad_state;
+use session::is_over_room;
 use session::rest;
-use session::room;
 use session::wide;
 use session::wide_from;
 
@@ -72,16 +69,6 @@ fn request_sums(bytes: &[u8], done: u16, count: u16) -> RequestSums
     }
 }
 
-// More packets are pending than the ring takes. With none there is nothing to divide for.
-fn is_over_room(cfg: IsoConfig, pending: u32) -> bool
-    ensures { λ r. ⌜ r ≡ ltb (room cfg) pending ⌝ }
-{
-    if pending == 0 {
-        return false;
-    }
-    pending > wide(room(cfg))
-}
-
 // Every test of a record but those of its plans.
 fn counted_at(bytes: &[u8]) -> RequestSums
     requires { ⌜ 8488 ≤ length (now bytes) ⌝ }
@@ -93,7 +80,7 @@ fn counted_at(bytes: &[u8]) -> RequestSums
         return bad_sums();
     }
     let sums = request_sums(bytes, head.done, head.count);
-    let many = (sums.all > 1_024) | is_over_room(cfg, sums.pending);
+    let many = (sums.all > 1_024) | is_over_room(cfg, sums.pending as u64);
     let speed = cfg.speed;
     let state = is_bad_state(head, iso_ring_size(speed), reason_at(bytes));
     RequestSums {

@@ -43,8 +43,8 @@ reclaim-unique κs a x y u v = equal-all (λ (words results : List ℕ). (tt, (t
 pub is-bad-config-unique : Unique 0 record.is_bad_config.Kinds.ps record.is_bad_config.Kinds.r record.is_bad_config.Reads.Post
 is-bad-config-unique κs a x y u v = equal refl
 
-pub room-unique : Unique 0 record.room.Kinds.ps record.room.Kinds.r record.room.Reads.Post
-room-unique κs a x y u v = equal refl
+pub is-over-room-unique : Unique 0 record.is_over_room.Kinds.ps record.is_over_room.Kinds.r record.is_over_room.Reads.Post
+is-over-room-unique κs a x y u v = equal refl
 
 pub is-bad-request-unique : Unique 0 record.is_bad_request.Kinds.ps record.is_bad_request.Kinds.r record.is_bad_request.Reads.Post
 is-bad-request-unique κs a x y u v = equal refl

@@ -34,7 +34,7 @@ pub use record::is_bad_config;
 pub use record::is_bad_plan;
 pub use record::is_bad_request;
 pub use record::is_bad_state;
-pub use record::room;
+pub use record::is_over_room;
 pub use record::wide_from;
 pub use reply::IsoAnswer;
 pub use reply::IsoEvent;

@@ -8,6 +8,8 @@ ghost use Rattle.session.specs.Record.{isBadConfig, isBadRequest, isBadP
 ghost use Rattle.session.specs.Scan.{badScan, Scanned};
 ghost use Rattle.session.specs.Session.{hasReason};
 ghost use Rattle.session.specs.Session.{room as Session·room};
+use crate::place::slots_of;
+use crate::place::step_of;
 use crate::tables::rest;
 use crate::tables::wide;
 use crate::types::IsoChannelState;
@@ -37,11 +39,24 @@ pub fn is_bad_config(cfg: IsoConfig) -> bool
 }
 
 // The most packets in flight.
-pub fn room(cfg: IsoConfig) -> u16
+fn room(cfg: IsoConfig) -> u16
     ensures { λ r. ⌜ r ≡ Session·room cfg ⌝ }
 {
     let speed = cfg.speed;
     iso_max_packets(cfg.interval, speed)
+}
+
+// More packets than may be in flight. Those that fit with a whole interval between them fit whatever the divisor is, so none is found.
+pub fn is_over_room(cfg: IsoConfig, packets: u64) -> bool
+    ensures { λ r. ⌜ r ≡ ltb (Session·room cfg) packets ⌝ }
+{
+    if packets > 255 {
+        return true;
+    }
+    if (packets as u32 + 1) * wide(step_of(cfg)) <= wide(slots_of(cfg)) {
+        return false;
+    }
+    packets > room(cfg) as u64
 }
 
 pub fn is_bad_request(request: IsoRequest) -> bool

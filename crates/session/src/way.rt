@@ -4,12 +4,12 @@ ghost use mathlib.Core.Path.{_≡_};
 ghost use mathlib.Core.Bool.{false, _&&_};
 ghost use mathlib.Core.List.{List};
 ghost use Prim.Native.Nat.{ℕ, _+_, _≤_, _<_};
-ghost use lib.Dec.{T};
+ghost use lib.Dec.{T, ltb};
 ghost use lib.ListN.{length, getD};
 ghost use Rattle.ring.specs.RingSums.{slotsFrom};
 ghost use Rattle.session.specs.declared.types.IsoRequest.{IsoRequest};
 ghost use Rattle.session.specs.declared.types.IsoPacketPlan.{IsoPacketPlan};
-ghost use Rattle.session.specs.Session.{slots, ringWords};
+ghost use Rattle.session.specs.Session.{slots, ringWords, room};
 ghost use Rattle.session.specs.Scan.{whole, Walked, Scanned, isGate};
 ghost use Rattle.session.specs.Place.{stepOf};
 ghost use Rattle.session.specs.Way.{isLow, isGuarded, isHeld, anyHeld, sum, entryNumber, entryRefusal, spendNumber, spendRefusal, gateAt, submitWay};
@@ -19,12 +19,11 @@ use crate::place::slots_of;
 use crate::place::step_of;
 use crate::record::RecordScan;
 use crate::record::has_reason;
-use crate::record::room;
+use crate::record::is_over_room;
 use crate::store::any_held;
 use crate::store::first_long;
 use crate::store::sum_of;
 use crate::tables::rest;
-use crate::tables::wide;
 use crate::transfer::IsoTransfer;
 use crate::transfer::SubmitWay;
 use crate::types::IsoConfig;
@@ -124,6 +123,16 @@ fn gate_way(live: bool, transfer: IsoTransfer, n: usize) -> SubmitWay
 }
 
 // 17, 18, 1 to 8: nothing is altered.
+// More packets than may be in flight, with those that are.
+fn is_over_with(cfg: IsoConfig, pending: u32, n: usize) -> bool
+    ensures { λ r. ⌜ r ≡ ltb (room cfg) (pending + n) ⌝ }
+{
+    if n > 255 {
+        return true;
+    }
+    is_over_room(cfg, pending as u64 + n as u64)
+}
+
 fn entry_refusal(
     cfg: IsoConfig,
     head: IsoHead,
@@ -145,7 +154,7 @@ fn entry_refusal(
     if scan.bad {
         return 18;
     }
-    let over = n > rest(wide(room(cfg)), scan.pending);
+    let over = is_over_with(cfg, scan.pending, n);
     let full = (head.count >= 64) | (n > rest(1_024, scan.all));
     let speed = cfg.speed;
     entry_number(

@@ -2,8 +2,8 @@
 use mathlib.Core.Path.{_≡_, refl, _∙_, sym, ap}
 use mathlib.Core.Bool.{Bool, true, false, cond}
 use mathlib.Core.List.{List, [], _∷_, _++_}
-use Prim.Native.Nat.{ℕ, _+_, _-_, _≤_, _<_}
-use native.Mathlib.Nat.{zero-add, div-le-self}
+use Prim.Native.Nat.{ℕ, _+_, _-_, _*_, _/_, _≤_, _<_, max}
+use native.Mathlib.Nat.{zero-add, div-le-self, le-trans, le-of-dvd, le-div-iff-mul-le, mul-le-mul-left}
 use native.Mathlib.Omega.{arith}
 use lib.Dec.{ltb}
 use lib.ListN.{length, getD}
@@ -12,6 +12,8 @@ use borrow.Author.Tests.{ltb-true, ltb-false}
 use Rattle.ring.specs.RingSums.{ringSize, gridStep}
 use Rattle.ring.specs.declared.speed.Speed.{Speed}
 use Rattle.ring.specs.declared.speed.Speed.the-variants.{High, Full, Low}
+use Rattle.ring.specs.Gcd.{gcd}
+use Rattle.ring.proofs.Euclid.{gcd-pos, gcd-divides}
 use Rattle.ring.proofs.RingFacts.{ring-size-pos, capacity-more}
 use Rattle.session.specs.declared.types.IsoConfig.{IsoConfig}
 use Rattle.session.specs.declared.types.IsoRequest.{IsoRequest}
@@ -30,6 +32,16 @@ room-below cfg =
 
 pub room-few : (cfg : IsoConfig) → room cfg ≤ 255
 room-few cfg = omega (arith, room-below cfg, ring-few (cfg .speed))
+
+-- packets that fit with a whole interval between them fit: the divisor is at most the interval
+pub room-fits : (cfg : IsoConfig) (n : ℕ) → (n + 1) * max 1 (cfg .interval) ≤ slots cfg → n ≤ room cfg
+room-fits cfg n h =
+    let step : ℕ = max 1 (cfg .interval) in
+    let size : ℕ = max 1 (slots cfg) in
+    let some : 0 < step = omega arith in
+    let close : gcd step size ≤ step = le-of-dvd some (gcd-divides step size .0) in
+    let turns : n + 1 ≤ slots cfg / gcd step size = le-div-iff-mul-le (gcd-pos step size) .1 (le-trans (mul-le-mul-left (n + 1) close) h) in
+    omega arith
 
 -- the packets of a slice: one request more, none left, two parts
 pub packets-next :

@@ -1,17 +1,16 @@
 -- `entry_refusal` tests in order: 17 and 18 by themselves, then the code's flags are the definition's tests, in every session that the walk speaks of.
-use mathlib.Core.Path.{_≡_, _∙_, sym, ap, ap₂, subst}
+use mathlib.Core.Path.{_≡_, _∙_, sym, ap, subst}
 use mathlib.Core.Bool.{true, false, not, _||_, _&&_}
 use Prim.Native.Nat.{ℕ, _+_, _-_, _≤_, _<_}
 use native.Mathlib.Omega.{arith}
 use lib.Dec.{eqb, leb, ltb}
 use borrow.Author.Tests.{lt-ltb, le-ltb, ltb-false, leb-false}
-use Rattle.session.specs.Session.{ringWords, room, allPackets, pendingPackets}
+use Rattle.session.specs.Session.{ringWords, room, allPackets}
 use Rattle.session.specs.Record.{isBadRecord}
 use Rattle.session.specs.Scan.{whole}
 use Rattle.session.specs.Way.{isOver}
 use Rattle.session.proofs.Laws.Sums.{room-few}
 use Rattle.session.proofs.Laws.Record.{good-sums}
-use Rattle.words.proofs.Laws.Limits.{rest-test}
 use Rattle.words.proofs.Laws.Tests.{neither}
 use Rattle.session.proofs.Laws.Ways.{full-test, entry-equal, entry-short, entry-bad, entry-rest, not-over}
 use borrow.Author.Needs.{needs}
@@ -33,17 +32,11 @@ returns c =
 returns-2 : tie.Need-returns-2
 returns-2 c = (λ requests plans w. entry-bad _ (long (c .before)) (sym (w .bad) ∙ c .if2 .taken), λ z. absurd (omega arith))
 
-room-requires : tie.Need-room-requires
-room-requires c κs = search needs
-
-wide-requires : tie.Need-wide-requires
-wide-requires c κs = search needs
+is-over-with-requires : tie.Need-is-over-with-requires
+is-over-with-requires c κs = search needs
 
 rest-requires : tie.Need-rest-requires
 rest-requires c κs = search needs
-
-rest-requires-2 : tie.Need-rest-requires-2
-rest-requires-2 c κs = search needs
 
 has-reason-requires : tie.Need-has-reason-requires
 has-reason-requires c κs = search needs
@@ -56,46 +49,29 @@ entry-number-requires c κs = search needs
 
 returns-3 : tie.Need-returns-3
 returns-3 c =
-    let a = c .before .before .before .before .before .before .before .before .before .before .before .before .before .before .args in
+    let a = c .before .before .before .before .before .before .before .before .before .before .before .before .args in
     let n = a .n in
     let alone = eqb (a .head .done) (a .head .count) in
-    let most : c .before .before .before .before .before .before .before .before .before .wide .result ≡ room (a .cfg) =
-    c .before .before .before .before .before .before .before .before .before .wide .ensures .0
-    ∙ c .before .before .before .before .before .before .before .before .before .before .room .ensures in
-    let last = leb 64 (a .head .count) || ltb (c .before .before .before .before .before .before .rest2 .result) n in (
+    let last = leb 64 (a .head .count) || ltb (c .before .before .before .before .before .before .rest .result) n in (
       λ requests plans w.
           let s = whole (a .cfg) (a .head) (a .fatal) requests plans in
-          let bad : isBadRecord s ≡ false =
-          sym (w .bad) ∙ c .before .before .before .before .before .before .before .before .before .before .before .if2 .left in
+          let bad : isBadRecord s ≡ false = sym (w .bad) ∙ c .before .before .before .before .before .before .before .before .before .if2 .left in
           let found = w .found bad in
-          let over : ltb (c .before .before .before .before .before .before .before .before .rest .result) n ≡ isOver s n =
-          ap (λ (k : ℕ). ltb k n)
-          (c .before .before .before .before .before .before .before .before .rest .ensures ∙ ap₂ (λ (r p : ℕ). r - p) most (found .pending))
-          ∙ rest-test (room (a .cfg)) (pendingPackets s) n (good-sums s bad .1) in
+          let over : c .before .before .before .before .before .before .before .before .is-over-with .result ≡ isOver s n = c .before .before .before .before .before .before .before .before .is-over-with .ensures ∙ ap (λ (p : ℕ). ltb (room (a .cfg)) (p + n)) (found .pending) in
           let full : last ≡ (ltb 64 (a .head .count + 1) || ltb 1024 (allPackets s + n)) =
-          ap (λ (k : ℕ). leb 64 (a .head .count) || ltb k n)
-          (c .before .before .before .before .before .before .rest2 .ensures ∙ ap (λ (x : ℕ). 1024 - x) (found .all))
+          ap (λ (k : ℕ). leb 64 (a .head .count) || ltb k n) (c .before .before .before .before .before .before .rest .ensures ∙ ap (λ (x : ℕ). 1024 - x) (found .all))
           ∙ full-test (a .head .count) (allPackets s) n (good-sums s bad .0) in
           c .entry-number .ensures
-          ∙ entry-equal (not (a .transfer .isochronous)) (eqb n 0) (not (a .transfer .«has_buffer»)) alone
-          (c .before .before .before .before .before .has-reason .ensures) (c .before .before .before .before .is-low .ensures) over full
-          ∙ entry-rest _ (long (c .before .before .before .before .before .before .before .before .before .before .before .before)) bad,
+          ∙ entry-equal (not (a .transfer .isochronous)) (eqb n 0) (not (a .transfer .«has_buffer»)) alone (c .before .before .before .before .before .has-reason .ensures) (c .before .before .before .before .is-low .ensures) over full
+          ∙ entry-rest _ (long (c .before .before .before .before .before .before .before .before .before .before)) bad,
       λ z.
-          let over = ltb (c .before .before .before .before .before .before .before .before .rest .result) n in
+          let over = c .before .before .before .before .before .before .before .before .is-over-with .result in
           let off =
-          not-over (c .before .before .before .before .before .has-reason .result) (c .before .before .before .before .is-low .result)
-          (not (a .transfer .isochronous)) (eqb n 0) (not (a .transfer .«has_buffer»)) (over && alone) over last (sym (c .entry-number .ensures) ∙ z) in (
-            omega (
-              arith,
-              ltb-false (c .before .before .before .before .before .before .before .before .rest .result) n (off .0),
-              c .before .before .before .before .before .before .before .before .rest .ensures,
-              most,
-              room-few (a .cfg),
-            ),
-            leb-false 64 (a .head .count)
-                (neither (leb 64 (a .head .count)) (ltb (c .before .before .before .before .before .before .rest2 .result) n) (off .1) .0),
-            ltb-false (a .words) (ringWords (a .cfg))
-                (long (c .before .before .before .before .before .before .before .before .before .before .before .before)),
+          not-over (c .before .before .before .before .before .has-reason .result) (c .before .before .before .before .is-low .result) (not (a .transfer .isochronous)) (eqb n 0) (not (a .transfer .«has_buffer»)) (over && alone) over last
+          (sym (c .entry-number .ensures) ∙ z) in (
+            omega (arith, ltb-false (room (a .cfg)) (a .scan .pending + n) (sym (c .before .before .before .before .before .before .before .before .is-over-with .ensures) ∙ off .0), room-few (a .cfg)),
+            leb-false 64 (a .head .count) (neither (leb 64 (a .head .count)) (ltb (c .before .before .before .before .before .before .rest .result) n) (off .1) .0),
+            ltb-false (a .words) (ringWords (a .cfg)) (long (c .before .before .before .before .before .before .before .before .before .before)),
           ),
     )
 
@@ -106,10 +82,8 @@ entry-refusal-spec =
     ring-words-requires
     returns
     returns-2
-    room-requires
-    wide-requires
+    is-over-with-requires
     rest-requires
-    rest-requires-2
     has-reason-requires
     is-low-requires
     entry-number-requires
