@@ -56,6 +56,9 @@ request-sums-requires c κs = (
       (counts-in (sessionOf (c .before .before .before .before .before .before .before .args .bytes .now)) (front c) .1),
 )
 
+cast-is-over-room : tie.Need-cast-is-over-room
+cast-is-over-room c = search needs
+
 is-over-room-requires : tie.Need-is-over-room-requires
 is-over-room-requires c κs = search needs
 
@@ -70,18 +73,18 @@ is-bad-state-requires c κs = search needs
 
 returns-2 : tie.Need-returns-2
 returns-2 c =
-    let xs = c .before .before .before .before .before .before .before .before .before .before .before .before .before .before .args .bytes .now in
+    let xs = c .before .before .before .before .before .before .before .before .before .before .before .before .before .before .before .args .bytes .now in
     let s = sessionOf xs in
-    let sums = c .before .before .before .before .before .before .request-sums in
-    let config = config-is (c .before .before .before .before .before .before .before .before .before .before .before .before) in
-    let head = head-is (c .before .before .before .before .before .before .before .before .before .before .before) in
+    let sums = c .before .before .before .before .before .before .before .request-sums in
+    let config = config-is (c .before .before .before .before .before .before .before .before .before .before .before .before .before) in
+    let head = head-is (c .before .before .before .before .before .before .before .before .before .before .before .before) in
     let summed : Summed (s .head .done) (s .head .count) (s .requests) (sums .result) =
     subst (λ (h : IsoHead). Summed (h .done) (h .count) (s .requests) (sums .result)) head (sums .ensures) in
     let over = c .before .before .before .before .is-over-room .ensures ∙ ap (λ (k : IsoConfig). ltb (room k) (sums .result .pending)) config in
     let state =
     state-test s head (c .before .before .reason-at .ensures ∙ reason-there xs) (c .before .before .before .iso-ring-size .ensures ∙ ap slots config)
     (c .before .is-bad-state .ensures) in
-    all-counted s (front (c .before .before .before .before .before .before .before)) (sums .result) summed refl _ state
+    all-counted s (front (c .before .before .before .before .before .before .before .before)) (sums .result) summed refl _ state
     (ap (λ (b : Bool). sums .result .bad || ((ltb 1024 (sums .result .all) || b) || c .before .is-bad-state .result)) over) refl refl
 
 pub counted-at-spec : {M : Type 1} → statement M
@@ -94,6 +97,7 @@ counted-at-spec =
     bad-sums-requires
     returns
     request-sums-requires
+    cast-is-over-room
     is-over-room-requires
     iso-ring-size-requires
     reason-at-requires
