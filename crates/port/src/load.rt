@@ -1,11 +1,14 @@
 // A session's bytes: whether they are one of the layout, and what stands before the tables.
 ghost use mathlib.Core.Path.{_≡_};
-ghost use Prim.Native.Nat.{_+_, _≤_};
+ghost use mathlib.Core.Bool.{false};
+ghost use Prim.Native.Nat.{_+_, _≤_, min};
 ghost use lib.ListN.{length, drop};
+ghost use lib.Seq.{slice};
+ghost use Rattle.session.specs.Session.{packetsOf};
 ghost use Rattle.port.specs.Tags.{taggedOf, fatalOf};
 ghost use Rattle.port.specs.Layout.{configOf, headOf, sessionOf, anyOf, isBadRequestBytes, isBadPlanBytes, isBadMark, isBadHead};
-ghost use Rattle.port.specs.Layout.{requestsIn, plansIn, layoutNumber};
-use crate::drain::packets_before;
+ghost use Rattle.port.specs.Layout.{requestsIn, layoutNumber};
+ghost use Rattle.port.specs.Places.{requestsOf};
 use crate::entries::is_bad_plan_at;
 use crate::entries::is_bad_request_at;
 use crate::entries::tagged_at;
@@ -60,7 +63,7 @@ pub(crate) fn reason_at(bytes: &[u8]) -> IsoFatal
     fatal_of(tagged_at(bytes, 34))
 }
 
-// The entries in use, as far as the tables go.
+// The requests in use, as far as the table goes.
 fn requests_in(bytes: &[u8]) -> u16
     requires { ⌜ 8488 ≤ length (now bytes) ⌝ }
     ensures { λ r. ⌜ r ≡ requestsIn (sessionOf (now (bytes .entry))) ⌝ }
@@ -72,31 +75,45 @@ fn requests_in(bytes: &[u8]) -> u16
     64
 }
 
-fn plans_in(bytes: &[u8]) -> usize
-    requires { ⌜ 8488 ≤ length (now bytes) ⌝ }
-    ensures { λ r. ⌜ r ≡ plansIn (sessionOf (now (bytes .entry))) ⌝ }
-{
-    let all = packets_before(bytes, requests_in(bytes));
-    if all < 1_024 {
-        return all;
-    }
-    1_024
+// What the requests in use say: whether the outcome of one is none of the layout and, where none is, the sum of their packets.
+pub(crate) struct Used {
+    pub bad: bool,
+    pub packets: usize,
 }
 
-fn any_bad_request(bytes: &[u8], n: u16) -> bool
+fn requests_used(bytes: &[u8], n: u16) -> Used
     requires { ⌜ (8488 ≤ length (now bytes)) × (n ≤ 64) ⌝ }
-    ensures { λ r. ⌜ r ≡ anyOf isBadRequestBytes 20 n (drop 40 (now (bytes .entry))) ⌝ }
+    ensures { λ r. ⌜ (r .bad ≡ anyOf isBadRequestBytes 20 n (drop 40 (now (bytes .entry))))
+        × (r .bad ≡ false → r .packets ≡ packetsOf (slice 0 n (requestsOf (now (bytes .entry))))) ⌝ }
 {
+    let mut sum: usize = 0;
     let mut at: usize = 40;
     let mut i: u16 = 0;
     while i < n {
         if is_bad_outcome_at(bytes, at) {
-            return true;
+            return Used {
+                bad: true,
+                packets: 0,
+            };
         }
+        sum += u16_at(bytes, at + 12) as usize;
         at += 20;
         i += 1;
     }
-    false
+    Used {
+        bad: false,
+        packets: sum,
+    }
+}
+
+// The plans of so many packets, as far as the table goes.
+fn plans_for(packets: usize) -> usize
+    ensures { λ r. ⌜ r ≡ min packets 1024 ⌝ }
+{
+    if packets < 1_024 {
+        return packets;
+    }
+    1_024
 }
 
 // Most requests have no outcome yet, or none but done: its six bytes, behind the count of packets, are then 0.
@@ -183,7 +200,11 @@ pub(crate) fn layout_refusal(bytes: &[u8]) -> u16
     if is_bad_mark(bytes) | is_bad_head(bytes) {
         return 18;
     }
-    if any_bad_request(bytes, requests_in(bytes)) | any_bad_plan(bytes, plans_in(bytes)) {
+    let used = requests_used(bytes, requests_in(bytes));
+    if used.bad {
+        return 18;
+    }
+    if any_bad_plan(bytes, plans_for(used.packets)) {
         return 18;
     }
     0
