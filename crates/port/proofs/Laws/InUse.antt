@@ -1,12 +1,11 @@
 -- A poll has no more and no fewer entries in use than before it, so the bytes stay in the layout.
-use mathlib.Core.Path.{_≡_, refl, _∙_, sym, ap}
+use mathlib.Core.Path.{_≡_, refl, _∙_, sym}
 use mathlib.Core.Bool.{Bool, true, false, _||_, cond}
 use mathlib.Core.List.{List}
 use Prim.Native.Nat.{ℕ, zero, suc, _+_, _-_, _≤_, _<_}
 use native.Mathlib.Nat.{le-of-eq}
 use native.Mathlib.Omega.{arith}
 use Rattle.session.specs.declared.reply.IsoEvent.{IsoEvent}
-use Rattle.session.specs.declared.reply.IsoReply.{IsoReply}
 use Rattle.session.specs.declared.reply.PollWay.{PollWay}
 use Rattle.session.specs.declared.reply.PollWay.the-variants as way
 use Rattle.session.specs.declared.reply.IsoAnswer.the-variants as answer

@@ -3,7 +3,6 @@ use mathlib.Core.Path.{_≡_, refl, _∙_, sym, ap, ap₂, subst⁻¹}
 use mathlib.Core.Bool.{Bool, true, false, not, _||_, _&&_}
 use mathlib.Core.List.{List, [], _∷_, _++_}
 use Prim.Native.Nat.{ℕ, zero, suc, _+_, _*_, _/_, _%_, _≤_, _<_}
-use native.Mathlib.Nat.{mul-zero, mul-suc}
 use native.Mathlib.Omega.{arith}
 use lib.Dec.{eqb, leb, ltb}
 use lib.ListN.{length, getD, take, drop, length-drop}
@@ -14,7 +13,7 @@ use Rattle.words.proofs.Laws.Tests.{neither}
 use Rattle.port.specs.declared.tags.Tagged.{Tagged}
 use Rattle.port.specs.Bytes.{byteOf, u16Of, u32Of, u64Of, u16Bytes, u32Bytes, u64Bytes}
 use Rattle.port.specs.Tags.{statusTag, statusOf, faultOf, isFault, tagged, taggedBytes, taggedOf, outcomeTagged, outcomeOf, fatalTagged, fatalOf, isBadTagged}
-use Rattle.port.specs.Layout.{requestBytes, requestOf, isBadRequestBytes, planBytes, planOf, isBadPlanBytes, tableBytes, tableOf, anyOf}
+use Rattle.port.specs.Layout.{requestBytes, requestOf, isBadRequestBytes, planBytes, planOf, isBadPlanBytes}
 
 -- ---- numbers
 
@@ -210,18 +209,3 @@ plan-kept xs h k e =
     let status : byteOf (drop 6 xs) ∷ [] ≡ take 1 (drop 6 xs) = byte-kept (drop 6 xs) (omega (arith, length-drop 6 xs)) in
     join 6 1 xs (join 4 2 xs (join 2 2 xs planned slot) actual)
     (ap (λ (n : ℕ). n ∷ []) (pair-kept (λ (n : ℕ). statusTag (statusOf n)) refl refl (byteOf (drop 6 xs)) e) ∙ status)
-
--- ---- tables
-
-module _ {A : Type 0} (f : List ℕ → A) (g : A → List ℕ) (bad : List ℕ → Bool) (w : ℕ)
-    (kept : (xs : List ℕ) → Octets xs → w ≤ length xs → bad xs ≡ false → g (f xs) ≡ take w xs) where
-  pub table-kept :
-      (n : ℕ) (xs : List ℕ) → Octets xs → w * n ≤ length xs → anyOf bad w n xs ≡ false → tableBytes g (tableOf f w n xs) ≡ take (w * n) xs
-  unfolding tableBytes tableOf anyOf
-  table-kept zero xs h k e = ap (λ (m : ℕ). take m xs) (sym (mul-zero w))
-  table-kept (suc n) xs h k e =
-      let whole : w * suc n ≡ w + w * n = mul-suc w n ∙ omega arith in
-      let clear = neither (bad xs) (anyOf bad w n (drop w xs)) e in
-      join w (w * n) xs (kept xs h (omega arith) (clear .0))
-      (table-kept n (drop w xs) (octets-drop w xs h) (omega (arith, length-drop w xs)) (clear .1))
-      ∙ ap (λ (m : ℕ). take m xs) (sym whole)

@@ -2,11 +2,11 @@
 -- beginning. Bytes of entries that are not in the layout stay, so an entry may be written only where it was tested, or behind those written.
 use mathlib.Core.Path.{_≡_, refl, _∙_, sym, ap, ap₂, subst}
 use mathlib.Core.Bool.{false}
-use mathlib.Core.List.{List, [], _∷_, _++_, append-assoc}
+use mathlib.Core.List.{List, _++_, append-assoc}
 use Prim.Native.Nat.{ℕ, suc, _+_, _*_, _≤_, _<_}
 use native.Mathlib.Omega.{arith}
 use lib.ListN.{length, drop, set, length-append, length-drop, length-set}
-use lib.Seq.{sets, drop-at, length-sets}
+use lib.Seq.{sets, drop-at}
 use Rattle.session.specs.declared.types.IsoHead.{IsoHead}
 use Rattle.session.specs.declared.types.IsoFatal.{IsoFatal}
 use Rattle.session.specs.declared.types.IsoRequest.{IsoRequest}
@@ -16,13 +16,14 @@ use Rattle.session.specs.Scan.{whole}
 use Rattle.port.specs.Bytes.{u16Bytes, u32Bytes, u64Bytes}
 use Rattle.port.specs.Tags.{taggedBytes, taggedOf, fatalTagged}
 use Rattle.port.specs.Layout.{markBytes, configBytes, configOf, headBytes, headOf, requestBytes, requestOf, isBadRequestBytes, planBytes, planOf, isBadPlanBytes}
-use Rattle.port.specs.Layout.{tableBytes, tableOf, tableKept, anyOf, front, sessionOf, kept, isBadMark, isBadHead}
+use Rattle.port.specs.Layout.{tableOf, tableKept, anyOf, front, sessionOf, kept, isBadMark, isBadHead}
 use Rattle.port.specs.Places.{requestsOf, plansOf, withRequests, withPlans, Kept, Left}
 use Rattle.port.proofs.Laws.Back.{request-back, request-good, plan-back, plan-good, fatal-back}
 use Rattle.port.proofs.Laws.Entries.{length-request, length-plan, length-tagged, request-within, bad-request-within, plan-within, bad-plan-within}
 use Rattle.port.proofs.Laws.Loaded.{session-at}
-use Rattle.port.proofs.Laws.Over.{sets-behind, sets-middle, drop-sets, drop-sets-add, table-before, table-set, length-kept, kept-put, kept-next, kept-over, kept-any}
+use Rattle.port.proofs.Laws.Over.{table-before, table-set, length-kept, kept-put, kept-next, kept-over, kept-any}
 use Rattle.port.proofs.Laws.Placed.{requests-many, plans-many}
+use Rattle.port.proofs.Laws.Runs.{sets-behind, sets-middle, drop-sets, drop-sets-add}
 use Rattle.port.proofs.Laws.Saved.{length-front}
 use Rattle.port.proofs.Roundtrip.{config-back, head-back, reason-back, mark-good, head-good}
 
