@@ -95,7 +95,14 @@ fn plan_marks(bytes: &[u8], all: u32, pending: u32, limit: u16, slots: u16) -> R
     requires { ⌜ (8488 ≤ length (now bytes)) × (all ≤ 1024) × (pending ≤ all) × (slots ≤ 256) ⌝ }
     ensures { λ r. ⌜ Marked all pending limit slots (sessionOf (now (bytes .entry)) .plans) r ⌝ }
 {
-    let mut held = [false; 256];
+    let last = plan_at(bytes, 1_320 + 7 * rest(all, 1));
+    let mut scan = RecordScan {
+        bad: false,
+        all,
+        pending,
+        tail: last.desc_index,
+        held: [false; 256],
+    };
     let mut at: usize = 1_320;
     let mut j: u32 = 0;
     while j < all {
@@ -104,19 +111,12 @@ fn plan_marks(bytes: &[u8], all: u32, pending: u32, limit: u16, slots: u16) -> R
             return bad_scan();
         }
         if all - pending <= j {
-            held[plan.desc_index as usize] = true;
+            scan.held[plan.desc_index as usize] = true;
         }
         at += 7;
         j += 1;
     }
-    let tail = plan_at(bytes, 1_320 + 7 * rest(all, 1));
-    RecordScan {
-        bad: false,
-        all,
-        pending,
-        tail: tail.desc_index,
-        held,
-    }
+    scan
 }
 
 pub(crate) fn scan_at(bytes: &[u8]) -> RecordScan

@@ -23,48 +23,74 @@ use Rattle.port.proofs.scan.plan_marks.Statement.{statement}
 use Rattle.port.proofs.scan.plan_marks.Tie as tie
 
 abbrev Inv-loop : tie.InvT-loop
-Inv-loop bytes all pending limit slots held₀ at₀ j₀ held at j =
+Inv-loop bytes all pending limit slots scan₀ at₀ j₀ scan at j =
     (j ≤ all) × (at ≡ 1320 + 7 * j)
     × (anyBadPlan limit slots (slice 0 all (sessionOf bytes .plans)) ≡ anyBadPlan limit slots (slice j all (sessionOf bytes .plans)))
-    × (length held ≡ 256)
+    × (length (scan .held) ≡ 256)
     × ((k : ℕ) → k < 256
-    → (getD held k false || isHeld (slice ((all - pending) + (j - (all - pending))) all (sessionOf bytes .plans)) k)
+    → (getD (scan .held) k false || isHeld (slice ((all - pending) + (j - (all - pending))) all (sessionOf bytes .plans)) k)
     ≡ isHeld (slice (all - pending) all (sessionOf bytes .plans)) k)
+    × (scan .bad ≡ false) × (scan .all ≡ all) × (scan .pending ≡ pending) × (scan .tail ≡ getD (sessionOf bytes .plans) (all - 1) blankPlan .«desc_index»)
 
 abbrev μ-loop : tie.MeasureT-loop
-μ-loop bytes all pending limit slots held₀ at₀ j₀ held at j = all - j
+μ-loop bytes all pending limit slots scan₀ at₀ j₀ scan at j = all - j
 
 within : (c : tie.Start Inv-loop μ-loop) → c .args .all ≤ length (sessionOf (c .args .bytes .now) .plans)
 within c = omega (arith, c .pre .1, plans-many (c .args .bytes .now))
 
 -- what is read is the entry of the table
 here :
-    (c : tie.After-plan-at Inv-loop μ-loop)
-    → c .plan-at .result ≡ getD (sessionOf (c .before .before .before .before .args .bytes .now) .plans) (c .before .before .loop .j) blankPlan
+    (c : tie.After-plan-at2 Inv-loop μ-loop)
+    → c .plan-at2 .result ≡ getD (sessionOf (c .before .before .before .before .before .before .args .bytes .now) .plans) (c .before .before .loop .j) blankPlan
 here c =
-    let xs = c .before .before .before .before .args .bytes .now in
-    c .plan-at .ensures
+    let xs = c .before .before .before .before .before .before .args .bytes .now in
+    c .plan-at2 .ensures
     ∙ ap (λ (n : ℕ). planOf (drop n xs)) (c .before .before .loop .inv .1)
-    ∙ plan-there xs (c .before .before .loop .j) blankPlan (omega (arith, c .before .before .before .before .pre .1))
+    ∙ plan-there xs (c .before .before .loop .j) blankPlan (omega (arith, c .before .before .before .before .before .before .pre .1))
 
 -- a plan that is not bad has a slot below 256
-slot-below : (c : tie.Else1 Inv-loop μ-loop) → c .before .before .plan-at .result .«desc_index» < 256
+slot-below : (c : tie.Else1 Inv-loop μ-loop) → c .before .before .plan-at2 .result .«desc_index» < 256
 slot-below c =
     let good = sym (c .before .is-bad-plan .ensures) ∙ c .if1 .left in
     omega (
       arith,
-      good-plan (c .before .before .before .before .before .before .args .limit) (c .before .before .before .before .before .before .args .slots)
-          (c .before .before .plan-at .result) good .slot,
-      c .before .before .before .before .before .before .pre .3,
+      good-plan (c .before .before .before .before .before .before .before .before .args .limit) (c .before .before .before .before .before .before .before .before .args .slots)
+          (c .before .before .plan-at2 .result) good .slot,
+      c .before .before .before .before .before .before .before .before .pre .3,
     )
+
+rest-requires : tie.Need-rest-requires Inv-loop μ-loop
+rest-requires c κs = search needs
+
+mul-plan-at : tie.Need-mul-plan-at Inv-loop μ-loop
+mul-plan-at c = omega (arith, c .before .before .pre .1, c .rest .ensures)
+
+add-plan-at : tie.Need-add-plan-at Inv-loop μ-loop
+add-plan-at c = omega (arith, c .before .before .pre .1, c .rest .ensures)
+
+plan-at-requires : tie.Need-plan-at-requires Inv-loop μ-loop
+plan-at-requires c κs = omega (arith, c .before .before .pre .0, c .before .before .pre .1, c .rest .ensures)
 
 loop-holds : tie.Need-loop-holds Inv-loop μ-loop
 loop-holds c =
-    let a = c .before .args in
-    (omega arith, refl, refl, refl, marks-first (a .all - a .pending) (a .all) (sessionOf (a .bytes .now) .plans))
+    let a = c .before .before .before .args in
+    let l = sessionOf (a .bytes .now) .plans in (
+      omega arith,
+      refl,
+      refl,
+      refl,
+      marks-first (a .all - a .pending) (a .all) l,
+      refl,
+      refl,
+      refl,
+      ap (λ (p : IsoPacketPlan). p .«desc_index») (c .plan-at .ensures
+      ∙ plan-there (a .bytes .now) (c .before .rest .result) blankPlan
+      (omega (arith, c .before .before .before .pre .1, c .before .rest .ensures)))
+      ∙ ap (λ (k : ℕ). getD l k blankPlan .«desc_index») (c .before .rest .ensures),
+    )
 
-plan-at-requires : tie.Need-plan-at-requires Inv-loop μ-loop
-plan-at-requires c κs = omega (arith, c .before .before .before .pre .0, c .before .before .before .pre .1)
+plan-at-requires-2 : tie.Need-plan-at-requires-2 Inv-loop μ-loop
+plan-at-requires-2 c κs = omega (arith, c .before .before .before .before .before .pre .0, c .before .before .before .before .before .pre .1)
 
 is-bad-plan-requires : tie.Need-is-bad-plan-requires Inv-loop μ-loop
 is-bad-plan-requires c κs = search needs
@@ -74,14 +100,14 @@ bad-scan-requires c κs = search needs
 
 returns : tie.Need-returns Inv-loop μ-loop
 returns c =
-    let a = c .before .before .before .before .before .before .before .args in
+    let a = c .before .before .before .before .before .before .before .before .before .args in
     let l = sessionOf (a .bytes .now) .plans in
     let found =
     sym (ap (isBadPlan (a .limit) (a .slots)) (here (c .before .before .before))) ∙ sym (c .before .before .is-bad-plan .ensures) ∙ c .before .if1 .taken in
     let some =
     c .before .before .before .before .before .loop .inv .2
     ∙ plan-here (a .limit) (a .slots) (c .before .before .before .before .before .loop .j) (a .all) l (omega arith)
-    (within (c .before .before .before .before .before .before .before)) found in
+    (within (c .before .before .before .before .before .before .before .before .before)) found in
     let is-bad = ap (λ (r : RecordScan). r .bad) (c .bad-scan .ensures) in
     record {
       bad = is-bad ∙ sym some;
@@ -92,78 +118,67 @@ returns c =
     }
 
 sub-if2 : tie.Need-sub-if2 Inv-loop μ-loop
-sub-if2 c = omega (arith, c .before .before .before .before .before .before .pre .2)
+sub-if2 c = omega (arith, c .before .before .before .before .before .before .before .before .pre .2)
 
-cast-held : tie.Need-cast-held Inv-loop μ-loop
-cast-held c = omega (arith, slot-below (c .before .before))
+cast-scan : tie.Need-cast-scan Inv-loop μ-loop
+cast-scan c = omega (arith, slot-below (c .before .before))
 
-array-write-held : tie.Need-array-write-held Inv-loop μ-loop
-array-write-held c = omega (arith, slot-below (c .before .before))
+element-write-scan : tie.Need-element-write-scan Inv-loop μ-loop
+element-write-scan c = omega (arith, slot-below (c .before .before))
 
 add-at : tie.Need-add-at Inv-loop μ-loop
-add-at c = omega (arith, c .before .before .before .before .before .before .before .pre .1)
+add-at c = omega (arith, c .before .before .before .before .before .before .before .before .before .pre .1)
 
 add-j : tie.Need-add-j Inv-loop μ-loop
-add-j c = omega (arith, c .before .before .before .before .before .before .before .pre .1)
+add-j c = omega (arith, c .before .before .before .before .before .before .before .before .before .pre .1)
 
 loop-less : tie.Need-loop-less Inv-loop μ-loop
 loop-less c = omega arith
 
 loop-again : tie.Need-loop-again Inv-loop μ-loop
 loop-again c =
-    let a = c .before .before .before .before .before .before .before .args in
+    let a = c .before .before .before .before .before .before .before .before .before .args in
     let l = sessionOf (a .bytes .now) .plans in
     let now = c .before .before .before .before .before .loop in
     let from = a .all - a .pending in
     let is = here (c .before .before .before) in
-    let slot = c .before .before .before .plan-at .result .«desc_index» in
+    let slot = c .before .before .before .plan-at2 .result .«desc_index» in
     let at : slot ≡ getD l (now .j) blankPlan .«desc_index» = ap (λ (p : IsoPacketPlan). p .«desc_index») is in
     let good = sym (ap (isBadPlan (a .limit) (a .slots)) is) ∙ sym (c .before .before .is-bad-plan .ensures) ∙ c .before .if1 .left in
-    let fits = within (c .before .before .before .before .before .before .before) in
+    let fits = within (c .before .before .before .before .before .before .before .before .before) in
     let less : now .j < a .all = omega arith in (
       omega arith,
       omega (arith, now .inv .1),
       now .inv .2 ∙ plan-next (a .limit) (a .slots) (now .j) (a .all) l less fits good,
-      ⊎-elim (λ w. ap length (w .2) ∙ simp length-set (now .inv .3)) (λ w. ap length (w .1) ∙ now .inv .3) (c .if2 .came),
+      ⊎-elim (λ w. ap (λ (r : RecordScan). length (r .held)) (w .2) ∙ simp length-set (now .inv .3)) (λ w. ap (λ (r : RecordScan). length (r .held)) (w .1) ∙ now .inv .3) (c .if2 .came),
       λ k h. ⊎-elim
           (λ w.
-          mark-pending (now .held) (c .if2 .held) l from (now .j) (a .all) slot k (w .0 .taken) less fits at
-          (mark-set (now .held) (c .if2 .held) slot k h (now .inv .3) (w .2)))
-          (λ w. mark-done (now .held) (c .if2 .held) l from (now .j) (a .all) k (w .0 .left) (w .1))
+          mark-pending (now .scan .held) (c .if2 .scan .held) l from (now .j) (a .all) slot k (w .0 .taken) less fits at
+          (mark-set (now .scan .held) (c .if2 .scan .held) slot k h (now .inv .3) (ap (λ (r : RecordScan). r .held) (w .2))))
+          (λ w. mark-done (now .scan .held) (c .if2 .scan .held) l from (now .j) (a .all) k (w .0 .left) (ap (λ (r : RecordScan). r .held) (w .1)))
           (c .if2 .came)
           ∙ now .inv .4 k h,
+      ⊎-elim (λ w. ap (λ (r : RecordScan). r .bad) (w .2)) (λ w. ap (λ (r : RecordScan). r .bad) (w .1)) (c .if2 .came) ∙ now .inv .5,
+      ⊎-elim (λ w. ap (λ (r : RecordScan). r .all) (w .2)) (λ w. ap (λ (r : RecordScan). r .all) (w .1)) (c .if2 .came) ∙ now .inv .6,
+      ⊎-elim (λ w. ap (λ (r : RecordScan). r .pending) (w .2)) (λ w. ap (λ (r : RecordScan). r .pending) (w .1)) (c .if2 .came) ∙ now .inv .7,
+      ⊎-elim (λ w. ap (λ (r : RecordScan). r .tail) (w .2)) (λ w. ap (λ (r : RecordScan). r .tail) (w .1)) (c .if2 .came) ∙ now .inv .8,
     )
-
-rest-requires : tie.Need-rest-requires Inv-loop μ-loop
-rest-requires c κs = search needs
-
-mul-plan-at : tie.Need-mul-plan-at Inv-loop μ-loop
-mul-plan-at c = omega (arith, c .before .before .before .before .pre .1, c .rest .ensures)
-
-add-plan-at : tie.Need-add-plan-at Inv-loop μ-loop
-add-plan-at c = omega (arith, c .before .before .before .before .pre .1, c .rest .ensures)
-
-plan-at-requires-2 : tie.Need-plan-at-requires-2 Inv-loop μ-loop
-plan-at-requires-2 c κs = omega (arith, c .before .before .before .before .pre .0, c .before .before .before .before .pre .1, c .rest .ensures)
 
 returns-2 : tie.Need-returns-2 Inv-loop μ-loop
 returns-2 c =
     let a = c .before .before .before .before .before .args in
     let l = sessionOf (a .bytes .now) .plans in
-    let now = c .before .before .before .loop in
+    let now = c .before .loop in
     let from = a .all - a .pending in
     let none = now .inv .2 ∙ plan-past (a .limit) (a .slots) (now .j) (a .all) l (omega arith) in
     record {
-      bad = sym none;
-      all = λ e. refl;
-      pending = λ e. refl;
-      tail = λ e.
-          ap (λ (p : IsoPacketPlan). p .«desc_index») (c .plan-at2 .ensures
-          ∙ plan-there (a .bytes .now) (c .before .rest .result) blankPlan
-          (omega (arith, c .before .before .before .before .before .pre .1, c .before .rest .ensures)))
-          ∙ ap (λ (k : ℕ). getD l k blankPlan .«desc_index») (c .before .rest .ensures);
+      bad = now .inv .5 ∙ sym none;
+      all = λ e. now .inv .6;
+      pending = λ e. now .inv .7;
+      tail = λ e. now .inv .8;
       held = λ e k h.
-          marks-all (now .held) l (from + (now .j - from)) (a .all) k (omega (arith, c .before .before .before .before .before .pre .2)) ∙ now .inv .4 k h;
+          marks-all (now .scan .held) l (from + (now .j - from)) (a .all) k (omega (arith, c .before .before .before .before .before .pre .2))
+          ∙ now .inv .4 k h;
     }
 
 pub plan-marks-spec : {M : Type 1} → statement M
@@ -172,20 +187,20 @@ plan-marks-spec =
     (tie.spec
     Inv-loop
     μ-loop
-    loop-holds
+    rest-requires
+    mul-plan-at
+    add-plan-at
     plan-at-requires
+    loop-holds
+    plan-at-requires-2
     is-bad-plan-requires
     bad-scan-requires
     returns
     sub-if2
-    cast-held
-    array-write-held
+    cast-scan
+    element-write-scan
     add-at
     add-j
     loop-less
     loop-again
-    rest-requires
-    mul-plan-at
-    add-plan-at
-    plan-at-requires-2
     returns-2)
