@@ -1,7 +1,8 @@
 -- The invariant: what is still to walk holds a bad plan exactly if the whole does, and a slot is marked, or a pending plan still to be passed has it,
--- just where a pending plan has it. The measure is how many plans are left.
-use mathlib.Core.Path.{_≡_, refl, _∙_, sym, ap}
+-- just where a pending plan has it; the answer's other fields stay as they are at first. The measure is how many plans are left.
+use mathlib.Core.Path.{_≡_, refl, _∙_, sym, ap, subst⁻¹}
 use mathlib.Core.Bool.{false, _||_}
+use mathlib.Core.List.{List}
 use mathlib.Core.Logic.{⊎-elim}
 use Prim.Native.Nat.{ℕ, _+_, _-_, _*_, _≤_, _<_}
 use native.Mathlib.Omega.{arith}
@@ -22,6 +23,10 @@ use Rattle.port.proofs.Laws.Scans.{never}
 use Rattle.port.proofs.scan.plan_marks.Statement.{statement}
 use Rattle.port.proofs.scan.plan_marks.Tie as tie
 
+-- the fields that no turn writes
+abbrev Others : ℕ → ℕ → List IsoPacketPlan → RecordScan → Type 0
+Others all pending plans r = (r .bad ≡ false) × (r .all ≡ all) × (r .pending ≡ pending) × (r .tail ≡ getD plans (all - 1) blankPlan .«desc_index»)
+
 abbrev Inv-loop : tie.InvT-loop
 Inv-loop bytes all pending limit slots scan₀ at₀ j₀ scan at j =
     (j ≤ all) × (at ≡ 1320 + 7 * j)
@@ -30,7 +35,7 @@ Inv-loop bytes all pending limit slots scan₀ at₀ j₀ scan at j =
     × ((k : ℕ) → k < 256
     → (getD (scan .held) k false || isHeld (slice ((all - pending) + (j - (all - pending))) all (sessionOf bytes .plans)) k)
     ≡ isHeld (slice (all - pending) all (sessionOf bytes .plans)) k)
-    × (scan .bad ≡ false) × (scan .all ≡ all) × (scan .pending ≡ pending) × (scan .tail ≡ getD (sessionOf bytes .plans) (all - 1) blankPlan .«desc_index»)
+    × Others all pending (sessionOf bytes .plans) scan
 
 abbrev μ-loop : tie.MeasureT-loop
 μ-loop bytes all pending limit slots scan₀ at₀ j₀ scan at j = all - j
@@ -41,7 +46,8 @@ within c = omega (arith, c .pre .1, plans-many (c .args .bytes .now))
 -- what is read is the entry of the table
 here :
     (c : tie.After-plan-at2 Inv-loop μ-loop)
-    → c .plan-at2 .result ≡ getD (sessionOf (c .before .before .before .before .before .before .args .bytes .now) .plans) (c .before .before .loop .j) blankPlan
+    → c .plan-at2 .result
+    ≡ getD (sessionOf (c .before .before .before .before .before .before .args .bytes .now) .plans) (c .before .before .loop .j) blankPlan
 here c =
     let xs = c .before .before .before .before .before .before .args .bytes .now in
     c .plan-at2 .ensures
@@ -51,11 +57,11 @@ here c =
 -- a plan that is not bad has a slot below 256
 slot-below : (c : tie.Else1 Inv-loop μ-loop) → c .before .before .plan-at2 .result .«desc_index» < 256
 slot-below c =
+    let a = c .before .before .before .before .before .before .before .before .args in
     let good = sym (c .before .is-bad-plan .ensures) ∙ c .if1 .left in
     omega (
       arith,
-      good-plan (c .before .before .before .before .before .before .before .before .args .limit) (c .before .before .before .before .before .before .before .before .args .slots)
-          (c .before .before .plan-at2 .result) good .slot,
+      good-plan (a .limit) (a .slots) (c .before .before .plan-at2 .result) good .slot,
       c .before .before .before .before .before .before .before .before .pre .3,
     )
 
@@ -74,19 +80,16 @@ plan-at-requires c κs = omega (arith, c .before .before .pre .0, c .before .bef
 loop-holds : tie.Need-loop-holds Inv-loop μ-loop
 loop-holds c =
     let a = c .before .before .before .args in
-    let l = sessionOf (a .bytes .now) .plans in (
+    let l = sessionOf (a .bytes .now) .plans in
+    let below : c .before .rest .result < 1024 = omega (arith, c .before .before .before .pre .1, c .before .rest .ensures) in
+    let last = c .plan-at .ensures ∙ plan-there (a .bytes .now) (c .before .rest .result) blankPlan below in
+    let tail = ap (λ (p : IsoPacketPlan). p .«desc_index») last ∙ ap (λ (k : ℕ). getD l k blankPlan .«desc_index») (c .before .rest .ensures) in (
       omega arith,
       refl,
       refl,
       refl,
       marks-first (a .all - a .pending) (a .all) l,
-      refl,
-      refl,
-      refl,
-      ap (λ (p : IsoPacketPlan). p .«desc_index») (c .plan-at .ensures
-      ∙ plan-there (a .bytes .now) (c .before .rest .result) blankPlan
-      (omega (arith, c .before .before .before .pre .1, c .before .rest .ensures)))
-      ∙ ap (λ (k : ℕ). getD l k blankPlan .«desc_index») (c .before .rest .ensures),
+      (refl, refl, refl, tail),
     )
 
 plan-at-requires-2 : tie.Need-plan-at-requires-2 Inv-loop μ-loop
@@ -146,11 +149,13 @@ loop-again c =
     let at : slot ≡ getD l (now .j) blankPlan .«desc_index» = ap (λ (p : IsoPacketPlan). p .«desc_index») is in
     let good = sym (ap (isBadPlan (a .limit) (a .slots)) is) ∙ sym (c .before .before .is-bad-plan .ensures) ∙ c .before .if1 .left in
     let fits = within (c .before .before .before .before .before .before .before .before .before) in
+    let many : RecordScan → ℕ = λ r. length (r .held) in
+    let others : RecordScan → Type 0 = Others (a .all) (a .pending) l in
     let less : now .j < a .all = omega arith in (
       omega arith,
       omega (arith, now .inv .1),
       now .inv .2 ∙ plan-next (a .limit) (a .slots) (now .j) (a .all) l less fits good,
-      ⊎-elim (λ w. ap (λ (r : RecordScan). length (r .held)) (w .2) ∙ simp length-set (now .inv .3)) (λ w. ap (λ (r : RecordScan). length (r .held)) (w .1) ∙ now .inv .3) (c .if2 .came),
+      ⊎-elim (λ w. ap many (w .2) ∙ simp length-set (now .inv .3)) (λ w. ap many (w .1) ∙ now .inv .3) (c .if2 .came),
       λ k h. ⊎-elim
           (λ w.
           mark-pending (now .scan .held) (c .if2 .scan .held) l from (now .j) (a .all) slot k (w .0 .taken) less fits at
@@ -158,10 +163,7 @@ loop-again c =
           (λ w. mark-done (now .scan .held) (c .if2 .scan .held) l from (now .j) (a .all) k (w .0 .left) (ap (λ (r : RecordScan). r .held) (w .1)))
           (c .if2 .came)
           ∙ now .inv .4 k h,
-      ⊎-elim (λ w. ap (λ (r : RecordScan). r .bad) (w .2)) (λ w. ap (λ (r : RecordScan). r .bad) (w .1)) (c .if2 .came) ∙ now .inv .5,
-      ⊎-elim (λ w. ap (λ (r : RecordScan). r .all) (w .2)) (λ w. ap (λ (r : RecordScan). r .all) (w .1)) (c .if2 .came) ∙ now .inv .6,
-      ⊎-elim (λ w. ap (λ (r : RecordScan). r .pending) (w .2)) (λ w. ap (λ (r : RecordScan). r .pending) (w .1)) (c .if2 .came) ∙ now .inv .7,
-      ⊎-elim (λ w. ap (λ (r : RecordScan). r .tail) (w .2)) (λ w. ap (λ (r : RecordScan). r .tail) (w .1)) (c .if2 .came) ∙ now .inv .8,
+      ⊎-elim (λ w. subst⁻¹ others (w .2) (now .inv .5)) (λ w. subst⁻¹ others (w .1) (now .inv .5)) (c .if2 .came),
     )
 
 returns-2 : tie.Need-returns-2 Inv-loop μ-loop
@@ -172,10 +174,10 @@ returns-2 c =
     let from = a .all - a .pending in
     let none = now .inv .2 ∙ plan-past (a .limit) (a .slots) (now .j) (a .all) l (omega arith) in
     record {
-      bad = now .inv .5 ∙ sym none;
-      all = λ e. now .inv .6;
-      pending = λ e. now .inv .7;
-      tail = λ e. now .inv .8;
+      bad = now .inv .5 .0 ∙ sym none;
+      all = λ e. now .inv .5 .1;
+      pending = λ e. now .inv .5 .2;
+      tail = λ e. now .inv .5 .3;
       held = λ e k h.
           marks-all (now .scan .held) l (from + (now .j - from)) (a .all) k (omega (arith, c .before .before .before .before .before .pre .2))
           ∙ now .inv .4 k h;
