@@ -75,7 +75,9 @@ fn settle_plans_at(
 ) -> u32
     requires { ⌜ (layoutNumber (now bytes) ≡ 0) × (from ≤ to) × (to ≤ plansIn (sessionOf (now bytes))) ⌝ }
     ensures { λ r. ⌜ (r ≡ movedTotal (map (settledPlan direction (now (ring .entry))) (slice from to (plansOf (now (bytes .entry))))))
-        × (Left (now (bytes .entry)) (now (bytes .exit)) (withPlans (sessionOf (now (bytes .entry))) (sets (plansOf (now (bytes .entry))) from (map (settledPlan direction (now (ring .entry))) (slice from to (plansOf (now (bytes .entry)))))))) ⌝ }
+        × (Left (now (bytes .entry)) (now (bytes .exit))
+        (withPlans (sessionOf (now (bytes .entry)))
+        (sets (plansOf (now (bytes .entry))) from (map (settledPlan direction (now (ring .entry))) (slice from to (plansOf (now (bytes .entry)))))))) ⌝ }
 {
     let mut sum: u32 = 0;
     let mut i = from;
@@ -152,7 +154,8 @@ fn is_served_at(bytes: &[u8], to: usize, ring: &[u32]) -> bool
 // Settles the oldest request at once where the bit is set, then each oldest one that is served.
 pub(crate) fn drain_at(bytes: &mut [u8], bit: bool, ring: &mut [u32])
     requires { ⌜ (layoutNumber (now bytes) ≡ 0) × (isBadRecord (sessionOf (now bytes)) ≡ false) ⌝ }
-    ensures { λ _. ⌜ (Left (now (bytes .entry)) (now (bytes .exit)) (drained bit (sessionOf (now (bytes .entry))) (now (ring .entry)) .session))
+    ensures { λ _. ⌜ (Left (now (bytes .entry)) (now (bytes .exit))
+        (drained bit (sessionOf (now (bytes .entry))) (now (ring .entry)) .session))
         × (now (ring .exit) ≡ drained bit (sessionOf (now (bytes .entry))) (now (ring .entry)) .ring) ⌝ }
 {
     let head = head_at(bytes);

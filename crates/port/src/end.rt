@@ -41,7 +41,9 @@ fn fail_at(bytes: &mut [u8], from: u16, to: u16, outcome: IsoOutcome)
         × Left (now bytes) (now bytes) (sessionOf (now bytes))
         × (from ≤ to)
         × (to ≤ requestsIn (sessionOf (now bytes))) ⌝ }
-    ensures { λ _. ⌜ Left (now (bytes .entry)) (now (bytes .exit)) (withRequests (sessionOf (now (bytes .entry))) (sets (requestsOf (now (bytes .entry))) from (map (withOutcome outcome) (slice from to (requestsOf (now (bytes .entry))))))) ⌝ }
+    ensures { λ _. ⌜ Left (now (bytes .entry)) (now (bytes .exit))
+        (withRequests (sessionOf (now (bytes .entry)))
+        (sets (requestsOf (now (bytes .entry))) from (map (withOutcome outcome) (slice from to (requestsOf (now (bytes .entry))))))) ⌝ }
 {
     let mut i = from;
     while i < to {

@@ -80,7 +80,8 @@ pub(crate) fn poll_at(bytes: &mut [u8], event: IsoEvent, ring: &mut [u32]) -> Po
         × (ringWords (sessionOf (now bytes) .cfg) ≤ length (now ring)) ⌝ }
     ensures { λ r. ⌜ (r .taken ≡ polledBy (pollWay (sessionOf (now (bytes .entry))) event) (sessionOf (now (bytes .entry))) (now (ring .entry)) .taken)
         × (r .halt ≡ polledBy (pollWay (sessionOf (now (bytes .entry))) event) (sessionOf (now (bytes .entry))) (now (ring .entry)) .halt)
-        × (Left (now (bytes .entry)) (now (bytes .exit)) (polledBy (pollWay (sessionOf (now (bytes .entry))) event) (sessionOf (now (bytes .entry))) (now (ring .entry)) .session))
+        × (Left (now (bytes .entry)) (now (bytes .exit))
+        (polledBy (pollWay (sessionOf (now (bytes .entry))) event) (sessionOf (now (bytes .entry))) (now (ring .entry)) .session))
         × (now (ring .exit)
         ≡ polledRingBy (pollWay (sessionOf (now (bytes .entry))) event) (sessionOf (now (bytes .entry))) (now (ring .entry))) ⌝ }
 {

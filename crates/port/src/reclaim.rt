@@ -38,7 +38,8 @@ use session::ring_words;
 // The entries from `from` to `to` move down to `into`; so for requests and for plans.
 fn close_requests_at(bytes: &mut [u8], into: usize, from: usize, to: usize)
     requires { ⌜ (layoutNumber (now bytes) ≡ 0) × (into ≤ from) × (to ≤ requestsIn (sessionOf (now bytes))) ⌝ }
-    ensures { λ _. ⌜ Left (now (bytes .entry)) (now (bytes .exit)) (withRequests (sessionOf (now (bytes .entry))) (closedUp into from to (requestsOf (now (bytes .entry))))) ⌝ }
+    ensures { λ _. ⌜ Left (now (bytes .entry)) (now (bytes .exit))
+        (withRequests (sessionOf (now (bytes .entry))) (closedUp into from to (requestsOf (now (bytes .entry))))) ⌝ }
 {
     let mut at = into;
     let mut i = from;
@@ -52,7 +53,8 @@ fn close_requests_at(bytes: &mut [u8], into: usize, from: usize, to: usize)
 
 fn close_plans_at(bytes: &mut [u8], into: usize, from: usize, to: usize)
     requires { ⌜ (layoutNumber (now bytes) ≡ 0) × (into ≤ from) × (to ≤ plansIn (sessionOf (now bytes))) ⌝ }
-    ensures { λ _. ⌜ Left (now (bytes .entry)) (now (bytes .exit)) (withPlans (sessionOf (now (bytes .entry))) (closedUp into from to (plansOf (now (bytes .entry))))) ⌝ }
+    ensures { λ _. ⌜ Left (now (bytes .entry)) (now (bytes .exit))
+        (withPlans (sessionOf (now (bytes .entry))) (closedUp into from to (plansOf (now (bytes .entry))))) ⌝ }
 {
     let mut at = into;
     let mut i = from;
@@ -183,7 +185,8 @@ pub(crate) fn reclaim_at(
 ) -> PortReclaimed
     requires { ⌜ layoutNumber (now bytes) ≡ 0 ⌝ }
     ensures { λ r. ⌜ (r ≡ reclaimedPort (reclaimed (sessionOf (now (bytes .entry))) id event (now (ring .entry)) (length (now (results .entry)))))
-        × (Left (now (bytes .entry)) (now (bytes .exit)) (reclaimed (sessionOf (now (bytes .entry))) id event (now (ring .entry)) (length (now (results .entry))) .session))
+        × (Left (now (bytes .entry)) (now (bytes .exit))
+        (reclaimed (sessionOf (now (bytes .entry))) id event (now (ring .entry)) (length (now (results .entry))) .session))
         × (now (ring .exit) ≡ reclaimedRing (sessionOf (now (bytes .entry))) id event (now (ring .entry)) (length (now (results .entry))))
         × (now (results .exit) ≡ reclaimedResults (sessionOf (now (bytes .entry))) id event (now (ring .entry)) (now (results .entry))) ⌝ }
 {

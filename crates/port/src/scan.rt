@@ -27,7 +27,7 @@ use session::rest;
 use session::wide;
 use session::wide_from;
 
-// The packets of all requests in use and of the pending ones, unless a fault was found.
+// The packets of all requests in use and of the pending ones, unless something was found bad.
 pub(crate) struct RequestSums {
     pub bad: bool,
     pub all: u32,

@@ -29,6 +29,7 @@ use Rattle.port.proofs.Roundtrip.{config-back, head-back, reason-back, 
 
 -- ---- the parts of the bytes
 
+-- the requests, the plans, and what stands behind the session
 module _ (n m : ℕ) (xs : List ℕ) (s : IsoChannelState) where
   abbrev R : List ℕ
   R = tableKept requestBytes isBadRequestBytes 20 n (s .requests) (drop 40 xs)
@@ -91,8 +92,8 @@ module _ (n m : ℕ) (xs : List ℕ) (s : IsoChannelState) where
         (session-at ys (config-back s rest ∙ ap configOf is) (head-back s rest ∙ ap headOf is) (reason-back s rest ∙ ap (λ (l : List ℕ). taggedOf (drop 34 l)) is)
         (fatal-back (s .fatal)) er ep)
 
-    plan-at-place : (i : ℕ) (p : IsoPacketPlan) → length (front s ++ R) + 7 * i ≡ 1320 + 7 * i
-    plan-at-place i p = omega (arith, length-append (front s) R, length-front s, length-R)
+    plan-at-place : (i : ℕ) → length (front s ++ R) + 7 * i ≡ 1320 + 7 * i
+    plan-at-place i = omega (arith, length-append (front s) R, length-front s, length-R)
 
 -- ---- one part written
 
@@ -132,7 +133,7 @@ module _ (xs : List ℕ) (s : IsoChannelState) (long : 8488 ≤ length xs) (many
       let a : List ℕ = front s ++ R n 0 xs s in
       let apart : (l : List ℕ) → front s ++ (R n 0 xs s ++ l) ≡ a ++ l = λ l. sym (append-assoc (front s) (R n 0 xs s) l) in
       ap (λ (l : List ℕ). sets l (1320 + 7 * i) (planBytes p)) (parts n 0 xs s ∙ apart (P n 0 xs s ++ E n 0 xs s))
-      ∙ sets-behind a (P n 0 xs s ++ E n 0 xs s) (7 * i) (1320 + 7 * i) (planBytes p) (plan-at-place n 0 xs s long many-requests many-plans i p)
+      ∙ sets-behind a (P n 0 xs s ++ E n 0 xs s) (7 * i) (1320 + 7 * i) (planBytes p) (plan-at-place n 0 xs s long many-requests many-plans i)
       ∙ ap (λ (l : List ℕ). a ++ l)
       (kept-put planBytes isBadPlanBytes 7 length-plan (s .plans) i p (drop 1320 xs) (E n 0 xs s) (omega (arith, many-plans))
       (omega (arith, many-plans, length-drop 1320 xs)) good)
@@ -148,7 +149,7 @@ module _ (xs : List ℕ) (s : IsoChannelState) (long : 8488 ≤ length xs) (many
       let a : List ℕ = front s ++ R n m xs s in
       let apart : (l : List ℕ) → front s ++ (R n m xs s ++ l) ≡ a ++ l = λ l. sym (append-assoc (front s) (R n m xs s) l) in
       ap (λ (l : List ℕ). sets l (1320 + 7 * m) (planBytes p)) (parts n m xs s ∙ apart (P n m xs s ++ E n m xs s))
-      ∙ sets-behind a (P n m xs s ++ E n m xs s) (7 * m) (1320 + 7 * m) (planBytes p) (plan-at-place n m xs s long many-requests many-plans m p)
+      ∙ sets-behind a (P n m xs s ++ E n m xs s) (7 * m) (1320 + 7 * m) (planBytes p) (plan-at-place n m xs s long many-requests many-plans m)
       ∙ ap (λ (l : List ℕ). a ++ l)
       (kept-next planBytes isBadPlanBytes 7 length-plan (s .plans) m p (drop 1320 xs) (E n m xs s) (omega (arith, many-plans))
       (omega (arith, many-plans, length-drop 1320 xs)))
