@@ -98,63 +98,64 @@ module _ (n m : ℕ) (xs : List ℕ) (s : IsoChannelState) where
 -- ---- one part written
 
 module _ (xs : List ℕ) (s : IsoChannelState) (long : 8488 ≤ length xs) (many-requests : length (s .requests) ≡ 64) (many-plans : length (s .plans) ≡ 1024) where
+  -- what a store does to the table it does to the bytes; `a` entries are written afterwards
+  requests-put :
+      (n a m i : ℕ) (r : IsoRequest) (l : List IsoRequest)
+      → sets (R n m xs s ++ (P n m xs s ++ E n m xs s)) (20 * i) (requestBytes r)
+      ≡ tableKept requestBytes isBadRequestBytes 20 a l (drop 40 xs) ++ (P n m xs s ++ E n m xs s)
+      → sets (kept n m xs s) (40 + 20 * i) (requestBytes r) ≡ kept a m xs (withRequests s l)
+  unfolding front
+  requests-put n a m i r l put =
+      ap (λ (k : List ℕ). sets k (40 + 20 * i) (requestBytes r)) (parts n m xs s)
+      ∙ sets-behind (front s) (R n m xs s ++ (P n m xs s ++ E n m xs s)) (20 * i) (40 + 20 * i) (requestBytes r) (omega (arith, length-front s))
+      ∙ ap (λ (k : List ℕ). front s ++ k) put
+      ∙ sym (parts a m xs (withRequests s l))
+
+  plans-put :
+      (n m a i : ℕ) (p : IsoPacketPlan) (l : List IsoPacketPlan)
+      → sets (P n m xs s ++ E n m xs s) (7 * i) (planBytes p) ≡ tableKept planBytes isBadPlanBytes 7 a l (drop 1320 xs) ++ E n m xs s
+      → sets (kept n m xs s) (1320 + 7 * i) (planBytes p) ≡ kept n a xs (withPlans s l)
+  unfolding front
+  plans-put n m a i p l put =
+      let before : List ℕ = front s ++ R n m xs s in
+      let apart : (k : List ℕ) → front s ++ (R n m xs s ++ k) ≡ before ++ k = λ k. sym (append-assoc (front s) (R n m xs s) k) in
+      ap (λ (k : List ℕ). sets k (1320 + 7 * i) (planBytes p)) (parts n m xs s ∙ apart (P n m xs s ++ E n m xs s))
+      ∙ sets-behind before (P n m xs s ++ E n m xs s) (7 * i) (1320 + 7 * i) (planBytes p) (plan-at-place n m xs s long many-requests many-plans i)
+      ∙ ap (λ (k : List ℕ). before ++ k) put
+      ∙ sym (apart (P n a xs (withPlans s l) ++ E n a xs (withPlans s l)))
+      ∙ sym (parts n a xs (withPlans s l))
+
   request-put :
       (m i : ℕ) (r : IsoRequest) → i < 64 → isBadRequestBytes (drop (20 * i) (drop 40 xs)) ≡ false
       → sets (kept 0 m xs s) (40 + 20 * i) (requestBytes r) ≡ kept 0 m xs (withRequests s (set (s .requests) i r))
-  unfolding front
   request-put m i r h good =
-      let t : IsoChannelState = withRequests s (set (s .requests) i r) in
-      ap (λ (l : List ℕ). sets l (40 + 20 * i) (requestBytes r)) (parts 0 m xs s)
-      ∙ sets-behind (front s) (R 0 m xs s ++ (P 0 m xs s ++ E 0 m xs s)) (20 * i) (40 + 20 * i) (requestBytes r) (omega (arith, length-front s))
-      ∙ ap (λ (l : List ℕ). front s ++ l)
+      requests-put 0 0 m i r (set (s .requests) i r)
       (kept-put requestBytes isBadRequestBytes 20 length-request (s .requests) i r (drop 40 xs) (P 0 m xs s ++ E 0 m xs s) (omega (arith, many-requests))
       (omega (arith, many-requests, length-drop 40 xs)) good)
-      ∙ sym (parts 0 m xs t)
 
   request-next :
       (n m : ℕ) (r : IsoRequest) → n < 64
       → sets (kept n m xs s) (40 + 20 * n) (requestBytes r) ≡ kept (suc n) m xs (withRequests s (set (s .requests) n r))
-  unfolding front
   request-next n m r h =
-      let t : IsoChannelState = withRequests s (set (s .requests) n r) in
-      ap (λ (l : List ℕ). sets l (40 + 20 * n) (requestBytes r)) (parts n m xs s)
-      ∙ sets-behind (front s) (R n m xs s ++ (P n m xs s ++ E n m xs s)) (20 * n) (40 + 20 * n) (requestBytes r) (omega (arith, length-front s))
-      ∙ ap (λ (l : List ℕ). front s ++ l)
+      requests-put n (suc n) m n r (set (s .requests) n r)
       (kept-next requestBytes isBadRequestBytes 20 length-request (s .requests) n r (drop 40 xs) (P n m xs s ++ E n m xs s) (omega (arith, many-requests))
       (omega (arith, many-requests, length-drop 40 xs)))
-      ∙ sym (parts (suc n) m xs t)
 
   plan-put :
       (n i : ℕ) (p : IsoPacketPlan) → i < 1024 → isBadPlanBytes (drop (7 * i) (drop 1320 xs)) ≡ false
       → sets (kept n 0 xs s) (1320 + 7 * i) (planBytes p) ≡ kept n 0 xs (withPlans s (set (s .plans) i p))
-  unfolding front
   plan-put n i p h good =
-      let t : IsoChannelState = withPlans s (set (s .plans) i p) in
-      let a : List ℕ = front s ++ R n 0 xs s in
-      let apart : (l : List ℕ) → front s ++ (R n 0 xs s ++ l) ≡ a ++ l = λ l. sym (append-assoc (front s) (R n 0 xs s) l) in
-      ap (λ (l : List ℕ). sets l (1320 + 7 * i) (planBytes p)) (parts n 0 xs s ∙ apart (P n 0 xs s ++ E n 0 xs s))
-      ∙ sets-behind a (P n 0 xs s ++ E n 0 xs s) (7 * i) (1320 + 7 * i) (planBytes p) (plan-at-place n 0 xs s long many-requests many-plans i)
-      ∙ ap (λ (l : List ℕ). a ++ l)
+      plans-put n 0 0 i p (set (s .plans) i p)
       (kept-put planBytes isBadPlanBytes 7 length-plan (s .plans) i p (drop 1320 xs) (E n 0 xs s) (omega (arith, many-plans))
       (omega (arith, many-plans, length-drop 1320 xs)) good)
-      ∙ sym (apart (P n 0 xs t ++ E n 0 xs t))
-      ∙ sym (parts n 0 xs t)
 
   plan-next :
       (n m : ℕ) (p : IsoPacketPlan) → m < 1024
       → sets (kept n m xs s) (1320 + 7 * m) (planBytes p) ≡ kept n (suc m) xs (withPlans s (set (s .plans) m p))
-  unfolding front
   plan-next n m p h =
-      let t : IsoChannelState = withPlans s (set (s .plans) m p) in
-      let a : List ℕ = front s ++ R n m xs s in
-      let apart : (l : List ℕ) → front s ++ (R n m xs s ++ l) ≡ a ++ l = λ l. sym (append-assoc (front s) (R n m xs s) l) in
-      ap (λ (l : List ℕ). sets l (1320 + 7 * m) (planBytes p)) (parts n m xs s ∙ apart (P n m xs s ++ E n m xs s))
-      ∙ sets-behind a (P n m xs s ++ E n m xs s) (7 * m) (1320 + 7 * m) (planBytes p) (plan-at-place n m xs s long many-requests many-plans m)
-      ∙ ap (λ (l : List ℕ). a ++ l)
+      plans-put n m (suc m) m p (set (s .plans) m p)
       (kept-next planBytes isBadPlanBytes 7 length-plan (s .plans) m p (drop 1320 xs) (E n m xs s) (omega (arith, many-plans))
       (omega (arith, many-plans, length-drop 1320 xs)))
-      ∙ sym (apart (P n (suc m) xs t ++ E n (suc m) xs t))
-      ∙ sym (parts n (suc m) xs t)
 
 length-to-head : (s : IsoChannelState) → length (markBytes ++ configBytes (s .cfg)) ≡ 15
 unfolding markBytes configBytes u16Bytes
