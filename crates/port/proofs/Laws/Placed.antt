@@ -1,5 +1,5 @@
 -- One part of a session's bytes, read where it stands: what that is of the session which the bytes hold.
-use mathlib.Core.Path.{_≡_, _∙_, sym, ap}
+use mathlib.Core.Path.{_≡_, refl, _∙_, sym, ap}
 use mathlib.Core.List.{List}
 use Prim.Native.Nat.{ℕ, zero, suc, _+_, _*_, _<_}
 use native.Mathlib.Omega.{arith}
@@ -7,7 +7,8 @@ use lib.ListN.{length, getD, drop}
 use lib.Seq.{drop-drop}
 use Rattle.session.specs.declared.types.IsoRequest.{IsoRequest}
 use Rattle.session.specs.declared.types.IsoPacketPlan.{IsoPacketPlan}
-use Rattle.port.specs.Layout.{requestOf, planOf, tableOf, sessionOf}
+use Rattle.port.specs.Tags.{taggedOf, fatalOf}
+use Rattle.port.specs.Layout.{configOf, headOf, requestOf, planOf, tableOf, sessionOf}
 use Rattle.port.proofs.Laws.Tables.{length-table}
 
 -- ---- reading
@@ -37,3 +38,17 @@ requests-many xs = length-table requestOf 20 64 (drop 40 xs)
 pub plans-many : (xs : List ℕ) → length (sessionOf xs .plans) ≡ 1024
 unfolding sessionOf
 plans-many xs = length-table planOf 7 1024 (drop 1320 xs)
+
+-- ---- what stands before the tables
+
+pub config-there : (xs : List ℕ) → configOf xs ≡ sessionOf xs .cfg
+unfolding sessionOf
+config-there xs = refl
+
+pub head-there : (xs : List ℕ) → headOf xs ≡ sessionOf xs .head
+unfolding sessionOf
+head-there xs = refl
+
+pub reason-there : (xs : List ℕ) → fatalOf (taggedOf (drop 34 xs)) ≡ sessionOf xs .fatal
+unfolding sessionOf
+reason-there xs = refl

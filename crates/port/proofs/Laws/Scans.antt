@@ -1,11 +1,10 @@
 -- The record check on a session's bytes: what the parts that were read say of the session, and what each way out of the check says of the record.
 use mathlib.Core.Path.{_≡_, refl, _∙_, sym, ap, ap₂}
 use mathlib.Core.Bool.{Bool, true, false, not, _||_, _&&_}
-use mathlib.Core.List.{List}
 use Prim.Native.Nat.{ℕ, _-_, _≤_}
 use native.Mathlib.Omega.{arith}
 use lib.Dec.{leb, ltb}
-use lib.ListN.{length, getD, drop}
+use lib.ListN.{length, getD}
 use lib.Seq.{slice}
 use borrow.Author.Tests.{ltb-false}
 use Rattle.words.proofs.Laws.Tests.{neither}
@@ -21,27 +20,10 @@ use Rattle.session.specs.Way.{isHeld}
 use Rattle.session.specs.Scan.{Scanned}
 use Rattle.session.proofs.Laws.Sums.{packets-split}
 use Rattle.port.specs.declared.scan.RequestSums.{RequestSums}
-use Rattle.port.specs.Tags.{taggedOf, fatalOf}
-use Rattle.port.specs.Layout.{configOf, headOf, sessionOf}
 use Rattle.port.specs.Scan.{Summed, isBadButPlans, Counted, Marked}
 
 pub never : true ≡ false → ⊥
 never e = let z : _≡_ {A = ℕ} 0 1 = cc in omega arith
-
--- ---- the parts of the session that bytes hold
-
-module _ (xs : List ℕ) where
-  pub config-there : configOf xs ≡ sessionOf xs .cfg
-  unfolding sessionOf
-  config-there = refl
-
-  pub head-there : headOf xs ≡ sessionOf xs .head
-  unfolding sessionOf
-  head-there = refl
-
-  pub reason-there : fatalOf (taggedOf (drop 34 xs)) ≡ sessionOf xs .fatal
-  unfolding sessionOf
-  reason-there = refl
 
 -- ---- the tests but those of the plans
 

@@ -23,17 +23,9 @@ use Rattle.port.proofs.Laws.Placed.{plan-there, request-there}
 
 -- ---- single fields, read where they stand
 
-pub head-there : (xs : List ℕ) → headOf xs ≡ sessionOf xs .head
-unfolding sessionOf
-head-there xs = refl
-
 pub count-there : (xs : List ℕ) → u16Of (drop 32 xs) ≡ sessionOf xs .head .count
 unfolding sessionOf headOf
 count-there xs = refl
-
-pub config-there : (xs : List ℕ) → configOf xs ≡ sessionOf xs .cfg
-unfolding sessionOf
-config-there xs = refl
 
 pub direction-there : (xs : List ℕ) → directionOf (byteOf (drop 6 xs)) ≡ sessionOf xs .cfg .direction
 unfolding sessionOf configOf

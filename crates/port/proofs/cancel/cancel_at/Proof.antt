@@ -19,11 +19,10 @@ use Rattle.session.proofs.Laws.Replies.{cancel-bad, cancel-completed, cancel-un
 use Rattle.port.specs.Layout.{sessionOf, requestsIn}
 use Rattle.port.proofs.Laws.Calls.{long-enough}
 use Rattle.port.proofs.Laws.Kept.{Octets}
-use Rattle.port.proofs.Laws.Scans.{head-there, reason-there}
 use Rattle.port.proofs.Laws.Left.{left-is}
 use Rattle.port.proofs.Laws.Steps.{outcome-here, stays, becomes}
 use Rattle.port.proofs.Laws.Walks.{requests-in}
-use Rattle.port.proofs.Laws.Placed.{requests-many, plans-many}
+use Rattle.port.proofs.Laws.Placed.{head-there, reason-there, requests-many, plans-many}
 use Rattle.port.proofs.cancel.cancel_at.Statement.{statement}
 use Rattle.port.proofs.cancel.cancel_at.Tie as tie
 

@@ -20,9 +20,8 @@ use Rattle.port.proofs.Canonical.{loaded-left}
 use Rattle.port.proofs.Laws.Calls.{long-enough}
 use Rattle.port.proofs.Laws.InUse.{kept-layout, settled-in-use}
 use Rattle.port.proofs.Laws.Left.{left-is, left-over}
-use Rattle.port.proofs.Laws.Walks.{head-there}
 use Rattle.port.proofs.Laws.Settling.{oldest-ends, settled-from}
-use Rattle.port.proofs.Laws.Placed.{requests-many, plans-many}
+use Rattle.port.proofs.Laws.Placed.{head-there, requests-many, plans-many}
 use Rattle.port.proofs.drain.drain_at.Statement.{statement}
 use Rattle.port.proofs.drain.drain_at.Tie as tie
 

@@ -11,9 +11,9 @@ use Rattle.session.specs.declared.types.IsoHead.{IsoHead}
 use Rattle.port.specs.Tags.{directionOf}
 use Rattle.port.specs.Layout.{sessionOf}
 use Rattle.port.proofs.Laws.Calls.{long-enough}
-use Rattle.port.proofs.Laws.Walks.{head-there, direction-there, plans-in}
+use Rattle.port.proofs.Laws.Walks.{direction-there, plans-in}
 use Rattle.port.proofs.Laws.Settling.{ring-settled, bytes-settled}
-use Rattle.port.proofs.Laws.Placed.{requests-many, plans-many}
+use Rattle.port.proofs.Laws.Placed.{head-there, requests-many, plans-many}
 use Rattle.port.proofs.drain.settle_at.Statement.{statement}
 use Rattle.port.proofs.drain.settle_at.Tie as tie
 

@@ -14,10 +14,9 @@ use Rattle.session.proofs.Laws.Record.{Sound, sound}
 use Rattle.port.specs.Layout.{sessionOf}
 use Rattle.port.proofs.Laws.Calls.{long-enough}
 use Rattle.port.proofs.Laws.Kept.{Octets}
-use Rattle.port.proofs.Laws.Scans.{config-there, head-there}
 use Rattle.port.proofs.Laws.Steps.{same-bytes, end-put}
 use Rattle.port.proofs.Laws.Walks.{requests-in}
-use Rattle.port.proofs.Laws.Placed.{requests-many, plans-many}
+use Rattle.port.proofs.Laws.Placed.{config-there, head-there, requests-many, plans-many}
 use Rattle.port.proofs.end.end_at.Statement.{statement}
 use Rattle.port.proofs.end.end_at.Tie as tie
 

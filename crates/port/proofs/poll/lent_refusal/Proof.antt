@@ -7,7 +7,7 @@ use borrow.Author.Tests.{lt-ltb, le-ltb}
 use Rattle.session.specs.Session.{ringWords}
 use Rattle.session.specs.Record.{isBadRecord}
 use Rattle.port.specs.Layout.{sessionOf}
-use Rattle.port.proofs.Laws.Scans.{config-there}
+use Rattle.port.proofs.Laws.Placed.{config-there}
 use Rattle.port.proofs.poll.lent_refusal.Statement.{statement}
 use Rattle.port.proofs.poll.lent_refusal.Tie as tie
 

@@ -8,8 +8,8 @@ use Rattle.session.specs.Poll.{wayOf, pollWay}
 use Rattle.port.specs.Layout.{sessionOf}
 use Rattle.port.proofs.Laws.Calls.{long-enough}
 use Rattle.port.proofs.Laws.Kept.{Octets}
-use Rattle.port.proofs.Laws.Scans.{head-there, reason-there}
 use Rattle.port.proofs.Laws.Steps.{same-bytes, acted}
+use Rattle.port.proofs.Laws.Placed.{head-there, reason-there}
 use Rattle.port.proofs.poll.poll_at.Statement.{statement}
 use Rattle.port.proofs.poll.poll_at.Tie as tie
 

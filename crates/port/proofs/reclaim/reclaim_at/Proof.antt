@@ -17,9 +17,8 @@ use Rattle.port.specs.Layout.{sessionOf}
 use Rattle.port.specs.Places.{Left}
 use Rattle.port.proofs.Canonical.{loaded-left}
 use Rattle.port.proofs.Laws.Calls.{long-enough}
-use Rattle.port.proofs.Laws.Walks.{config-there}
 use Rattle.port.proofs.Laws.Reclaiming.{refused-in-place, looked-layout, looked-good, done-in-place}
-use Rattle.port.proofs.Laws.Placed.{requests-many, plans-many}
+use Rattle.port.proofs.Laws.Placed.{config-there, requests-many, plans-many}
 use Rattle.port.proofs.reclaim.reclaim_at.Statement.{statement}
 use Rattle.port.proofs.reclaim.reclaim_at.Tie as tie
 

@@ -8,9 +8,8 @@ use Rattle.session.specs.declared.types.IsoHead.{IsoHead}
 use Rattle.session.proofs.Laws.Record.{Sound, sound}
 use Rattle.port.specs.Layout.{sessionOf}
 use Rattle.port.proofs.Laws.Calls.{long-enough}
-use Rattle.port.proofs.Laws.Walks.{head-there}
 use Rattle.port.proofs.Laws.Closing.{plans-used, closed-layout, requests-used, bytes-removed}
-use Rattle.port.proofs.Laws.Placed.{requests-many, plans-many}
+use Rattle.port.proofs.Laws.Placed.{head-there, requests-many, plans-many}
 use Rattle.port.proofs.reclaim.remove_at.Statement.{statement}
 use Rattle.port.proofs.reclaim.remove_at.Tie as tie
 

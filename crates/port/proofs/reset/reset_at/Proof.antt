@@ -12,9 +12,9 @@ use Rattle.session.specs.Scan.{whole}
 use Rattle.port.specs.Layout.{sessionOf}
 use Rattle.port.proofs.Laws.Calls.{long-enough}
 use Rattle.port.proofs.Laws.Kept.{Octets}
-use Rattle.port.proofs.Laws.Scans.{head-there, reason-there}
 use Rattle.port.proofs.Laws.Left.{left-is}
 use Rattle.port.proofs.Laws.Steps.{head-here, stays, becomes}
+use Rattle.port.proofs.Laws.Placed.{head-there, reason-there}
 use Rattle.port.proofs.reset.reset_at.Statement.{statement}
 use Rattle.port.proofs.reset.reset_at.Tie as tie
 

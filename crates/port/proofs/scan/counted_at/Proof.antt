@@ -10,8 +10,8 @@ use Rattle.session.specs.Session.{slots, room}
 use Rattle.session.specs.Record.{isBadConfig, isBadCounts}
 use Rattle.port.specs.Layout.{sessionOf}
 use Rattle.port.specs.Scan.{Summed}
-use Rattle.port.proofs.Laws.Scans.{config-there, head-there, reason-there}
 use Rattle.port.proofs.Laws.Scans.{front-test, front-counted, state-test, counts-in, all-counted}
+use Rattle.port.proofs.Laws.Placed.{config-there, head-there, reason-there}
 use Rattle.port.proofs.scan.counted_at.Statement.{statement}
 use Rattle.port.proofs.scan.counted_at.Tie as tie
 

@@ -5,7 +5,8 @@ use Rattle.ring.specs.RingSums.{packetLimit}
 use Rattle.session.specs.declared.types.IsoConfig.{IsoConfig}
 use Rattle.session.specs.Session.{slots}
 use Rattle.port.specs.Layout.{sessionOf}
-use Rattle.port.proofs.Laws.Scans.{config-there, record-bad, all-in, plans-decide}
+use Rattle.port.proofs.Laws.Scans.{record-bad, all-in, plans-decide}
+use Rattle.port.proofs.Laws.Placed.{config-there}
 use Rattle.port.proofs.scan.is_bad_at.Statement.{statement}
 use Rattle.port.proofs.scan.is_bad_at.Tie as tie
 

@@ -8,8 +8,8 @@ use Rattle.session.specs.Session.{slots}
 use Rattle.session.proofs.Laws.Sums.{ring-few}
 use Rattle.session.proofs.Laws.Scans.{bad-found}
 use Rattle.port.specs.Layout.{sessionOf}
-use Rattle.port.proofs.Laws.Scans.{config-there, record-bad, all-in, pending-in, all-scanned}
-use Rattle.port.proofs.Laws.Placed.{requests-many}
+use Rattle.port.proofs.Laws.Scans.{record-bad, all-in, pending-in, all-scanned}
+use Rattle.port.proofs.Laws.Placed.{config-there, requests-many}
 use Rattle.port.proofs.scan.scan_at.Statement.{statement}
 use Rattle.port.proofs.scan.scan_at.Tie as tie
 
