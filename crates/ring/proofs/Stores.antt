@@ -1,5 +1,5 @@
 -- The laws of storing a submission's packets: one packet and the rest of them. The loop's invariant says that what is still to be stored gives the
--- goal; a law for each way out of a turn keeps it.
+-- goal; a law for a turn of the loop keeps it, and one for each way on from the loop ends it.
 use mathlib.Core.Path.{_≡_, refl, sym, ap, _∙_}
 use mathlib.Core.Bool.{Bool, true, false}
 use mathlib.Core.List.{List, [], _∷_, map}
@@ -70,9 +70,19 @@ pub status-fits : (len : ℕ) (last : Bool) → isoStatus len last % 4_294_967_2
 status-fits len true = omega arith
 status-fits len false = omega arith
 
--- no word may be stored any more: the ring stays
-pub stored-none : (left : ℕ) (xs : List Store) (ring : List ℕ) → left ≡ 0 → ring ≡ stored (take left xs) ring
-stored-none left xs ring e = rw e
+-- the words of a slot in the order of their stores
+abbrev pub slotWords : ℕ → DmaDescriptor → List Store
+slotWords slot d = record { word = 2 * slot + 1; value = d .paddr } ∷ record { word = 2 * slot; value = d .status } ∷ []
+
+-- the first of them alone, and both
+pub first-word : (slot : ℕ) (d : DmaDescriptor) (words : ℕ) (ring one : List ℕ) → words ≡ 1 → one ≡ set ring (2 * slot + 1) (d .paddr)
+    → one ≡ stored (take words (slotWords slot d)) ring
+first-word slot d words ring one e p = rw (p, e)
+
+pub both-words : (slot : ℕ) (d : DmaDescriptor) (words : ℕ) (ring one two : List ℕ) → 2 ≤ words → one ≡ set ring (2 * slot + 1) (d .paddr)
+    → two ≡ set one (2 * slot) (d .status)
+    → two ≡ stored (take words (slotWords slot d)) ring
+both-words slot d words ring one two l p q = rw (q, p, take-all words (slotWords slot d) l)
 
 module _ (R insert step i addr : ℕ) (lengths : List ℕ) where
   -- no packet is left: the ring stays
@@ -80,19 +90,32 @@ module _ (R insert step i addr : ℕ) (lengths : List ℕ) where
       (left : ℕ) (ring : List ℕ) → length lengths ≤ i → ring ≡ stored (take left (map asWord (storesFrom R insert step i addr (drop i lengths)))) ring
   stored-end left ring h = rw (drop-of-length-le lengths h, take-nil {A = Store} left)
 
-  module _ (slot low : ℕ) (d : DmaDescriptor) (h : i < length lengths) (at : slot ≡ slotAt R insert step i) (wraps : low ≡ addr % 4_294_967_296)
-      (made : d ≡ record { status = isoStatus (getD lengths i 0) (eqb (i + 1) (length lengths)); paddr = low }) where
-    -- one word may be stored: the address of packet i
-    pub stored-one : (left : ℕ) (ring one : List ℕ) → left ≡ 1 → one ≡ set ring (2 * slot + 1) (d .paddr)
-        → one ≡ stored (take left (map asWord (storesFrom R insert step i addr (drop i lengths)))) ring
-    stored-one left ring one e p = rw (p, made, wraps, at, e, stores-more R insert step i addr lengths h)
-
-    -- two or more may be: the address and the status of packet i, and what is left of the plan after them
-    pub stored-two : (left : ℕ) (ring one two : List ℕ) → 2 ≤ left → one ≡ set ring (2 * slot + 1) (d .paddr) → two ≡ set one (2 * slot) (d .status)
-        → stored (take (left - 2) (map asWord (storesFrom R insert step (i + 1) (addr + getD lengths i 0) (drop (i + 1) lengths)))) two
+  module _ (slot low : ℕ) (d : DmaDescriptor) (at : slot ≡ slotAt R insert step i) (wraps : low ≡ addr % 4_294_967_296) where
+    -- packet i is not the last, and both its words may be stored: what is left of the plan after them
+    pub stored-whole : i + 1 < length lengths → d ≡ record { status = isoStatus (getD lengths i 0) false; paddr = low }
+        → (left rest : ℕ) (ring two : List ℕ) → left ≡ suc (suc rest) → two ≡ set (set ring (2 * slot + 1) (d .paddr)) (2 * slot) (d .status)
+        → stored (take rest (map asWord (storesFrom R insert step (i + 1) (addr + getD lengths i 0) (drop (i + 1) lengths)))) two
         ≡ stored (take left (map asWord (storesFrom R insert step i addr (drop i lengths)))) ring
-    stored-two zero ring one two l p q = absurd (omega arith)
-    stored-two (suc zero) ring one two l p q = absurd (omega arith)
-    stored-two (suc (suc left)) ring one two l p q =
-        let n : suc (suc left) - 2 ≡ left = omega arith in
-        rw (q, p, made, wraps, at, n, stores-more R insert step i addr lengths h, status-fits (getD lengths i 0) (eqb (i + 1) (length lengths)))
+    stored-whole h made left rest ring two e p =
+        let more : i < length lengths = omega arith in
+        let flag = ne-eqb (i + 1) (length lengths) (λ q. omega arith) in
+        rw (p, made, wraps, at, e, stores-more R insert step i addr lengths more, flag, status-fits (getD lengths i 0) false)
+
+    -- packet i is the last, or fewer than its two words may be stored: the plan ends with it
+    pub stored-some : i < length lengths → d ≡ record { status = isoStatus (getD lengths i 0) (eqb (i + 1) (length lengths)); paddr = low }
+        → (left words : ℕ) (ring some : List ℕ) → words ≡ left → (2 ≤ left → length lengths ≤ i + 1) → some ≡ stored (take words (slotWords slot d)) ring
+        → some ≡ stored (take left (map asWord (storesFrom R insert step i addr (drop i lengths)))) ring
+    stored-some h made zero words ring some e last p = rw (p, e)
+    stored-some h made (suc zero) words ring some e last p = rw (p, e, made, wraps, at, stores-more R insert step i addr lengths h)
+    stored-some h made (suc (suc left)) words ring some e last p =
+        rw (
+          p,
+          e,
+          made,
+          wraps,
+          at,
+          stores-more R insert step i addr lengths h,
+          status-fits (getD lengths i 0) (eqb (i + 1) (length lengths)),
+          drop-of-length-le lengths (last (omega arith)),
+          take-nil {A = Store} left,
+        )
