@@ -193,8 +193,8 @@ pub fn submit_parts(
         → Parted (whole cfg head fatal requests plans) transfer (now (lengths .entry)) (now (ring .entry)) r ×
         (now (ring .exit) ≡ submittedRing (whole cfg head fatal requests plans) transfer (now (lengths .entry)) (now (ring .entry)))) ⌝ }
 {
-    let way = submit_way(cfg, head, fatal, scan, transfer, lengths, ring);
     let insert = insert_of(cfg, head, transfer, scan.tail, ring);
+    let way = submit_way(cfg, head, fatal, scan, transfer, lengths, ring, insert);
     store_by(way, cfg, transfer, insert, lengths, ring);
     let n = added_packets(way, lengths.len());
     let slots = slots_of(cfg);

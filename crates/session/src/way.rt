@@ -11,10 +11,9 @@ ghost use Rattle.session.specs.declared.types.IsoRequest.{IsoRequest};
 ghost use Rattle.session.specs.declared.types.IsoPacketPlan.{IsoPacketPlan};
 ghost use Rattle.session.specs.Session.{slots, ringWords, room};
 ghost use Rattle.session.specs.Scan.{whole, Walked, Scanned, isGate};
-ghost use Rattle.session.specs.Place.{stepOf};
+ghost use Rattle.session.specs.Place.{stepOf, insertAt};
 ghost use Rattle.session.specs.Way.{isLow, isGuarded, isHeld, anyHeld, sum, entryNumber, entryRefusal, spendNumber, spendRefusal, gateAt, submitWay};
 use crate::open::ring_words;
-use crate::place::insert_of;
 use crate::place::slots_of;
 use crate::place::step_of;
 use crate::record::RecordScan;
@@ -122,7 +121,6 @@ fn gate_way(live: bool, transfer: IsoTransfer, n: usize) -> SubmitWay
     SubmitWay::Accept
 }
 
-// 17, 18, 1 to 8: nothing is altered.
 // More packets than may be in flight, with those that are.
 fn is_over_with(cfg: IsoConfig, pending: u32, n: usize) -> bool
     ensures { λ r. ⌜ r ≡ ltb (room cfg) (pending + n) ⌝ }
@@ -133,6 +131,7 @@ fn is_over_with(cfg: IsoConfig, pending: u32, n: usize) -> bool
     is_over_room(cfg, pending as u64 + n as u64)
 }
 
+// 17, 18, 1 to 8: nothing is altered.
 fn entry_refusal(
     cfg: IsoConfig,
     head: IsoHead,
@@ -191,18 +190,18 @@ fn spend_refusal(
     scan: RecordScan,
     transfer: IsoTransfer,
     lengths: &[u32],
-    ring: &[u32],
+    insert: u16,
 ) -> u16
     requires { ⌜ length (now lengths) ≤ 1024 ⌝ }
-    ensures { λ r. ⌜ ((requests : List IsoRequest) (plans : List IsoPacketPlan)
+    ensures { λ r. ⌜ ((requests : List IsoRequest) (plans : List IsoPacketPlan) (ring : List ℕ)
         → Walked (whole cfg head fatal requests plans) scan
+        → insert ≡ insertAt cfg head transfer (scan .tail) ring
         → r
-        ≡ spendRefusal (whole cfg head fatal requests plans) transfer (now (lengths .entry)) (now (ring .entry)))
+        ≡ spendRefusal (whole cfg head fatal requests plans) transfer (now (lengths .entry)) ring)
         × (r ≡ 0 → transfer .base + sum (now (lengths .entry)) ≤ 4294967295) ⌝ }
 {
     let sum = sum_of(lengths);
     let no_channel = !head.live & !transfer.channel_free;
-    let insert = insert_of(cfg, head, transfer, scan.tail, ring);
     let held = scan.held;
     let clash = clash(cfg, insert, held, lengths.len());
     spend_number(
@@ -214,7 +213,7 @@ fn spend_refusal(
 }
 
 // The way of a submission: what it does follows from this alone. Whatever the walk found, a way past every refusal is sure of ring,
-// address and room.
+// address and room. `insert` is the slot of its first packet.
 pub(crate) fn submit_way(
     cfg: IsoConfig,
     head: IsoHead,
@@ -223,7 +222,9 @@ pub(crate) fn submit_way(
     transfer: IsoTransfer,
     lengths: &[u32],
     ring: &[u32],
+    insert: u16,
 ) -> SubmitWay
+    requires { ⌜ insert ≡ insertAt cfg head transfer (scan .tail) (now ring) ⌝ }
     ensures { λ r. ⌜ ((requests : List IsoRequest) (plans : List IsoPacketPlan)
         → Scanned (whole cfg head fatal requests plans) scan
         → r
@@ -242,7 +243,7 @@ pub(crate) fn submit_way(
     if long < n {
         return SubmitWay::TooLong(long as u32);
     }
-    let spent = spend_refusal(cfg, head, fatal, scan, transfer, lengths, ring);
+    let spent = spend_refusal(cfg, head, fatal, scan, transfer, lengths, insert);
     if spent != 0 {
         return SubmitWay::Spend(spent);
     }

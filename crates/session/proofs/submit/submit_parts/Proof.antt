@@ -8,14 +8,14 @@ use borrow.Author.Needs.{needs}
 use Rattle.session.proofs.submit.submit_parts.Statement.{statement}
 use Rattle.session.proofs.submit.submit_parts.Tie as tie
 
-submit-way-requires : tie.Need-submit-way-requires
-submit-way-requires c κs = search needs
-
 insert-of-requires : tie.Need-insert-of-requires
 insert-of-requires c κs = search needs
 
+submit-way-requires : tie.Need-submit-way-requires
+submit-way-requires c κs = c .before .insert-of .ensures
+
 store-by-requires : tie.Need-store-by-requires
-store-by-requires c κs = λ g. (c .before .before .before .submit-way .ensures .1 g .2, c .before .before .before .submit-way .ensures .1 g .3)
+store-by-requires c κs = λ g. (c .before .submit-way .ensures .1 g .2, c .before .submit-way .ensures .1 g .3)
 
 added-packets-requires : tie.Need-added-packets-requires
 added-packets-requires c κs = search needs
@@ -29,11 +29,11 @@ step-of-requires c κs = search needs
 slot-after-requires : tie.Need-slot-after-requires
 slot-after-requires c κs = (
   c .before .slots-of .ensures .1,
-  few-added (c .before .before .before .before .before .before .before .before .before .submit-way .result)
+  few-added (c .before .before .before .before .before .before .before .submit-way .result)
       (length (c .before .before .before .before .before .before .before .before .before .before .before .before .before .args .lengths .now))
       (c .before .before .added-packets .result) 255 (c .before .before .added-packets .ensures) (λ e.
-      c .before .before .before .before .before .before .before .before .before .submit-way .ensures .1
-      (gate (c .before .before .before .before .before .before .before .before .before .submit-way .result) e) .0),
+      c .before .before .before .before .before .before .before .submit-way .ensures .1
+      (gate (c .before .before .before .before .before .before .before .submit-way .result) e) .0),
 )
 
 answer-of-requires : tie.Need-answer-of-requires
@@ -46,8 +46,8 @@ head-after-requires : tie.Need-head-after-requires
 head-after-requires c κs = λ e.
     omega (
       arith,
-      c .before .before .before .before .before .before .before .before .before .before .before .before .before .submit-way .ensures .1
-          (gate (c .before .before .before .before .before .before .before .before .before .before .before .before .before .submit-way .result) e) .1,
+      c .before .before .before .before .before .before .before .before .before .before .before .submit-way .ensures .1
+          (gate (c .before .before .before .before .before .before .before .before .before .before .before .submit-way .result) e) .1,
     )
 
 cast-t21 : tie.Need-cast-t21
@@ -63,13 +63,13 @@ returns c = λ requests plans w.
     let s = whole (a .cfg) (a .head) (a .fatal) requests plans in
     let L = a .lengths .now in
     let ring = a .ring .now in
-    let way = c .before .before .before .before .before .before .before .before .before .before .before .before .before .before .before .submit-way .result in
-    let insert = c .before .before .before .before .before .before .before .before .before .before .before .before .before .insert-of .result in
+    let way = c .before .before .before .before .before .before .before .before .before .before .before .before .before .submit-way .result in
+    let insert = c .before .before .before .before .before .before .before .before .before .before .before .before .before .before .before .insert-of .result in
     let way-is =
-    c .before .before .before .before .before .before .before .before .before .before .before .before .before .before .before .submit-way .ensures .0 requests
+    c .before .before .before .before .before .before .before .before .before .before .before .before .before .submit-way .ensures .0 requests
     plans w in (
       parted s (a .transfer) L ring (a .scan) way insert w way-is
-          (c .before .before .before .before .before .before .before .before .before .before .before .before .before .insert-of .ensures) _
+          (c .before .before .before .before .before .before .before .before .before .before .before .before .before .before .before .insert-of .ensures) _
           (c .before .before .before .before .before .slot-after .result) refl refl
           (c .before .before .before .before .before .before .before .slots-of .ensures)
           (c .before .before .before .before .before .before .step-of .ensures)
@@ -78,15 +78,15 @@ returns c = λ requests plans w.
           (c .before .before .start-if .ensures) (c .before .head-after .ensures),
       c .before .before .before .before .before .before .before .before .before .before .before .store-by .ensures
           ∙ ring-parted s (a .transfer) L ring (a .scan) way insert w way-is
-          (c .before .before .before .before .before .before .before .before .before .before .before .before .before .insert-of .ensures),
+          (c .before .before .before .before .before .before .before .before .before .before .before .before .before .before .before .insert-of .ensures),
     )
 
 pub submit-parts-spec : {M : Type 1} → statement M
 submit-parts-spec =
     tie.close
     (tie.spec
-    submit-way-requires
     insert-of-requires
+    submit-way-requires
     store-by-requires
     added-packets-requires
     slots-of-requires

@@ -19,9 +19,6 @@ use Rattle.session.proofs.way.spend_refusal.Tie as tie
 sum-of-requires : tie.Need-sum-of-requires
 sum-of-requires c κs = search needs
 
-insert-of-requires : tie.Need-insert-of-requires
-insert-of-requires c κs = search needs
-
 clash-requires : tie.Need-clash-requires
 clash-requires c κs = search needs
 
@@ -36,23 +33,22 @@ spend-number-requires c κs = search needs
 
 returns : tie.Need-returns
 returns c =
-    let a = c .before .before .before .before .before .before .before .before .before .before .before .args in
+    let a = c .before .before .before .before .before .before .before .before .before .args in
     let n = length (a .lengths .now) in
-    let sum-is = c .before .before .before .before .before .before .before .before .sum-of .ensures in
+    let sum-is = c .before .before .before .before .before .before .before .sum-of .ensures in
     let no-channel = not (a .head .live) && not (a .transfer .«channel_free») in
     let beyond : c .before .is-beyond .result ≡ isBeyond (a .transfer .base) (sum (a .lengths .now)) =
     c .before .is-beyond .ensures ∙ ap (isBeyond (a .transfer .base)) sum-is in (
-      λ requests plans w.
+      λ requests plans ring w at.
           let s = whole (a .cfg) (a .head) (a .fatal) requests plans in
           c .spend-number .ensures
           ∙ spend-equal no-channel (ap (λ (x : ℕ). not (eqb x (a .transfer .«buffer_len»))) sum-is) beyond
           (c .before .before .before .clash .ensures (pendingPlans s) (w .held)
           ∙ ap (λ (i : ℕ). isGuarded (a .cfg .mode) && anyHeld (pendingPlans s) (slotsFrom (slots (a .cfg)) i (stepOf (a .cfg)) 0 n))
-          (c .before .before .before .before .before .insert-of .ensures
-          ∙ ap (λ (tail : ℕ). insertAt (a .cfg) (a .head) (a .transfer) tail (a .ring .now)) (w .tail))),
+          (at ∙ ap (λ (tail : ℕ). insertAt (a .cfg) (a .head) (a .transfer) tail ring) (w .tail))),
       λ z.
           let off =
-          not-beyond (not (eqb (c .before .before .before .before .before .before .before .before .sum-of .result) (a .transfer .«buffer_len»)))
+          not-beyond (not (eqb (c .before .before .before .before .before .before .before .sum-of .result) (a .transfer .«buffer_len»)))
           (c .before .is-beyond .result) no-channel (c .before .before .before .clash .result) (sym (c .spend-number .ensures) ∙ z) in
           ltb-false 4294967295 (a .transfer .base + sum (a .lengths .now)) (sym beyond ∙ off),
     )
@@ -62,7 +58,6 @@ spend-refusal-spec =
     tie.close
     (tie.spec
     sum-of-requires
-    insert-of-requires
     clash-requires
     cast-spend-number
     is-beyond-requires

@@ -53,11 +53,13 @@ spend-is :
     (c .before .before .before .before .before .before .before .before .args .lengths .now)
     (c .before .before .before .before .before .before .before .before .args .ring .now)
 spend-is c requests plans w =
-    c .spend-refusal .ensures .0 requests plans (w .found (entered (of (c .before .before .before .before .before .before .before .before) requests plans)
-    (c .before .before .before .before .before .before .before .before .args .transfer)
-    (length (c .before .before .before .before .before .before .before .before .args .lengths .now))
-    (length (c .before .before .before .before .before .before .before .before .args .ring .now))
+    let at = c .before .before .before .before .before .before .before .before in
+    let a = at .args in
+    let s = of at requests plans in
+    c .spend-refusal .ensures .0 requests plans (a .ring .now)
+    (w .found (entered s (a .transfer) (length (a .lengths .now)) (length (a .ring .now))
     (none (c .before .before .before .before) requests plans w) .record-good))
+    (at .pre)
 
 entry-refusal-requires : tie.Need-entry-refusal-requires
 entry-refusal-requires c κs = search needs
@@ -80,8 +82,8 @@ iso-max-xfer-size-requires c κs = search needs
 first-long-requires : tie.Need-first-long-requires
 first-long-requires c κs = search needs
 
-cast-t16 : tie.Need-cast-t16
-cast-t16 c = omega (arith, entry (c .before .before .before) .0, c .if2 .taken)
+cast-t17 : tie.Need-cast-t17
+cast-t17 c = omega (arith, entry (c .before .before .before) .0, c .if2 .taken)
 
 returns-2 : tie.Need-returns-2
 returns-2 c = (
@@ -137,7 +139,7 @@ submit-way-spec =
     returns
     iso-max-xfer-size-requires
     first-long-requires
-    cast-t16
+    cast-t17
     returns-2
     spend-refusal-requires
     returns-3
