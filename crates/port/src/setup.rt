@@ -1,10 +1,13 @@
 // The setup packet by numbers, for C. It answers as crate `plan` does for what the numbers name; 18 and zeros where one names nothing.
+ghost use mathlib.Core.Bool.{cond};
 ghost use mathlib.Core.Path.{_≡_};
+ghost use Rattle.plan.specs.Numbers.{answerNumber};
 ghost use Rattle.port.specs.Planning.{requestTypeOf, recipientOf, isBadSetup, setupOf, setupNumbers, unnamedSetup, setupPacketNumbers};
 use crate::ring_sums::is_bad_direction;
 use crate::stages::plan_number;
 use crate::tags::direction_of;
 use plan::ControlSetup;
+use plan::PlanAnswer;
 use plan::Recipient;
 use plan::RequestType;
 use plan::SetupPacket;
@@ -63,23 +66,43 @@ fn setup_of(request_type: u8, recipient: u8, request: u8, value: u16, index: u16
     }
 }
 
-fn setup_numbers(p: SetupPacket) -> PortSetupPacket
-    ensures { λ r. ⌜ r ≡ setupNumbers p ⌝ }
+fn unless(bad: bool, x: u8) -> u8
+    ensures { λ r. ⌜ r ≡ cond bad 0 x ⌝ }
+{
+    if bad {
+        return 0;
+    }
+    x
+}
+
+fn refusal_unless(bad: bool, answer: PlanAnswer) -> u32
+    ensures { λ r. ⌜ r ≡ cond bad 18 (answerNumber answer) ⌝ }
+{
+    if bad {
+        return 18;
+    }
+    plan_number(answer)
+}
+
+// The bytes are chosen one by one, in one literal, and so stay in registers: a table of zeros on one way and the packet's bytes on the
+// other would be joined in memory and read back across two stores.
+fn setup_numbers(bad: bool, p: SetupPacket) -> PortSetupPacket
+    ensures { λ r. ⌜ r ≡ cond bad unnamedSetup (setupNumbers p) ⌝ }
 {
     let answer = p.answer;
     let bytes = p.bytes;
     PortSetupPacket {
-        refusal: plan_number(answer),
-        bytes,
-    }
-}
-
-fn unnamed_setup() -> PortSetupPacket
-    ensures { λ r. ⌜ r ≡ unnamedSetup ⌝ }
-{
-    PortSetupPacket {
-        refusal: 18,
-        bytes: [0; 8],
+        refusal: refusal_unless(bad, answer),
+        bytes: [
+            unless(bad, bytes[0]),
+            unless(bad, bytes[1]),
+            unless(bad, bytes[2]),
+            unless(bad, bytes[3]),
+            unless(bad, bytes[4]),
+            unless(bad, bytes[5]),
+            unless(bad, bytes[6]),
+            unless(bad, bytes[7]),
+        ],
     }
 }
 
@@ -95,9 +118,10 @@ pub extern "C" fn dwc2_setup_packet_bytes(
 ) -> PortSetupPacket
     ensures { λ r. ⌜ r ≡ setupPacketNumbers «request_type» recipient direction request value index len ⌝ }
 {
-    if is_bad_setup(request_type, recipient, direction) {
-        return unnamed_setup();
-    }
+    let bad = is_bad_setup(request_type, recipient, direction);
     let setup = setup_of(request_type, recipient, request, value, index);
-    setup_numbers(plan::setup_packet_bytes(setup, direction_of(direction), len))
+    setup_numbers(
+        bad,
+        plan::setup_packet_bytes(setup, direction_of(direction), len),
+    )
 }

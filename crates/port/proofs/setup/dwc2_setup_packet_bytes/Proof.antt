@@ -1,17 +1,10 @@
 -- The packet of crate `plan` for what the numbers name.
-use Rattle.port.proofs.Laws.Planning.{first-of, second-of}
 use borrow.Author.Needs.{needs}
 use Rattle.port.proofs.setup.dwc2_setup_packet_bytes.Statement.{statement}
 use Rattle.port.proofs.setup.dwc2_setup_packet_bytes.Tie as tie
 
 is-bad-setup-requires : tie.Need-is-bad-setup-requires
 is-bad-setup-requires c κs = search needs
-
-unnamed-setup-requires : tie.Need-unnamed-setup-requires
-unnamed-setup-requires c κs = search needs
-
-returns : tie.Need-returns
-returns c = first-of _ _ (c .before .before .is-bad-setup .ensures) (c .before .if1 .taken) (c .unnamed-setup .ensures)
 
 setup-of-requires : tie.Need-setup-of-requires
 setup-of-requires c κs = search needs
@@ -25,29 +18,23 @@ setup-packet-bytes-requires c κs = search needs
 setup-numbers-requires : tie.Need-setup-numbers-requires
 setup-numbers-requires c κs = search needs
 
-returns-2 : tie.Need-returns-2
-returns-2 c =
-    second-of
-    _
-    _
-    (c .before .before .before .before .before .is-bad-setup .ensures)
-    (c .before .before .before .before .if1 .left)
-    (rw (
+returns : tie.Need-returns
+returns c =
+    rw (
       c .setup-numbers .ensures,
       c .before .setup-packet-bytes .ensures,
       c .before .before .direction-of .ensures,
       c .before .before .before .setup-of .ensures,
-    ))
+      c .before .before .before .before .is-bad-setup .ensures,
+    )
 
 pub dwc2-setup-packet-bytes-spec : {M : Type 1} → statement M
 dwc2-setup-packet-bytes-spec =
     tie.close
     (tie.spec
     is-bad-setup-requires
-    unnamed-setup-requires
-    returns
     setup-of-requires
     direction-of-requires
     setup-packet-bytes-requires
     setup-numbers-requires
-    returns-2)
+    returns)
