@@ -169,7 +169,7 @@ module _ (xs : List ℕ) (z : layoutNumber xs ≡ 0) where
       ap (λ (s : IsoChannelState). anyOf isBadPlanBytes 7 (plansIn s) (drop 1320 ys)) same
       ∙ plans-any long k (plansIn t) (min-le-right (packetsOf (slice 0 (requestsIn t) (t .requests))) 1024)
       ∙ any-less isBadPlanBytes 7 (plansIn (sessionOf xs)) (plansIn t) (drop 1320 xs) less plans-clear in
-      sym (layout-by ys (omega (arith, same-long long k)) (sym (first .0)) (sym (first .1)) false refl (sym requests) (sym plans) refl)
+      sym (layout-by ys (omega (arith, same-long long k)) (sym (ap₂ (λ (x y : Bool). x || y) (first .0) (first .1))) false refl (sym requests) (sym plans) refl)
 
 -- a call that leaves the session as it was leaves the bytes as they were
 pub left-alone :

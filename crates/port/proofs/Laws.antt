@@ -18,8 +18,10 @@ pub mod Runs
 pub mod Saved
 pub mod Scans
 pub mod Settling
+pub mod Sounds
 pub mod Steps
 pub mod Submits
 pub mod Tables
 pub mod Tags
+pub mod Verdict
 pub mod Walks

@@ -1,7 +1,7 @@
 -- A session that was saved is loaded as it was, whatever stands behind it: for every session with tables of 64 and 1,024 entries, as all that the
 -- code holds have.
-use mathlib.Core.Path.{_≡_, refl, _∙_, sym, ap}
-use mathlib.Core.Bool.{Bool, true, false}
+use mathlib.Core.Path.{_≡_, refl, _∙_, sym, ap, ap₂}
+use mathlib.Core.Bool.{Bool, true, false, _||_}
 use mathlib.Core.List.{List, _++_, append-assoc}
 use Prim.Native.Nat.{ℕ, _+_, _≤_}
 use native.Mathlib.Nat.{min-le-right}
@@ -155,7 +155,7 @@ module _ (s : IsoChannelState) (many-requests : length (s .requests) ≡ 64) (ma
       let long : 8488 ≤ length (front s ++ requests) = omega (arith, length-whole) in
       let t : IsoChannelState = sessionOf (front s ++ requests) in
       ap layoutNumber parts
-      ∙ sym (layout-by (front s ++ requests) long (sym (mark-good s requests)) (sym (head-good s requests)) false refl
+      ∙ sym (layout-by (front s ++ requests) long (sym (ap₂ (λ (x y : Bool). x || y) (mark-good s requests) (head-good s requests))) false refl
       (sym (any-less isBadRequestBytes 20 64 (requestsIn t) (drop 40 (front s ++ requests)) (min-le-right (t .head .count) 64) (sym requests-good)))
       (sym (any-less isBadPlanBytes 7 1024 (plansIn t) (drop 1320 (front s ++ requests))
       (min-le-right (packetsOf (slice 0 (requestsIn t) (t .requests))) 1024) (sym plans-good)))

@@ -1,40 +1,33 @@
--- What the walks over the entries in use find: a bad entry, or what crate session's record check counts and marks. Results of inner functions.
+-- What the walk over the entries in use finds: bytes that no call works on, or what crate session's record check counts. Results of inner functions.
 use mathlib.Core.Path.{_≡_}
 use mathlib.Core.Bool.{Bool, false, _||_}
 use mathlib.Core.List.{List}
-use Prim.Native.Nat.{ℕ, _-_, _<_}
-use lib.ListN.{getD}
-use lib.Seq.{slice}
-use Rattle.session.specs.declared.types.IsoRequest.{IsoRequest}
-use Rattle.session.specs.declared.types.IsoPacketPlan.{IsoPacketPlan}
-use Rattle.session.specs.declared.types.IsoChannelState.{IsoChannelState}
-use Rattle.session.specs.declared.record.RecordScan.{RecordScan}
-use Rattle.session.specs.Session.{blankPlan, packetsOf, allPackets, pendingPackets}
-use Rattle.session.specs.Record.{isBadConfig, isBadCounts, anyBadRequest, isBadSums, anyBadPlan, isBadState}
-use Rattle.session.specs.Way.{isHeld}
+use Prim.Native.Nat.{ℕ}
+use Rattle.session.specs.Session.{allPackets, pendingPackets}
+use Rattle.session.specs.Record.{isBadRequest, isBadPlan, isBadRecord}
 use Rattle.port.specs.declared.scan.RequestSums.{RequestSums}
+use Rattle.port.specs.declared.verdict.Verdict.{Verdict}
+use Rattle.port.specs.Layout.{requestOf, isBadRequestBytes, planOf, isBadPlanBytes, isBadLayout, layoutNumber, sessionOf}
 
--- of `count` requests the first `done` are completed
-pub record Summed (done count : ℕ) (requests : List IsoRequest) (r : RequestSums) : Type 0 where
-  pub bad : r .bad ≡ anyBadRequest (slice 0 count requests)
-  pub all : r .bad ≡ false → r .all ≡ packetsOf (slice 0 count requests)
-  pub pending : r .bad ≡ false → r .pending ≡ packetsOf (slice done count requests)
+-- an entry's bytes that one of the two checks finds bad, of the layout or of the record
+abbrev pub isBadRequestEntry : List ℕ → Bool
+isBadRequestEntry xs = isBadRequestBytes xs || isBadRequest (requestOf xs)
 
--- the tests of a record but those of its plans
-abbrev pub isBadButPlans : IsoChannelState → Bool
-isBadButPlans s =
-    (isBadConfig (s .cfg) || isBadCounts s)
-    || (anyBadRequest (slice 0 (s .head .count) (s .requests)) || (isBadSums s || isBadState s))
+abbrev pub isBadPlanEntry : ℕ → ℕ → List ℕ → Bool
+isBadPlanEntry limit slots xs = isBadPlanBytes xs || isBadPlan limit slots (planOf xs)
 
-pub record Counted (s : IsoChannelState) (r : RequestSums) : Type 0 where
-  pub bad : r .bad ≡ isBadButPlans s
-  pub all : r .bad ≡ false → r .all ≡ allPackets s
-  pub pending : r .bad ≡ false → r .pending ≡ pendingPackets s
+-- what no call works on: bytes that are no session of the layout, or a bad record
+abbrev pub isUnsound : List ℕ → Bool
+isUnsound xs = isBadLayout xs || isBadRecord (sessionOf xs)
 
--- of `n` plans the last `m` are pending
-pub record Marked (n m limit slots : ℕ) (plans : List IsoPacketPlan) (r : RecordScan) : Type 0 where
-  pub bad : r .bad ≡ anyBadPlan limit slots (slice 0 n plans)
-  pub all : r .bad ≡ false → r .all ≡ n
-  pub pending : r .bad ≡ false → r .pending ≡ m
-  pub tail : r .bad ≡ false → r .tail ≡ getD plans (n - 1) blankPlan .«desc_index»
-  pub held : r .bad ≡ false → (k : ℕ) → k < 256 → getD (r .held) k false ≡ isHeld (slice (n - m) n plans) k
+pub record Sounded (xs : List ℕ) (r : RequestSums) : Type 0 where
+  pub bad : r .bad ≡ isUnsound xs
+  pub all : r .bad ≡ false → r .all ≡ allPackets (sessionOf xs)
+  pub pending : r .bad ≡ false → r .pending ≡ pendingPackets (sessionOf xs)
+
+-- the two answers apart: the number of bytes that are no session of the layout, and whether the record of those that are is bad
+pub record Told (xs : List ℕ) (r : Verdict) : Type 0 where
+  pub refusal : r .refusal ≡ layoutNumber xs
+  pub bad : layoutNumber xs ≡ 0 → r .bad ≡ isBadRecord (sessionOf xs)
+  pub all : r .bad ≡ false → r .all ≡ allPackets (sessionOf xs)
+  pub pending : r .bad ≡ false → r .pending ≡ pendingPackets (sessionOf xs)

@@ -11,23 +11,22 @@ use crate::answers::PortReply;
 use crate::answers::reclaim_refused;
 use crate::answers::reply_refused;
 use crate::cancel::cancel_at;
-use crate::load::layout_refusal;
 use crate::poll::poll_on;
 use crate::poll::recover_at;
 use crate::reclaim::reclaim_at;
 use crate::reset::reset_at;
-use crate::scan::is_bad_at;
+use crate::verdict::verdict_at;
 use session::IsoEvent;
 
 #[no_mangle]
 pub extern "C" fn dwc2_iso_check(session: &[u8]) -> u32
     ensures { λ r. ⌜ r ≡ checkBy (now (session .entry)) ⌝ }
 {
-    let refusal = layout_refusal(session);
-    if refusal != 0 {
-        return refusal as u32;
+    let verdict = verdict_at(session);
+    if verdict.refusal != 0 {
+        return verdict.refusal as u32;
     }
-    if is_bad_at(session) {
+    if verdict.bad {
         return 18;
     }
     0
@@ -38,11 +37,11 @@ pub extern "C" fn dwc2_iso_reset(session: &mut [u8]) -> PortReply
     ensures { λ r. ⌜ (r ≡ replyBy (now (session .entry)) resetReply)
         × (now (session .exit) ≡ bytesBy (now (session .entry)) (λ (s : IsoChannelState). resetReply s .session)) ⌝ }
 {
-    let refusal = layout_refusal(session);
-    if refusal != 0 {
-        return reply_refused(refusal);
+    let verdict = verdict_at(session);
+    if verdict.refusal != 0 {
+        return reply_refused(verdict.refusal);
     }
-    reset_at(session)
+    reset_at(session, verdict.bad)
 }
 
 #[no_mangle]
@@ -50,11 +49,11 @@ pub extern "C" fn dwc2_iso_cancel(session: &mut [u8], id: u64) -> PortReply
     ensures { λ r. ⌜ (r ≡ replyBy (now (session .entry)) (λ (s : IsoChannelState). cancelled s id))
         × (now (session .exit) ≡ bytesBy (now (session .entry)) (λ (s : IsoChannelState). cancelled s id .session)) ⌝ }
 {
-    let refusal = layout_refusal(session);
-    if refusal != 0 {
-        return reply_refused(refusal);
+    let verdict = verdict_at(session);
+    if verdict.refusal != 0 {
+        return reply_refused(verdict.refusal);
     }
-    cancel_at(session, id)
+    cancel_at(session, verdict.bad, id)
 }
 
 #[no_mangle]
@@ -65,11 +64,11 @@ pub extern "C" fn dwc2_iso_recover(session: &mut [u8], ring: &mut [u32]) -> Port
         × (now (ring .exit)
         ≡ wordsBy (now (session .entry)) (now (ring .entry)) (λ (s : IsoChannelState). recoveredRing s (now (ring .entry)))) ⌝ }
 {
-    let refusal = layout_refusal(session);
-    if refusal != 0 {
-        return reply_refused(refusal);
+    let verdict = verdict_at(session);
+    if verdict.refusal != 0 {
+        return reply_refused(verdict.refusal);
     }
-    recover_at(session, ring)
+    recover_at(session, verdict.bad, ring)
 }
 
 fn event_of(reported: u32, unplugged: u32, hcint: u32) -> IsoEvent
@@ -97,12 +96,12 @@ pub extern "C" fn dwc2_iso_poll(
         ≡ wordsBy (now (session .entry)) (now (ring .entry))
         (λ (s : IsoChannelState). polledRing s (eventOf reported unplugged hcint) (now (ring .entry)))) ⌝ }
 {
-    let refusal = layout_refusal(session);
-    if refusal != 0 {
-        return reply_refused(refusal);
+    let verdict = verdict_at(session);
+    if verdict.refusal != 0 {
+        return reply_refused(verdict.refusal);
     }
     let event = event_of(reported, unplugged, hcint);
-    poll_on(session, event, ring)
+    poll_on(session, verdict.bad, event, ring)
 }
 
 #[no_mangle]
@@ -128,10 +127,10 @@ pub extern "C" fn dwc2_iso_reclaim(
         ≡ wordsBy (now (session .entry)) (now (results .entry))
         (λ (s : IsoChannelState). reclaimedResults s id (eventOf reported unplugged hcint) (now (ring .entry)) (now (results .entry)))) ⌝ }
 {
-    let refusal = layout_refusal(session);
-    if refusal != 0 {
-        return reclaim_refused(refusal);
+    let verdict = verdict_at(session);
+    if verdict.refusal != 0 {
+        return reclaim_refused(verdict.refusal);
     }
     let event = event_of(reported, unplugged, hcint);
-    reclaim_at(session, id, event, ring, results)
+    reclaim_at(session, verdict.bad, id, event, ring, results)
 }

@@ -4,6 +4,7 @@ ghost use Prim.Native.Nat.{_≤_};
 ghost use lib.ListN.{length};
 ghost use lib.Seq.{slice};
 ghost use Rattle.session.specs.Cancel.{placeOf, cancelled};
+ghost use Rattle.session.specs.Record.{isBadRecord};
 ghost use Rattle.port.specs.Layout.{layoutNumber, sessionOf};
 ghost use Rattle.port.specs.Calls.{replyPort};
 ghost use Rattle.port.specs.Places.{Left};
@@ -15,7 +16,6 @@ use crate::entries::request_at;
 use crate::load::head_at;
 use crate::load::reason_at;
 use crate::poll::halt_at;
-use crate::scan::is_bad_at;
 use session::IsoAnswer;
 use session::IsoHaltReason;
 use session::IsoOutcome;
@@ -40,12 +40,12 @@ pub(crate) fn place_at(bytes: &[u8], count: u16, id: u64) -> u16
     i
 }
 
-pub(crate) fn cancel_at(bytes: &mut [u8], id: u64) -> PortReply
-    requires { ⌜ layoutNumber (now bytes) ≡ 0 ⌝ }
+pub(crate) fn cancel_at(bytes: &mut [u8], bad: bool, id: u64) -> PortReply
+    requires { ⌜ (layoutNumber (now bytes) ≡ 0) × (bad ≡ isBadRecord (sessionOf (now bytes))) ⌝ }
     ensures { λ r. ⌜ (r ≡ replyPort (cancelled (sessionOf (now (bytes .entry))) id))
         × (Left (now (bytes .entry)) (now (bytes .exit)) (cancelled (sessionOf (now (bytes .entry))) id .session)) ⌝ }
 {
-    if is_bad_at(bytes) {
+    if bad {
         return reply_refused(18);
     }
     let head = head_at(bytes);

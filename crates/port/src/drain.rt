@@ -2,32 +2,33 @@
 ghost use mathlib.Core.Path.{_≡_};
 ghost use mathlib.Core.Bool.{false, not};
 ghost use mathlib.Core.List.{map};
-ghost use Prim.Native.Nat.{_+_, _-_, _*_, _≤_, _<_};
-ghost use lib.ListN.{length, getD};
+ghost use Prim.Native.Nat.{ℕ, _+_, _-_, _*_, _≤_, _<_};
+ghost use lib.ListN.{length, getD, drop};
 ghost use lib.Seq.{slice, sets};
-ghost use Rattle.words.specs.Words.{isSet, active};
-ghost use Rattle.session.specs.Session.{blankRequest, blankPlan, packetsOf};
+ghost use Rattle.words.specs.Words.{isSet, active, isPacketError};
+ghost use Rattle.session.specs.Session.{blankRequest, blankPlan, packetsOf, ringWords};
 ghost use Rattle.session.specs.Record.{isBadRecord};
-ghost use Rattle.session.specs.Settle.{settledPlan, oldestFrom, oldestTo, movedTotal, oneMore, slotsCleared, settledSession, settledRing, drained};
-ghost use Rattle.port.specs.Layout.{layoutNumber, sessionOf, plansIn};
+ghost use Rattle.session.specs.Settle.{statusOf, settledBy, settledPlan, oldestFrom, oldestTo, movedTotal, oneMore, slotsCleared, settledSession, settledRing, drained};
+ghost use Rattle.port.specs.Tags.{statusTag};
+ghost use Rattle.port.specs.Layout.{planOf, planBytes, layoutNumber, sessionOf, plansIn};
 ghost use Rattle.port.specs.Places.{requestsOf, plansOf, withPlans, Left};
-use crate::entries::plan_at;
-use crate::entries::put_plan;
 use crate::entries::put_request;
 use crate::entries::request_at;
 use crate::load::head_at;
 use crate::numbers::byte_at;
+use crate::numbers::put_byte;
+use crate::numbers::put_u16;
 use crate::numbers::u16_at;
 use crate::save::put_head;
 use crate::tags::direction_of;
+use crate::tags::flag_tag;
 use session::IsoHead;
 use session::IsoOutcome;
-use session::IsoPacketPlan;
 use session::IsoRequest;
-use session::settled_plan;
 use words::Direction;
-use words::clear_slot;
+use words::DmaDescriptor;
 use words::is_active_at;
+use words::moved_length;
 
 // The packets of the request at a place.
 pub(crate) fn packets_at(bytes: &[u8], i: usize) -> usize
@@ -59,13 +60,29 @@ fn slot_at(bytes: &[u8], i: usize) -> u16
     u16_at(bytes, 1_322 + 7 * i)
 }
 
-fn length_of(plan: IsoPacketPlan) -> u32
-    ensures { λ r. ⌜ (r ≡ plan .actual) × (r ≤ 65535) ⌝ }
+// 1 where the packet failed on the bus.
+fn error_tag(status: u32) -> u8
+    ensures { λ r. ⌜ r ≡ statusTag (statusOf (isPacketError status)) ⌝ }
 {
-    plan.actual as u32
+    let failed = DmaDescriptor { status, paddr: 0 }.iso_status_error();
+    flag_tag(failed)
 }
 
-// Settles the plans from `from` to `to`, each where it stands, and answers the bytes that they moved.
+// Settles the plan at an offset by its descriptor's status word, and answers the bytes that it moved. Its planned length and its slot
+// stay, so only the three bytes behind them are written.
+fn settle_plan_at(bytes: &mut [u8], at: usize, direction: Direction, status: u32) -> u32
+    requires { ⌜ at + 7 ≤ length (now bytes) ⌝ }
+    ensures { λ r. ⌜ (r ≡ settledBy direction (planOf (drop at (now (bytes .entry)))) status .actual)
+        × (r ≤ 65535)
+        × (now (bytes .exit) ≡ sets (now (bytes .entry)) at (planBytes (settledBy direction (planOf (drop at (now (bytes .entry)))) status))) ⌝ }
+{
+    let actual = moved_length(direction, u16_at(bytes, at), status);
+    put_u16(bytes, at + 4, actual);
+    put_byte(bytes, at + 6, error_tag(status));
+    actual as u32
+}
+
+// Settles the plans from `from` to `to`, each where it stands, and answers the bytes that they moved. Their slots are in the ring.
 fn settle_plans_at(
     bytes: &mut [u8],
     from: usize,
@@ -73,7 +90,10 @@ fn settle_plans_at(
     direction: Direction,
     ring: &[u32],
 ) -> u32
-    requires { ⌜ (layoutNumber (now bytes) ≡ 0) × (from ≤ to) × (to ≤ plansIn (sessionOf (now bytes))) ⌝ }
+    requires { ⌜ (layoutNumber (now bytes) ≡ 0)
+        × (from ≤ to)
+        × (to ≤ plansIn (sessionOf (now bytes)))
+        × ((k : ℕ) → from ≤ k → k < to → 2 * getD (plansOf (now bytes)) k blankPlan .«desc_index» + 1 < length (now ring)) ⌝ }
     ensures { λ r. ⌜ (r ≡ movedTotal (map (settledPlan direction (now (ring .entry))) (slice from to (plansOf (now (bytes .entry))))))
         × (Left (now (bytes .entry)) (now (bytes .exit))
         (withPlans (sessionOf (now (bytes .entry)))
@@ -82,23 +102,25 @@ fn settle_plans_at(
     let mut sum: u32 = 0;
     let mut i = from;
     while i < to {
-        let at = 1_320 + 7 * i;
-        let plan = settled_plan(direction, plan_at(bytes, at), ring);
-        put_plan(bytes, at, plan);
-        sum += length_of(plan);
+        let status = ring[2 * slot_at(bytes, i) as usize];
+        sum += settle_plan_at(bytes, 1_320 + 7 * i, direction, status);
         i += 1;
     }
     sum
 }
 
-// Both words of the slots of the plans from `from` to `to` become zero.
+// Both words of the slots of the plans from `from` to `to`, which are in the ring, become zero.
 fn clear_slots_at(bytes: &[u8], from: usize, to: usize, ring: &mut [u32])
-    requires { ⌜ (8488 ≤ length (now bytes)) × (to ≤ 1024) ⌝ }
+    requires { ⌜ (8488 ≤ length (now bytes))
+        × (to ≤ 1024)
+        × ((k : ℕ) → from ≤ k → k < to → 2 * getD (plansOf (now bytes)) k blankPlan .«desc_index» + 1 < length (now ring)) ⌝ }
     ensures { λ _. ⌜ now (ring .exit) ≡ slotsCleared (slice from to (plansOf (now (bytes .entry)))) (now (ring .entry)) ⌝ }
 {
     let mut i = from;
     while i < to {
-        clear_slot(ring, slot_at(bytes, i));
+        let at = 2 * slot_at(bytes, i) as usize;
+        ring[at] = 0;
+        ring[at + 1] = 0;
         i += 1;
     }
 }
@@ -109,7 +131,8 @@ fn settle_at(bytes: &mut [u8], from: usize, to: usize, ring: &mut [u32])
         × (isBadRecord (sessionOf (now bytes)) ≡ false)
         × (sessionOf (now bytes) .head .done < sessionOf (now bytes) .head .count)
         × (from ≡ oldestFrom (sessionOf (now bytes)))
-        × (to ≡ oldestTo (sessionOf (now bytes))) ⌝ }
+        × (to ≡ oldestTo (sessionOf (now bytes)))
+        × (ringWords (sessionOf (now bytes) .cfg) ≤ length (now ring)) ⌝ }
     ensures { λ _. ⌜ (Left (now (bytes .entry)) (now (bytes .exit)) (settledSession (sessionOf (now (bytes .entry))) (now (ring .entry))))
         × (now (ring .exit) ≡ settledRing (sessionOf (now (bytes .entry))) (now (ring .entry))) ⌝ }
 {
@@ -153,7 +176,9 @@ fn is_served_at(bytes: &[u8], to: usize, ring: &[u32]) -> bool
 
 // Settles the oldest request at once where the bit is set, then each oldest one that is served.
 pub(crate) fn drain_at(bytes: &mut [u8], bit: bool, ring: &mut [u32])
-    requires { ⌜ (layoutNumber (now bytes) ≡ 0) × (isBadRecord (sessionOf (now bytes)) ≡ false) ⌝ }
+    requires { ⌜ (layoutNumber (now bytes) ≡ 0)
+        × (isBadRecord (sessionOf (now bytes)) ≡ false)
+        × (ringWords (sessionOf (now bytes) .cfg) ≤ length (now ring)) ⌝ }
     ensures { λ _. ⌜ (Left (now (bytes .entry)) (now (bytes .exit))
         (drained bit (sessionOf (now (bytes .entry))) (now (ring .entry)) .session))
         × (now (ring .exit) ≡ drained bit (sessionOf (now (bytes .entry))) (now (ring .entry)) .ring) ⌝ }

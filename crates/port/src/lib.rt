@@ -6,6 +6,7 @@ mod drain;
 mod end;
 mod entries;
 mod load;
+mod marks;
 mod numbers;
 mod planning;
 mod poll;
@@ -19,6 +20,7 @@ mod setup;
 mod stages;
 mod submit;
 mod tags;
+mod verdict;
 
 pub use answers::PortReclaimed;
 pub use answers::PortReply;

@@ -1,11 +1,11 @@
 // A session's bytes: whether they are one of the layout, and what stands before the tables.
 ghost use mathlib.Core.Path.{_≡_};
-ghost use mathlib.Core.Bool.{false};
+ghost use mathlib.Core.Bool.{false, _||_};
 ghost use Prim.Native.Nat.{_+_, _≤_, min};
 ghost use lib.ListN.{length, drop};
 ghost use lib.Seq.{slice};
 ghost use Rattle.session.specs.Session.{packetsOf};
-ghost use Rattle.port.specs.Tags.{taggedOf, fatalOf};
+ghost use Rattle.port.specs.Tags.{taggedOf, fatalOf, isBadTagged};
 ghost use Rattle.port.specs.Layout.{configOf, headOf, sessionOf, anyOf, isBadRequestBytes, isBadPlanBytes, isBadMark, isBadHead};
 ghost use Rattle.port.specs.Layout.{requestsIn, layoutNumber};
 ghost use Rattle.port.specs.Places.{requestsOf};
@@ -90,7 +90,7 @@ fn requests_used(bytes: &[u8], n: u16) -> Used
     let mut at: usize = 40;
     let mut i: u16 = 0;
     while i < n {
-        if is_bad_outcome_at(bytes, at) {
+        if is_bad_request_at(bytes, at) {
             return Used {
                 bad: true,
                 packets: 0,
@@ -116,31 +116,12 @@ fn plans_for(packets: usize) -> usize
     1_024
 }
 
-// Most requests have no outcome yet, or none but done: its six bytes, behind the count of packets, are then 0.
-fn is_bad_outcome_at(bytes: &[u8], at: usize) -> bool
-    requires { ⌜ at + 20 ≤ length (now bytes) ⌝ }
-    ensures { λ r. ⌜ r ≡ isBadRequestBytes (drop at (now (bytes .entry))) ⌝ }
-{
-    if u64_at(bytes, at + 12) < 65_536 {
-        return false;
-    }
-    is_bad_request_at(bytes, at)
-}
-
-// Eight plans a turn, then one: tests joined by `|` are one test for the compiler.
 fn any_bad_plan(bytes: &[u8], m: usize) -> bool
     requires { ⌜ (8488 ≤ length (now bytes)) × (m ≤ 1024) ⌝ }
     ensures { λ r. ⌜ r ≡ anyOf isBadPlanBytes 7 m (drop 1320 (now (bytes .entry))) ⌝ }
 {
     let mut at: usize = 1_320;
     let mut i: usize = 0;
-    while i + 8 <= m {
-        if any_of_eight(bytes, at) {
-            return true;
-        }
-        at += 56;
-        i += 8;
-    }
     while i < m {
         if is_bad_plan_at(bytes, at) {
             return true;
@@ -151,43 +132,36 @@ fn any_bad_plan(bytes: &[u8], m: usize) -> bool
     false
 }
 
-fn any_of_eight(bytes: &[u8], at: usize) -> bool
-    requires { ⌜ at + 56 ≤ length (now bytes) ⌝ }
-    ensures { λ r. ⌜ r ≡ anyOf isBadPlanBytes 7 8 (drop at (now (bytes .entry))) ⌝ }
-{
-    any_of_four(bytes, at) | any_of_four(bytes, at + 28)
-}
-
-fn any_of_four(bytes: &[u8], at: usize) -> bool
-    requires { ⌜ at + 28 ≤ length (now bytes) ⌝ }
-    ensures { λ r. ⌜ r ≡ anyOf isBadPlanBytes 7 4 (drop at (now (bytes .entry))) ⌝ }
-{
-    any_of_two(bytes, at) | any_of_two(bytes, at + 14)
-}
-
-fn any_of_two(bytes: &[u8], at: usize) -> bool
-    requires { ⌜ at + 14 ≤ length (now bytes) ⌝ }
-    ensures { λ r. ⌜ r ≡ anyOf isBadPlanBytes 7 2 (drop at (now (bytes .entry))) ⌝ }
-{
-    is_bad_plan_at(bytes, at) | is_bad_plan_at(bytes, at + 7)
-}
-
+// Bytes without the mark: its first four are looked at as one number.
 fn is_bad_mark(bytes: &[u8]) -> bool
     requires { ⌜ 8488 ≤ length (now bytes) ⌝ }
     ensures { λ r. ⌜ r ≡ isBadMark (now (bytes .entry)) ⌝ }
 {
-    !(byte_at(bytes, 0) == 68)
-        | (!(byte_at(bytes, 1) == 87) | (!(byte_at(bytes, 2) == 83) | !(u16_at(bytes, 3) == 1)))
+    let low = byte_at(bytes, 0) as u32 + 256 * byte_at(bytes, 1) as u32;
+    let high = byte_at(bytes, 2) as u32 + 256 * byte_at(bytes, 3) as u32;
+    !(low + 65_536 * high == 22_239_044) | !(byte_at(bytes, 4) == 0)
 }
 
-fn is_bad_head(bytes: &[u8]) -> bool
+// Without a reason its six bytes, behind the count of requests, are 0.
+fn is_bad_reason(bytes: &[u8]) -> bool
     requires { ⌜ 8488 ≤ length (now bytes) ⌝ }
-    ensures { λ r. ⌜ r ≡ isBadHead (now (bytes .entry)) ⌝ }
+    ensures { λ r. ⌜ r ≡ isBadTagged 2 2 (taggedOf (drop 34 (now (bytes .entry)))) ⌝ }
 {
-    (byte_at(bytes, 5) > 2)
-        | ((byte_at(bytes, 6) > 1)
-            | ((byte_at(bytes, 7) > 1)
-                | ((byte_at(bytes, 15) > 1) | is_bad_tagged(2, 2, tagged_at(bytes, 34)))))
+    if u64_at(bytes, 32) < 65_536 {
+        return false;
+    }
+    is_bad_tagged(2, 2, tagged_at(bytes, 34))
+}
+
+// What stands before the tables, but for what the record check asks of it: few comparisons, as every call makes them.
+pub(crate) fn is_bad_front(bytes: &[u8]) -> bool
+    requires { ⌜ 8488 ≤ length (now bytes) ⌝ }
+    ensures { λ r. ⌜ r ≡ (isBadMark (now (bytes .entry)) || isBadHead (now (bytes .entry))) ⌝ }
+{
+    is_bad_mark(bytes)
+        | ((byte_at(bytes, 5) > 2)
+            | ((byte_at(bytes, 6) > 1)
+                | ((byte_at(bytes, 7) > 1) | ((byte_at(bytes, 15) > 1) | is_bad_reason(bytes)))))
 }
 
 // The number with which bytes are refused that are no session of the layout; 0 for those that are one.
@@ -197,7 +171,7 @@ pub(crate) fn layout_refusal(bytes: &[u8]) -> u16
     if bytes.len() < 8_488 {
         return 17;
     }
-    if is_bad_mark(bytes) | is_bad_head(bytes) {
+    if is_bad_front(bytes) {
         return 18;
     }
     let used = requests_used(bytes, requests_in(bytes));

@@ -3,7 +3,7 @@ ghost use mathlib.Core.Path.{_≡_};
 ghost use Prim.Native.Nat.{_+_, _≤_};
 ghost use mathlib.Core.List.{[], _∷_};
 ghost use lib.ListN.{length, drop};
-ghost use lib.Seq.{sets};
+ghost use lib.Seq.{slice, sets};
 ghost use Rattle.port.specs.Bytes.{byteOf, u16Of, u32Of, u64Of, u16Bytes, u32Bytes, u64Bytes};
 
 pub(crate) fn byte_at(bytes: &[u8], at: usize) -> u8
@@ -78,4 +78,25 @@ pub(crate) fn put_three(bytes: &mut [u8], at: usize, x: u8, y: u8, z: u8)
     bytes[at] = x;
     bytes[at + 1] = y;
     bytes[at + 2] = z;
+}
+
+// The `n` bytes from `from` on move down to `into`, sixteen at a time; each is read before it is written over.
+pub(crate) fn move_down(bytes: &mut [u8], into: usize, from: usize, n: usize)
+    requires { ⌜ (into ≤ from) × (from + n ≤ length (now bytes)) ⌝ }
+    ensures { λ _. ⌜ now (bytes .exit) ≡ sets (now (bytes .entry)) into (slice from (from + n) (now (bytes .entry))) ⌝ }
+{
+    let mut k: usize = 0;
+    let mut turns = n / 16;
+    while turns > 0 {
+        let a = u64_at(bytes, from + k);
+        let b = u64_at(bytes, from + k + 8);
+        put_u64(bytes, into + k, a);
+        put_u64(bytes, into + k + 8, b);
+        k += 16;
+        turns -= 1;
+    }
+    while k < n {
+        bytes[into + k] = bytes[from + k];
+        k += 1;
+    }
 }

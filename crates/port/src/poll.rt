@@ -19,7 +19,6 @@ use crate::entries::put_tagged;
 use crate::load::config_at;
 use crate::load::head_at;
 use crate::load::reason_at;
-use crate::scan::is_bad_at;
 use crate::tags::fatal_tagged;
 use session::IsoAnswer;
 use session::IsoEvent;
@@ -31,27 +30,27 @@ use session::ring_words;
 use session::way_of;
 
 // The number with which a call is refused that is lent a ring of so many words; 0 where it is not.
-pub(crate) fn lent_refusal(bytes: &[u8], words: usize) -> u16
-    requires { ⌜ 8488 ≤ length (now bytes) ⌝ }
+fn lent_refusal(bytes: &[u8], bad: bool, words: usize) -> u16
+    requires { ⌜ (8488 ≤ length (now bytes)) × (bad ≡ isBadRecord (sessionOf (now bytes))) ⌝ }
     ensures { λ r. ⌜ r ≡ lentNumber (sessionOf (now (bytes .entry))) words ⌝ }
 {
     let least = ring_words(config_at(bytes));
     if words < least {
         return 17;
     }
-    if is_bad_at(bytes) {
+    if bad {
         return 18;
     }
     0
 }
 
-pub(crate) fn recover_at(bytes: &mut [u8], ring: &mut [u32]) -> PortReply
-    requires { ⌜ layoutNumber (now bytes) ≡ 0 ⌝ }
+pub(crate) fn recover_at(bytes: &mut [u8], bad: bool, ring: &mut [u32]) -> PortReply
+    requires { ⌜ (layoutNumber (now bytes) ≡ 0) × (bad ≡ isBadRecord (sessionOf (now bytes))) ⌝ }
     ensures { λ r. ⌜ (r ≡ replyPort (recovered (sessionOf (now (bytes .entry))) (length (now (ring .entry)))))
         × (Left (now (bytes .entry)) (now (bytes .exit)) (recovered (sessionOf (now (bytes .entry))) (length (now (ring .entry))) .session))
         × (now (ring .exit) ≡ recoveredRing (sessionOf (now (bytes .entry))) (now (ring .entry))) ⌝ }
 {
-    let refusal = lent_refusal(bytes, ring.len());
+    let refusal = lent_refusal(bytes, bad, ring.len());
     if refusal != 0 {
         return reply_refused(refusal);
     }
@@ -112,13 +111,13 @@ fn said(taken: bool, halt: bool) -> PollSaid
     PollSaid { taken, halt }
 }
 
-pub(crate) fn poll_on(bytes: &mut [u8], event: IsoEvent, ring: &mut [u32]) -> PortReply
-    requires { ⌜ layoutNumber (now bytes) ≡ 0 ⌝ }
+pub(crate) fn poll_on(bytes: &mut [u8], bad: bool, event: IsoEvent, ring: &mut [u32]) -> PortReply
+    requires { ⌜ (layoutNumber (now bytes) ≡ 0) × (bad ≡ isBadRecord (sessionOf (now bytes))) ⌝ }
     ensures { λ r. ⌜ (r ≡ replyPort (polled (sessionOf (now (bytes .entry))) event (now (ring .entry))))
         × (Left (now (bytes .entry)) (now (bytes .exit)) (polled (sessionOf (now (bytes .entry))) event (now (ring .entry)) .session))
         × (now (ring .exit) ≡ polledRing (sessionOf (now (bytes .entry))) event (now (ring .entry))) ⌝ }
 {
-    let refusal = lent_refusal(bytes, ring.len());
+    let refusal = lent_refusal(bytes, bad, ring.len());
     if refusal != 0 {
         return reply_refused(refusal);
     }

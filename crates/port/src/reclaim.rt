@@ -18,15 +18,13 @@ use crate::cancel::place_at;
 use crate::drain::packets_at;
 use crate::drain::packets_before;
 use crate::entries::plan_at;
-use crate::entries::put_plan;
-use crate::entries::put_request;
 use crate::entries::request_at;
 use crate::load::config_at;
 use crate::load::head_at;
+use crate::numbers::move_down;
 use crate::poll::PollSaid;
 use crate::poll::poll_at;
 use crate::save::put_head;
-use crate::scan::is_bad_at;
 use session::IsoEvent;
 use session::IsoHead;
 use session::ReclaimAnswer;
@@ -35,19 +33,14 @@ use session::is_done;
 use session::result_word;
 use session::ring_words;
 
-// The entries from `from` to `to` move down to `into`; so for requests and for plans.
+// The entries from `from` to `to` move down to `into`, as plain bytes: an entry in use is written as it was read. So for requests and for plans.
 fn close_requests_at(bytes: &mut [u8], into: usize, from: usize, to: usize)
     requires { ⌜ (layoutNumber (now bytes) ≡ 0) × (into ≤ from) × (to ≤ requestsIn (sessionOf (now bytes))) ⌝ }
     ensures { λ _. ⌜ Left (now (bytes .entry)) (now (bytes .exit))
         (withRequests (sessionOf (now (bytes .entry))) (closedUp into from to (requestsOf (now (bytes .entry))))) ⌝ }
 {
-    let mut at = into;
-    let mut i = from;
-    while i < to {
-        let request = request_at(bytes, 40 + 20 * i);
-        put_request(bytes, 40 + 20 * at, request);
-        at += 1;
-        i += 1;
+    if from < to {
+        move_down(bytes, 40 + 20 * into, 40 + 20 * from, 20 * (to - from));
     }
 }
 
@@ -56,13 +49,8 @@ fn close_plans_at(bytes: &mut [u8], into: usize, from: usize, to: usize)
     ensures { λ _. ⌜ Left (now (bytes .entry)) (now (bytes .exit))
         (withPlans (sessionOf (now (bytes .entry))) (closedUp into from to (plansOf (now (bytes .entry))))) ⌝ }
 {
-    let mut at = into;
-    let mut i = from;
-    while i < to {
-        let plan = plan_at(bytes, 1_320 + 7 * i);
-        put_plan(bytes, 1_320 + 7 * at, plan);
-        at += 1;
-        i += 1;
+    if from < to {
+        move_down(bytes, 1_320 + 7 * into, 1_320 + 7 * from, 7 * (to - from));
     }
 }
 
@@ -107,12 +95,11 @@ fn hand_results_at(bytes: &[u8], done: bool, from: usize, to: usize, results: &m
     if !done {
         return;
     }
+    let n = to - from;
     let mut at: usize = 0;
-    let mut i = from;
-    while i < to {
-        results[at] = result_word(plan_at(bytes, 1_320 + 7 * i));
+    while at < n {
+        results[at] = result_word(plan_at(bytes, 1_320 + 7 * (from + at)));
         at += 1;
-        i += 1;
     }
 }
 
@@ -178,12 +165,13 @@ fn look_at(bytes: &mut [u8], id: u64, event: IsoEvent, ring: &mut [u32]) -> Poll
 // Hands out the completed request with the number: its outcome and, unless that is an error, a result for each packet.
 pub(crate) fn reclaim_at(
     bytes: &mut [u8],
+    bad: bool,
     id: u64,
     event: IsoEvent,
     ring: &mut [u32],
     results: &mut [u64],
 ) -> PortReclaimed
-    requires { ⌜ layoutNumber (now bytes) ≡ 0 ⌝ }
+    requires { ⌜ (layoutNumber (now bytes) ≡ 0) × (bad ≡ isBadRecord (sessionOf (now bytes))) ⌝ }
     ensures { λ r. ⌜ (r ≡ reclaimedPort (reclaimed (sessionOf (now (bytes .entry))) id event (now (ring .entry)) (length (now (results .entry)))))
         × (Left (now (bytes .entry)) (now (bytes .exit))
         (reclaimed (sessionOf (now (bytes .entry))) id event (now (ring .entry)) (length (now (results .entry))) .session))
@@ -194,7 +182,7 @@ pub(crate) fn reclaim_at(
     if (ring.len() < words) | (results.len() < 255) {
         return reclaim_refused(17);
     }
-    if is_bad_at(bytes) {
+    if bad {
         return reclaim_refused(18);
     }
     let look = look_at(bytes, id, event, ring);

@@ -7,12 +7,12 @@ use crate::answers::PortTransfer;
 use crate::answers::open_number;
 use crate::answers::submit_refused;
 use crate::answers::transfer_of;
-use crate::load::layout_refusal;
 use crate::save::save_session;
 use crate::submit::submit_at;
 use crate::tags::direction_of;
 use crate::tags::mode_of;
 use crate::tags::speed_of;
+use crate::verdict::verdict_at;
 use session::IsoChannelState;
 use session::IsoConfig;
 
@@ -97,13 +97,13 @@ pub extern "C" fn dwc2_iso_submit(
         × (now (session .exit) ≡ submitBytes (now (session .entry)) transfer (now (lengths .entry)) (now (ring .entry)))
         × (now (ring .exit) ≡ submitRing (now (session .entry)) transfer (now (lengths .entry)) (now (ring .entry))) ⌝ }
 {
-    let refusal = layout_refusal(session);
-    if refusal != 0 {
-        return submit_refused(refusal);
+    let verdict = verdict_at(session);
+    if verdict.refusal != 0 {
+        return submit_refused(verdict.refusal);
     }
     if transfer.kind > 3 {
         return submit_refused(18);
     }
     let t = transfer_of(transfer);
-    submit_at(session, t, lengths, ring)
+    submit_at(session, verdict, t, lengths, ring)
 }

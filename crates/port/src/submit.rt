@@ -10,6 +10,7 @@ ghost use Rattle.session.specs.Parts.{Fitting};
 ghost use Rattle.port.specs.Layout.{planBytes, tableBytes, layoutNumber, sessionOf};
 ghost use Rattle.port.specs.Calls.{submittedPort, grownBytes};
 ghost use Rattle.port.specs.Submit.{Grown};
+ghost use Rattle.port.specs.Scan.{Told};
 use crate::answers::PortSubmitted;
 use crate::answers::submit_port;
 use crate::entries::put_plan;
@@ -17,9 +18,10 @@ use crate::entries::put_request;
 use crate::entries::tagged_at;
 use crate::load::config_at;
 use crate::load::head_at;
+use crate::marks::scan_of;
 use crate::save::put_head;
-use crate::scan::scan_at;
 use crate::tags::fatal_of;
+use crate::verdict::Verdict;
 use ring::next_slot;
 use session::IsoHead;
 use session::IsoPacketPlan;
@@ -83,11 +85,12 @@ fn put_added(bytes: &mut [u8], head: IsoHead, parts: SubmitParts, lengths: &[u32
 
 pub(crate) fn submit_at(
     bytes: &mut [u8],
+    verdict: Verdict,
     transfer: IsoTransfer,
     lengths: &[u32],
     ring: &mut [u32],
 ) -> PortSubmitted
-    requires { ⌜ layoutNumber (now bytes) ≡ 0 ⌝ }
+    requires { ⌜ (layoutNumber (now bytes) ≡ 0) × Told (now bytes) verdict ⌝ }
     ensures { λ r. ⌜ (r ≡ submittedPort (submitted (sessionOf (now (bytes .entry))) transfer (now (lengths .entry)) (now (ring .entry))))
         × (now (bytes .exit)
         ≡ grownBytes (now (bytes .entry)) (submitted (sessionOf (now (bytes .entry))) transfer (now (lengths .entry)) (now (ring .entry)) .session))
@@ -96,7 +99,7 @@ pub(crate) fn submit_at(
     let cfg = config_at(bytes);
     let head = head_at(bytes);
     let fatal = fatal_of(tagged_at(bytes, 34));
-    let scan = scan_at(bytes);
+    let scan = scan_of(bytes, verdict);
     let parts = submit_parts(cfg, head, fatal, scan, transfer, lengths, ring);
     put_added(bytes, head, parts, lengths);
     let next = parts.head;

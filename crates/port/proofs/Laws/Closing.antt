@@ -1,34 +1,81 @@
--- Closing up in place: one turn of a walk that moves a table's entries down, and the bytes without a request after the last store.
+-- Closing up in place: a table's entries moved down as bytes, and the bytes without a request after the last store.
 use mathlib.Core.Path.{_≡_, refl, _∙_, sym, ap}
-use mathlib.Core.Bool.{Bool, cond}
+use mathlib.Core.Bool.{Bool, false, cond}
 use mathlib.Core.List.{List, map}
-use Prim.Native.Nat.{ℕ, _+_, _≤_, _<_}
-use native.Mathlib.Nat.{le-refl, le-of-eq}
-use lib.ListN.{length, getD, set}
-use lib.Seq.{slice, sets}
+use Prim.Native.Nat.{ℕ, _+_, _-_, _*_, _≤_, _<_}
+use native.Mathlib.Nat.{le-refl, le-of-eq, min-le-right}
+use native.Mathlib.Omega.{arith}
+use lib.ListN.{length, getD, set, take, drop}
+use lib.Seq.{slice, sets, length-slice}
 use Rattle.session.specs.declared.types.IsoHead.{IsoHead}
 use Rattle.session.specs.declared.types.IsoRequest.{IsoRequest}
 use Rattle.session.specs.declared.types.IsoPacketPlan.{IsoPacketPlan}
 use Rattle.session.specs.declared.types.IsoChannelState.{IsoChannelState}
 use Rattle.session.specs.Session.{blankRequest, allPackets, packetsOf}
 use Rattle.session.specs.Reclaim.{isDone, resultWord, plansBegin, plansEnd, closedUp, oneLess, removed, handedResults}
-use Rattle.session.proofs.Laws.Lists.{amend-next}
 use Rattle.session.proofs.Laws.Handed.{removed-by}
 use Rattle.session.specs.Scan.{whole}
-use Rattle.port.specs.Layout.{headBytes, layoutNumber, sessionOf, requestsIn, plansIn}
-use Rattle.port.specs.Places.{requestsOf, withRequests, withPlans, Left}
-use Rattle.port.proofs.Canonical.{left-layout}
+use Rattle.port.specs.Layout.{headBytes, requestBytes, requestOf, isBadRequestBytes, planBytes, planOf, isBadPlanBytes}
+use Rattle.port.specs.Layout.{tableBytes, tableOf, anyOf, layoutNumber, sessionOf, requestsIn, plansIn}
+use Rattle.port.specs.Places.{requestsOf, plansOf, withRequests, withPlans, Left}
+use Rattle.port.proofs.Canonical.{requests-clear, plans-clear, loaded-left, left-layout}
 use Rattle.port.proofs.Laws.Calls.{long-enough}
-use Rattle.port.proofs.Laws.Left.{left-is, left-over, kept-head}
-use Rattle.port.proofs.Laws.Walks.{requests-in, plans-in}
+use Rattle.port.proofs.Laws.Entries.{length-request, length-plan}
+use Rattle.port.proofs.Laws.Kept.{Octets, request-kept, plan-kept}
+use Rattle.port.proofs.Laws.Left.{left-is, left-over, kept-head, requests-read, plans-read}
+use Rattle.port.proofs.Laws.Over.{part-same}
+use Rattle.port.proofs.Laws.Tables.{length-table, any-less, run-stored}
+use Rattle.port.proofs.Laws.Walks.{requests-in, plans-in, request-turn, plan-turn}
 
--- one turn: the entry at `i` was stored at `into`
-pub close-turn :
-    {A : Type 0} (into i t : ℕ) (l : List A) (d : A) {next : List A} {v : A} → into ≤ i → i < t → t ≤ length l → v ≡ getD l i d → next ≡ set l into v
-    → sets next (into + 1) (slice (i + 1) t next) ≡ sets l into (slice i t l)
-close-turn {A} into i t l d h k n ev e =
-    ap (λ (m : List A). sets m (into + 1) (slice (i + 1) t m)) (e ∙ ap (set l into) ev)
-    ∙ amend-next (λ (vs : List A). vs) into i t l d (getD l i d) h k n (λ rest. refl)
+-- ---- one table: the bytes of the entries from `from` to `to`, which are in use, stand at `into`
+
+module _ {A : Type 0} (f : List ℕ → A) (g : A → List ℕ) (bad : List ℕ → Bool) (w off n used : ℕ) (long : (a : A) → length (g a) ≡ w)
+    (kept : (ys : List ℕ) → Octets ys → w ≤ length ys → bad ys ≡ false → g (f ys) ≡ take w ys)
+    (table : List ℕ → List A) (read : (ys : List ℕ) → table ys ≡ tableOf f w n (drop off ys)) (Holds : List ℕ → Type 0)
+    (turn : (now next : List ℕ) (i : ℕ) (a : A) → i < used → Holds now → next ≡ sets now (off + w * i) (g a)
+    → (table next ≡ set (table now) i a) × Holds next) where
+  entries-moved :
+      (xs : List ℕ) (into from to end : ℕ) {next : List ℕ} → Octets xs → into ≤ from → from ≤ to → to ≤ used → used ≤ n → end ≡ off + w * to
+      → end ≤ length xs
+      → anyOf bad w used (drop off xs) ≡ false
+      → Holds xs
+      → next ≡ sets xs (off + w * into) (slice (off + w * from) end xs)
+      → (table next ≡ closedUp into from to (table xs)) × Holds next
+  entries-moved xs into from to end octets h k few all ends fits clear holds e =
+      let many : length (slice from to (table xs)) ≡ to - from =
+      length-slice from to (table xs) (omega (arith, ap length (read xs), length-table f w n (drop off xs))) in
+      let same : slice (off + w * from) end xs ≡ tableBytes g (slice from to (table xs)) =
+      ap (λ (t : ℕ). slice (off + w * from) t xs) ends
+      ∙ part-same g bad w long f kept off from to n xs octets (omega arith) (omega arith) (any-less bad w used to (drop off xs) few clear)
+      ∙ ap (λ (l : List A). tableBytes g (slice from to l)) (sym (read xs)) in
+      run-stored g w off used long table Holds turn (slice from to (table xs)) into (omega (arith, many)) holds (e ∙ ap (sets xs (off + w * into)) same)
+
+module _ (xs : List ℕ) (z : layoutNumber xs ≡ 0) (octets : Octets xs) (into from to : ℕ) (h : into ≤ from) (k : from ≤ to) where
+  pub plans-moved :
+      {next : List ℕ} → to ≤ plansIn (sessionOf xs)
+      → next ≡ sets xs (1320 + 7 * into) (slice (1320 + 7 * from) (1320 + 7 * from + 7 * (to - from)) xs)
+      → Left xs next (withPlans (sessionOf xs) (closedUp into from to (plansOf xs)))
+  plans-moved few e =
+      let all : plansIn (sessionOf xs) ≤ 1024 = min-le-right (packetsOf (slice 0 (requestsIn (sessionOf xs)) (requestsOf xs))) 1024 in
+      let put =
+      entries-moved planOf planBytes isBadPlanBytes 7 1320 1024 (plansIn (sessionOf xs)) length-plan plan-kept plansOf plans-read
+      (λ (now : List ℕ). Left xs now (withPlans (sessionOf xs) (plansOf now)))
+      (λ (now next : List ℕ). plan-turn xs z (sessionOf xs) {now = now} {next = next}) xs into from to (1320 + 7 * from + 7 * (to - from)) octets h k
+      few all (omega arith) (omega (arith, long-enough xs refl z)) (plans-clear xs z) (loaded-left xs z octets) e in
+      left-is (put .1) (ap (withPlans (sessionOf xs)) (put .0))
+
+  pub requests-moved :
+      {next : List ℕ} → to ≤ requestsIn (sessionOf xs)
+      → next ≡ sets xs (40 + 20 * into) (slice (40 + 20 * from) (40 + 20 * from + 20 * (to - from)) xs)
+      → Left xs next (withRequests (sessionOf xs) (closedUp into from to (requestsOf xs)))
+  requests-moved few e =
+      let all : requestsIn (sessionOf xs) ≤ 64 = min-le-right (sessionOf xs .head .count) 64 in
+      let put =
+      entries-moved requestOf requestBytes isBadRequestBytes 20 40 64 (requestsIn (sessionOf xs)) length-request request-kept requestsOf requests-read
+      (λ (now : List ℕ). Left xs now (withRequests (sessionOf xs) (requestsOf now)))
+      (λ (now next : List ℕ). request-turn xs z (sessionOf xs) {now = now} {next = next}) xs into from to (40 + 20 * from + 20 * (to - from)) octets h k
+      few all (omega arith) (omega (arith, long-enough xs refl z)) (requests-clear xs z) (loaded-left xs z octets) e in
+      left-is (put .1) (ap (withRequests (sessionOf xs)) (put .0))
 
 -- ---- the whole: `b` holds the plans closed up, `c` the requests besides, `d` the head
 

@@ -140,29 +140,32 @@ halves : (ys : List ℕ) → u64Of ys ≡ u16Of ys + 65536 * u16Of (drop 2 ys) +
 unfolding u64Of u32Of
 halves ys = refl
 
-pair : (ys : List ℕ) → u16Of ys ≡ byteOf ys + 256 * byteOf (drop 1 ys)
+pub pair : (ys : List ℕ) → u16Of ys ≡ byteOf ys + 256 * byteOf (drop 1 ys)
 unfolding u16Of byteOf
 pair ys = ap (λ (n : ℕ). getD ys 0 0 + 256 * n) (sym (getD-drop 1 ys 0 0))
 
-none-bad : (t k w : ℕ) → t ≡ 0 → k ≡ 0 → w ≡ 0 → false ≡ isBadTagged 3 4 (tagged t k w)
-none-bad t k w p q r = rw (p, q, r)
+-- where the number ends with its first two bytes, the six behind them are the tag 0 without fault and word
+module _ (ys : List ℕ) (h : u64Of ys < 65536) where
+  pub ends-here : u16Of ys ≡ u64Of ys
+  ends-here = omega (arith, h, halves ys)
 
-none-of : (ys : List ℕ) → u64Of ys < 65536 → (byteOf (drop 2 ys) ≡ 0) × (byteOf (drop 1 (drop 2 ys)) ≡ 0) × (u32Of (drop 4 ys) ≡ 0)
-none-of ys h =
-    (omega (arith, h, halves ys, pair (drop 2 ys)), omega (arith, h, halves ys, pair (drop 2 ys)), omega (arith, h, halves ys))
+  pub no-tag : (fault last : ℕ) → false ≡ isBadTagged fault last (tagged 0 0 0) → false ≡ isBadTagged fault last (taggedOf (drop 2 ys))
+  unfolding taggedOf
+  no-tag fault last good =
+      let tag : byteOf (drop 2 ys) ≡ 0 = omega (arith, h, halves ys, pair (drop 2 ys)) in
+      let kind : byteOf (drop 1 (drop 2 ys)) ≡ 0 = omega (arith, h, halves ys, pair (drop 2 ys)) in
+      let word : u32Of (drop 2 (drop 2 ys)) ≡ 0 = ap u32Of (drop-drop 2 2 ys) ∙ omega (arith, h, halves ys) in
+      good
+      ∙ sym (ap (λ (n : ℕ). isBadTagged fault last (tagged n (byteOf (drop 1 (drop 2 ys))) (u32Of (drop 2 (drop 2 ys))))) tag
+      ∙ ap₂ (λ (k w : ℕ). isBadTagged fault last (tagged 0 k w)) kind word)
 
 -- the count of packets fills the two bytes before it
 pub no-outcome : (xs : List ℕ) (at : ℕ) → u64Of (drop (at + 12) xs) < 65536 → false ≡ isBadRequestBytes (drop at xs)
-unfolding isBadRequestBytes taggedOf
+unfolding isBadRequestBytes
 no-outcome xs at h =
-    let ys : List ℕ = drop (at + 12) xs in
-    let same : at + 14 ≡ at + 12 + 2 = omega arith in
-    let place : drop 14 (drop at xs) ≡ drop 2 ys =
-    drop-drop 14 at xs ∙ ap (λ (n : ℕ). drop n xs) same ∙ sym (drop-drop 2 (at + 12) xs) in
-    let none = none-of ys h in
-    none-bad (byteOf (drop 2 ys)) (byteOf (drop 1 (drop 2 ys))) (u32Of (drop 2 (drop 2 ys))) (none .0) (none .1)
-    (ap u32Of (drop-drop 2 2 ys) ∙ none .2)
-    ∙ sym (ap (λ (l : List ℕ). isBadTagged 3 4 (tagged (byteOf l) (byteOf (drop 1 l)) (u32Of (drop 2 l)))) place)
+    let same : at + 12 + 2 ≡ at + 14 = omega arith in
+    no-tag (drop (at + 12) xs) h 3 4 refl
+    ∙ ap (λ (l : List ℕ). isBadTagged 3 4 (taggedOf l)) (drop-drop 2 (at + 12) xs ∙ ap (λ (n : ℕ). drop n xs) same ∙ sym (drop-drop 14 at xs))
 
 -- ---- no entry reads further than its width
 

@@ -1,11 +1,15 @@
 -- The head of a session's bytes, field by field.
-use mathlib.Core.Path.{_≡_, refl, _∙_, ap}
-use mathlib.Core.Bool.{Bool, not, _||_}
+use mathlib.Core.Path.{_≡_, refl, _∙_, sym, ap, ap₂}
+use mathlib.Core.Bool.{Bool, false, not, _||_}
 use mathlib.Core.List.{List, [], _∷_, _++_}
-use Prim.Native.Nat.{ℕ}
+use Prim.Native.Nat.{ℕ, _+_, _*_, _<_}
+use native.Mathlib.Omega.{arith}
 use lib.Dec.{eqb, ltb}
 use lib.ListN.{drop}
 use lib.Seq.{sets}
+use borrow.Author.Tests.{eqb-true, eq-eqb, not-false}
+use Rattle.words.proofs.Laws.Tests.{neither}
+use Rattle.session.proofs.Laws.Tests.{none}
 use Rattle.ring.specs.declared.speed.Speed.{Speed}
 use Rattle.words.specs.declared.types.Direction.{Direction}
 use Rattle.session.specs.declared.types.IsoMode.{IsoMode}
@@ -15,7 +19,9 @@ use Rattle.port.specs.declared.tags.Tagged.{Tagged}
 use Rattle.port.specs.Bytes.{byteOf, u16Of, u32Of, u64Of, u16Bytes, u32Bytes, u64Bytes}
 use Rattle.port.specs.Tags.{speedTag, speedOf, directionTag, directionOf, modeTag, modeOf, flagTag, taggedOf, isBadTagged}
 use Rattle.port.specs.Layout.{markBytes, configBytes, configOf, headBytes, headOf, isBadMark, isBadHead}
+use Rattle.port.proofs.Laws.Entries.{field, pair}
 use Rattle.port.proofs.Laws.Runs.{then}
+use Rattle.port.proofs.Laws.Scans.{same-tests}
 
 abbrev pub config : Speed → Direction → ℕ → ℕ → ℕ → ℕ → ℕ → IsoMode → IsoConfig
 config speed direction interval endpoint device size mult mode =
@@ -63,6 +69,12 @@ pub head-at :
 unfolding headOf
 head-at xs en ea ec es ed eo = rw (en, ea, ec, es, ed, eo)
 
+is : {m n : ℕ} → not (eqb m n) ≡ false → m ≡ n
+is {m} {n} e = eqb-true m n (not-false (eqb m n) e)
+
+are : (m n : ℕ) → m ≡ n → not (eqb m n) ≡ false
+are m n e = ap not (eq-eqb m n e)
+
 pub bad-mark-at :
     (xs : List ℕ) {a b c v : ℕ} → a ≡ byteOf xs → b ≡ byteOf (drop 1 xs) → c ≡ byteOf (drop 2 xs) → v ≡ u16Of (drop 3 xs)
     → (not (eqb a 68) || (not (eqb b 87) || (not (eqb c 83) || not (eqb v 1)))) ≡ isBadMark xs
@@ -81,6 +93,35 @@ pub bad-head-at :
 unfolding isBadHead
 bad-head-at xs {a} {b} {c} {d} ea eb ec ed et ee =
     ap (λ (x : Bool). ltb 2 a || (ltb 1 b || (ltb 1 c || (ltb 1 d || x)))) (ee ∙ ap (isBadTagged 2 2) et) ∙ rw (ea, eb, ec, ed)
+
+-- four bytes of the mark as one number, and the fifth
+pub unmarked-at :
+    (xs : List ℕ) {a b c d e : ℕ} → a ≡ byteOf xs → b ≡ byteOf (drop 1 xs) → c ≡ byteOf (drop 2 xs) → d ≡ byteOf (drop 3 xs) → e ≡ byteOf (drop 4 xs)
+    → a < 256 → b < 256 → c < 256 → d < 256 → e < 256
+    → (not (eqb (a + 256 * b + 65536 * (c + 256 * d)) 22239044) || not (eqb e 0)) ≡ isBadMark xs
+unmarked-at xs {a} {b} {c} {d} {e} ea eb ec ed ee la lb lc ld le =
+    same-tests to from
+    ∙ bad-mark-at xs ea eb ec (ap₂ (λ (m n : ℕ). m + 256 * n) ed (ee ∙ field byteOf 1 3 xs) ∙ sym (pair (drop 3 xs)))
+  where
+    to : (not (eqb (a + 256 * b + 65536 * (c + 256 * d)) 22239044) || not (eqb e 0)) ≡ false
+        → (not (eqb a 68) || (not (eqb b 87) || (not (eqb c 83) || not (eqb (d + 256 * e) 1)))) ≡ false
+    to h =
+        let two = neither (not (eqb (a + 256 * b + 65536 * (c + 256 * d)) 22239044)) (not (eqb e 0)) h in
+        let low : a + 256 * b + 65536 * (c + 256 * d) ≡ 22239044 = is (two .0) in
+        let high : e ≡ 0 = is (two .1) in
+        none (are a 68 (omega arith)) (none (are b 87 (omega arith)) (none (are c 83 (omega arith)) (are (d + 256 * e) 1 (omega arith))))
+
+    from : (not (eqb a 68) || (not (eqb b 87) || (not (eqb c 83) || not (eqb (d + 256 * e) 1)))) ≡ false
+        → (not (eqb (a + 256 * b + 65536 * (c + 256 * d)) 22239044) || not (eqb e 0)) ≡ false
+    from h =
+        let one = neither (not (eqb a 68)) (not (eqb b 87) || (not (eqb c 83) || not (eqb (d + 256 * e) 1))) h in
+        let two = neither (not (eqb b 87)) (not (eqb c 83) || not (eqb (d + 256 * e) 1)) (one .1) in
+        let three = neither (not (eqb c 83)) (not (eqb (d + 256 * e) 1)) (two .1) in
+        let x : a ≡ 68 = is (one .0) in
+        let y : b ≡ 87 = is (two .0) in
+        let z : c ≡ 83 = is (three .0) in
+        let v : d + 256 * e ≡ 1 = is (three .1) in
+        none (are (a + 256 * b + 65536 * (c + 256 * d)) 22239044 (omega arith)) (are e 0 (omega arith))
 
 -- ---- writing
 

@@ -6,7 +6,7 @@ use Prim.Native.Nat.{ℕ, _+_, _*_, _/_, _%_, _≤_, _<_}
 use native.Mathlib.Omega.{arith}
 use lib.Dec.{eqb, leb, ltb}
 use lib.ListN.{length, getD, take, drop, length-drop}
-use lib.Seq.{getD-drop, take-add}
+use lib.Seq.{getD-drop, take-add, drop-drop}
 use borrow.Author.Tests.{eqb-true, eqb-false, leb-true, ltb-false, ne-eqb, not-false}
 use Rattle.words.specs.Numbers.{faultBit}
 use Rattle.words.proofs.Laws.Tests.{neither}
@@ -89,6 +89,14 @@ u64-kept xs h k =
     let high : u64Of xs / 4294967296 ≡ u32Of (drop 4 xs) = omega (arith, u64-low xs, u32-small xs h) in
     ap₂ (λ (a b : ℕ). u32Bytes a ++ u32Bytes b) low high
     ∙ join 4 4 xs (u32-kept xs h (omega arith)) (u32-kept (drop 4 xs) (octets-drop 4 xs h) (omega (arith, length-drop 4 xs)))
+
+-- two numbers read one behind the other are sixteen bytes
+pub pair-u64-kept :
+    (at : ℕ) (xs : List ℕ) → Octets xs → at + 16 ≤ length xs
+    → u64Bytes (u64Of (drop at xs)) ++ u64Bytes (u64Of (drop (at + 8) xs)) ≡ take 16 (drop at xs)
+pair-u64-kept at xs h k =
+    join 8 8 (drop at xs) (u64-kept (drop at xs) (octets-drop at xs h) (omega (arith, length-drop at xs)))
+    (u64-kept (drop (at + 8) xs) (octets-drop (at + 8) xs h) (omega (arith, length-drop (at + 8) xs)) ∙ ap (take 8) (sym (drop-drop 8 at xs)))
 
 -- ---- cases
 

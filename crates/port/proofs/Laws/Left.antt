@@ -195,11 +195,11 @@ module _ (n m : ℕ) (xs : List ℕ) (s : IsoChannelState) where
 
 -- ---- the tables after a store
 
-requests-read : (xs : List ℕ) → requestsOf xs ≡ tableOf requestOf 20 64 (drop 40 xs)
+pub requests-read : (xs : List ℕ) → requestsOf xs ≡ tableOf requestOf 20 64 (drop 40 xs)
 unfolding sessionOf
 requests-read xs = refl
 
-plans-read : (xs : List ℕ) → plansOf xs ≡ tableOf planOf 7 1024 (drop 1320 xs)
+pub plans-read : (xs : List ℕ) → plansOf xs ≡ tableOf planOf 7 1024 (drop 1320 xs)
 unfolding sessionOf
 plans-read xs = refl
 

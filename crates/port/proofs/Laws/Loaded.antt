@@ -37,11 +37,11 @@ number-by : {short bad b : Bool} → short ≡ false → bad ≡ b → _≡_ {A 
 number-by {bad = bad} p q = sym (ap (λ (x : Bool). cond x 17 (cond bad 18 0)) p ∙ ap (λ (x : Bool). cond x 18 0) q)
 
 -- the tests in the code's order: what stands before the tables, then the entries in use
-module _ (xs : List ℕ) {m h : Bool} (long : 8488 ≤ length xs) (em : m ≡ isBadMark xs) (eh : h ≡ isBadHead xs) where
-  pub bad-front : (m || h) ≡ true → 18 ≡ layoutNumber xs
+module _ (xs : List ℕ) {f : Bool} (long : 8488 ≤ length xs) (ef : f ≡ (isBadMark xs || isBadHead xs)) where
+  pub bad-front : f ≡ true → 18 ≡ layoutNumber xs
   unfolding isBadLayout
   bad-front e =
-      let all : isBadLayout xs ≡ true = rw (← em, ← eh) (go m h _ e) in
+      let all : isBadLayout xs ≡ true = go (isBadMark xs) (isBadHead xs) _ (sym ef ∙ e) in
       number-by (le-ltb (length xs) 8488 long) all
     where
       go : (a b c : Bool) → (a || b) ≡ true → (a || (b || c)) ≡ true
@@ -50,14 +50,12 @@ module _ (xs : List ℕ) {m h : Bool} (long : 8488 ≤ length xs) (em : m ≡ is
       go false false c p = let z : _≡_ {A = ℕ} 0 1 = ap (λ (x : Bool). cond x 1 0) p in absurd (omega arith)
 
   pub layout-by :
-      {r p : Bool} (b : Bool) → (m || h) ≡ false → r ≡ anyOf isBadRequestBytes 20 (requestsIn (sessionOf xs)) (drop 40 xs)
+      {r p : Bool} (b : Bool) → f ≡ false → r ≡ anyOf isBadRequestBytes 20 (requestsIn (sessionOf xs)) (drop 40 xs)
       → p ≡ anyOf isBadPlanBytes 7 (plansIn (sessionOf xs)) (drop 1320 xs)
       → (r || p) ≡ b
       → cond b 18 0 ≡ layoutNumber xs
   unfolding isBadLayout
   layout-by b good er ep e =
-      let two = neither m h good in
-      let mark : isBadMark xs ≡ false = sym em ∙ two .0 in
-      let head : isBadHead xs ≡ false = sym eh ∙ two .1 in
-      let all : isBadLayout xs ≡ b = rw (mark, head, ← er, ← ep) e in
+      let two = neither (isBadMark xs) (isBadHead xs) (sym ef ∙ good) in
+      let all : isBadLayout xs ≡ b = rw (two .0, two .1, ← er, ← ep) e in
       number-by (le-ltb (length xs) 8488 long) all

@@ -1,16 +1,17 @@
 -- A table in the place of another (`tableKept`), entry by entry: how long it is, what one more entry written does, what it is where nothing was
--- changed, and what stands over what stood over a third.
+-- changed, which bytes a part of it is, and what stands over what stood over a third.
 use mathlib.Core.Path.{_≡_, refl, _∙_, sym, ap, ap₂}
 use mathlib.Core.Bool.{Bool, true, false, _||_, cond}
 use mathlib.Core.List.{List, [], _∷_, _++_, append-assoc}
 use Prim.Native.Nat.{ℕ, zero, suc, _+_, _-_, _*_, _≤_, _<_}
 use native.Mathlib.Omega.{arith}
 use lib.ListN.{length, take, drop, set, length-append, length-drop, take-append-drop}
-use lib.Seq.{sets, drop-drop, take-at, drop-at, length-take-le}
+use lib.Seq.{slice, sets, drop-drop, take-at, drop-at, length-take-le}
 use Rattle.words.proofs.Laws.Tests.{neither}
 use Rattle.port.specs.Layout.{tableBytes, tableOf, tableKept, anyOf}
 use Rattle.port.proofs.Laws.Kept.{Octets, octets-drop, join}
-use Rattle.port.proofs.Laws.Runs.{sets-behind, sets-first, take-sets, drop-sets-add}
+use Rattle.port.proofs.Laws.Runs.{sets-behind, sets-first, take-sets, drop-sets-add, slice-take}
+use Rattle.port.proofs.Laws.Tables.{table-take, bytes-drop}
 
 -- ---- entries that read no further than their width
 
@@ -144,6 +145,28 @@ module _ {A : Type 0} (g : A → List ℕ) (bad : List ℕ → Bool) (w : ℕ) (
         go : (b : Bool) → bad xs ≡ b → cond b (take w xs) (g (f xs)) ≡ take w xs
         go true e = refl
         go false e = kept xs o (omega arith) e
+
+    -- entries of the layout, written as they were read, are the bytes that they were read from: all from the first on, and a part
+    table-same : (n : ℕ) (xs : List ℕ) → Octets xs → w * n ≤ length xs → anyOf bad w n xs ≡ false → tableBytes g (tableOf f w n xs) ≡ take (w * n) xs
+    unfolding tableBytes tableOf anyOf
+    table-same zero xs o h e = let none : w * 0 ≡ 0 = omega arith in ap (λ (m : ℕ). take m xs) (sym none)
+    table-same (suc n) xs o h e =
+        let whole : w * suc n ≡ w + w * n = omega arith in
+        let clear = neither (bad xs) (anyOf bad w n (drop w xs)) e in
+        join w (w * n) xs (kept xs o (omega arith) (clear .0))
+        (table-same n (drop w xs) (octets-drop w xs o) (omega (arith, length-drop w xs)) (clear .1))
+        ∙ ap (λ (m : ℕ). take m xs) (sym whole)
+
+    pub part-same :
+        (off from to n : ℕ) (xs : List ℕ) → Octets xs → to ≤ n → off + w * to ≤ length xs → anyOf bad w to (drop off xs) ≡ false
+        → slice (off + w * from) (off + w * to) xs ≡ tableBytes g (slice from to (tableOf f w n (drop off xs)))
+    part-same off from to n xs o few h e =
+        sym (drop-drop (w * from) off (take (off + w * to) xs))
+        ∙ ap (drop (w * from))
+        (sym (slice-take off (w * to) xs (omega arith))
+        ∙ sym (table-same to (drop off xs) (octets-drop off xs o) (omega (arith, length-drop off xs)) e))
+        ∙ sym (bytes-drop g w long from (tableOf f w to (drop off xs)))
+        ∙ ap (λ (l : List A). tableBytes g (drop from l)) (table-take f w to n (drop off xs) few)
 
   -- a table over one that stands over a third
   module _ (good : (a : A) (ys : List ℕ) → bad (g a ++ ys) ≡ false) (local : (xs : List ℕ) → bad (take w xs) ≡ bad xs) where

@@ -1,11 +1,13 @@
--- Runs of stores, of any list: those that follow one another, and what stands before, in and behind one.
-use mathlib.Core.Path.{_≡_, refl, _∙_, sym, ap}
+-- Runs of stores, of any list: those that follow one another, what stands before, in and behind one, and a run that moves down a part of the list
+-- itself.
+use mathlib.Core.Path.{_≡_, refl, _∙_, sym, ap, ap₂}
 use mathlib.Core.List.{List, [], _∷_, _++_}
 use Prim.Native.Nat.{ℕ, suc, _+_, _≤_}
 use native.Mathlib.Nat.{add-zero}
 use native.Mathlib.Omega.{arith}
-use lib.ListN.{length, take, drop, set, length-append}
-use lib.Seq.{sets, sets-eq, drop-at, take-set-le, drop-set-lt, drop-set-add}
+use lib.ListN.{length, getD, take, drop, set, length-append, take-append-drop}
+use lib.Seq.{slice, sets, sets-eq, drop-at, take-add, take-set-le, drop-set-lt, drop-set-add, length-slice, length-take-le}
+use Rattle.session.proofs.Laws.Lists.{slice-next, slice-past, slice-split, slice-after-set}
 
 module _ {A : Type 0} where
   -- one run behind another is one run
@@ -50,6 +52,14 @@ module _ {A : Type 0} where
       let from : length a + 0 ≡ n = omega arith in
       sets-behind a (b ++ c) 0 n new from ∙ ap (λ (l : List A). a ++ l) (sets-first b c new k)
 
+  -- what stands there already, stored again
+  pub sets-same : (n at : ℕ) (l : List A) → at ≤ length l → sets l at (take n (drop at l)) ≡ l
+  sets-same n at l h =
+      let b : List A = take n (drop at l) in
+      let parts : take at l ++ (b ++ drop n (drop at l)) ≡ l =
+      ap (λ (m : List A). take at l ++ m) (take-append-drop n (drop at l)) ∙ take-append-drop at l in
+      ap (λ (m : List A). sets m at b) (sym parts) ∙ sets-middle (take at l) b (drop n (drop at l)) b at (length-take-le at l h) refl ∙ parts
+
   pub take-sets : (n : ℕ) (l : List A) (i : ℕ) (vs : List A) → n ≤ i → take n (sets l i vs) ≡ take n l
   take-sets n l i [] h = refl
   take-sets n l i (v ∷ vs) h = take-sets n (set l i v) (suc i) vs (omega arith) ∙ take-set-le n l i v h
@@ -64,3 +74,44 @@ module _ {A : Type 0} where
       let on : n + suc k ≡ suc i = omega arith in
       drop-sets-add n (set l i v) (suc i) (suc k) vs on
       ∙ ap (λ (m : List A). sets m (suc k) vs) (ap (λ (j : ℕ). drop n (set l j v)) (sym e) ∙ drop-set-add n l k v)
+
+-- ---- a part of a list, and how it moves down in it
+
+module _ {A : Type 0} where
+  pub slice-take : (f n : ℕ) (l : List A) → f ≤ length l → take n (drop f l) ≡ slice f (f + n) l
+  slice-take f n l h = sym (ap (drop f) (take-add f n l) ∙ drop-at (take f l) (take n (drop f l)) f (length-take-le f l h))
+
+  pub slice-one : (f t : ℕ) (l : List A) (d : A) → f + 1 ≡ t → t ≤ length l → getD l f d ∷ [] ≡ slice f t l
+  slice-one f t l d e h =
+      ap (λ (rest : List A). getD l f d ∷ rest) (sym (slice-past (f + 1) t l (omega arith))) ∙ sym (slice-next f t l d (omega arith) h)
+
+  slice-after : (f t : ℕ) (l : List A) (i : ℕ) (vs : List A) → i + length vs ≤ f → f ≤ t → slice f t (sets l i vs) ≡ slice f t l
+  slice-after f t l i [] h k = refl
+  slice-after f t l i (v ∷ vs) h k = slice-after f t (set l i v) (suc i) vs (omega arith) k ∙ slice-after-set f t i l v (omega arith) (omega arith)
+
+  -- the part of `n` from `from` on moves down to `into`: where `k` are moved and `next` has `w` more, what is left to move gives the same list
+  pub moved-on :
+      (into from n k w : ℕ) (l : List A) {next : List A} → into ≤ from → k + w ≤ n → from + n ≤ length l
+      → next ≡ sets l (into + k) (slice (from + k) (from + (k + w)) l)
+      → sets next (into + (k + w)) (slice (from + (k + w)) (from + n) next) ≡ sets l (into + k) (slice (from + k) (from + n) l)
+  moved-on into from n k w l h few fits e =
+      let part : List A = slice (from + k) (from + (k + w)) l in
+      let left : List A = slice (from + (k + w)) (from + n) l in
+      let many : length part ≡ w = length-slice (from + k) (from + (k + w)) l (omega arith) ∙ omega arith in
+      let on : into + (k + w) ≡ into + k + length part = omega (arith, many) in
+      ap (λ (m : List A). sets m (into + (k + w)) (slice (from + (k + w)) (from + n) m)) e
+      ∙ ap (sets (sets l (into + k) part) (into + (k + w)))
+      (slice-after (from + (k + w)) (from + n) l (into + k) part (omega (arith, many)) (omega arith))
+      ∙ ap (λ (i : ℕ). sets (sets l (into + k) part) i left) on
+      ∙ sets-append part l (into + k) left
+      ∙ ap (sets l (into + k)) (sym (slice-split (from + k) (from + (k + w)) (from + n) l (omega arith) (omega arith) fits))
+
+  -- at the end nothing is left to move; at the beginning all was
+  pub moved-all :
+      (into from n k : ℕ) (l first : List A) → n ≤ k
+      → sets l (into + k) (slice (from + k) (from + n) l) ≡ sets first (into + 0) (slice (from + 0) (from + n) first)
+      → l ≡ sets first into (slice from (from + n) first)
+  moved-all into from n k l first h e =
+      sym (ap (sets l (into + k)) (slice-past (from + k) (from + n) l (omega arith)))
+      ∙ e
+      ∙ ap₂ (λ (i f : ℕ). sets first i (slice f (from + n) first)) (add-zero into) (add-zero from)

@@ -1,13 +1,13 @@
 -- Tables of entries: one turn and the end of a walk that reads, tests or writes them.
-use mathlib.Core.Path.{_≡_, refl, _∙_, sym, ap, ap₂}
+use mathlib.Core.Path.{_≡_, refl, _∙_, sym, ap, ap₂, subst}
 use mathlib.Core.Bool.{Bool, true, false, _||_}
 use mathlib.Core.List.{List, [], _∷_, _++_, append-assoc}
 use Prim.Native.Nat.{ℕ, zero, suc, _+_, _-_, _*_, _≤_, _<_}
 use native.Mathlib.Nat.{zero-add, suc-add, zero-mul, suc-mul}
 use native.Mathlib.Numerals.{add-one}
 use native.Mathlib.Omega.{arith}
-use lib.ListN.{length, getD, drop, length-append, drop-of-length-le}
-use lib.Seq.{sets, drop-drop, drop-cons, drop-at}
+use lib.ListN.{length, getD, set, take, drop, length-append, drop-of-length-le}
+use lib.Seq.{slice, sets, drop-drop, drop-nil, drop-cons, drop-at, drop-append-add}
 use Rattle.words.proofs.Laws.Tests.{neither}
 use Rattle.port.specs.Layout.{tableBytes, tableOf, anyOf}
 use Rattle.port.proofs.Laws.Runs.{sets-append}
@@ -19,6 +19,13 @@ module _ {A : Type 0} (f : List ℕ → A) (w : ℕ) where
   unfolding tableOf
   length-table zero xs = refl
   length-table (suc n) xs = ap suc (length-table n (drop w xs))
+
+  -- fewer entries are those that more begin with
+  pub table-take : (m n : ℕ) (xs : List ℕ) → m ≤ n → tableOf f w m xs ≡ take m (tableOf f w n xs)
+  unfolding tableOf
+  table-take zero n xs h = refl
+  table-take (suc m) zero xs h = absurd (omega arith)
+  table-take (suc m) (suc n) xs h = ap (λ (l : List A). f xs ∷ l) (table-take m n (drop w xs) (omega arith))
 
 -- ---- testing
 
@@ -35,47 +42,6 @@ module _ (bad : List ℕ → Bool) (w : ℕ) where
       ap (λ (x : Bool). x || anyOf bad w (n - (i + 1)) (drop (at + w) xs)) e
       ∙ sym (any-next (n - (i + 1)) at xs)
       ∙ ap (λ (k : ℕ). anyOf bad w k (drop at xs)) left
-
-  -- some entries and those behind them
-  any-split :
-      (m n at : ℕ) (xs : List ℕ)
-      → anyOf bad w (m + n) (drop at xs) ≡ (anyOf bad w m (drop at xs) || anyOf bad w n (drop (at + m * w) xs))
-  unfolding anyOf
-  any-split zero n at xs =
-      let none : at ≡ at + 0 * w = omega (arith, zero-mul w) in
-      ap (λ (k : ℕ). anyOf bad w k (drop at xs)) (zero-add n) ∙ ap (λ (k : ℕ). anyOf bad w n (drop k xs)) none
-  any-split (suc m) n at xs =
-      let further : at + w + m * w ≡ at + suc m * w = omega (arith, suc-mul m w) in
-      ap (λ (k : ℕ). anyOf bad w k (drop at xs)) (suc-add m n)
-      ∙ any-next (m + n) at xs
-      ∙ ap (λ (x : Bool). bad (drop at xs) || x) (any-split m n (at + w) xs)
-      ∙ sym (or-assoc (bad (drop at xs)) (anyOf bad w m (drop (at + w) xs)) (anyOf bad w n (drop (at + w + m * w) xs)))
-      ∙ ap₂ (λ (x y : Bool). x || y) (sym (any-next m at xs)) (ap (λ (k : ℕ). anyOf bad w n (drop k xs)) further)
-    where
-      or-assoc : (x y z : Bool) → ((x || y) || z) ≡ (x || (y || z))
-      or-assoc true y z = refl
-      or-assoc false y z = refl
-
-  pub any-one : (at : ℕ) (xs : List ℕ) {b : Bool} → b ≡ bad (drop at xs) → b ≡ anyOf bad w 1 (drop at xs)
-  unfolding anyOf
-  any-one at xs e = e ∙ sym (or-false (bad (drop at xs)))
-    where
-      or-false : (x : Bool) → (x || false) ≡ x
-      or-false true = refl
-      or-false false = refl
-
-  -- two runs of entries, the second behind the first
-  pub any-both :
-      (m n at next : ℕ) (xs : List ℕ) {b c : Bool} → next ≡ at + m * w → b ≡ anyOf bad w m (drop at xs) → c ≡ anyOf bad w n (drop next xs)
-      → (b || c) ≡ anyOf bad w (m + n) (drop at xs)
-  any-both m n at next xs e p q =
-      ap₂ (λ (x y : Bool). x || y) p (q ∙ ap (λ (k : ℕ). anyOf bad w n (drop k xs)) e) ∙ sym (any-split m n at xs)
-
-  -- a run of entries and those still to be looked at behind it
-  pub any-group :
-      (k more left at next : ℕ) (xs : List ℕ) {b : Bool} → left ≡ k + more → next ≡ at + k * w → b ≡ anyOf bad w k (drop at xs)
-      → (b || anyOf bad w more (drop next xs)) ≡ anyOf bad w left (drop at xs)
-  any-group k more left at next xs e f p = any-both k more at next xs f p refl ∙ ap (λ (m : ℕ). anyOf bad w m (drop at xs)) (sym e)
 
   -- before the walk all are still to be looked at
   pub any-first : (n : ℕ) (xs : List ℕ) → anyOf bad w (n - 0) xs ≡ anyOf bad w n xs
@@ -115,6 +81,28 @@ module _ (bad : List ℕ → Bool) (w : ℕ) where
       ∙ ap bad (sym (drop-drop (w * i) w xs))
       ∙ any-clear n i (drop w xs) (omega arith) (neither (bad xs) (anyOf bad w n (drop w xs)) e .1)
 
+-- a test of an entry's bytes and one of the entry, both made of each in turn
+module _ {A : Type 0} (f : List ℕ → A) (w : ℕ) (bad : List ℕ → Bool) (test : A → Bool) (any : List A → Bool)
+    (none : any [] ≡ false) (next : (a : A) (l : List A) → any (a ∷ l) ≡ (test a || any l)) where
+  pub any-either :
+      (n m : ℕ) (xs : List ℕ) → n ≤ m
+      → anyOf (λ (ys : List ℕ). bad ys || test (f ys)) w n xs ≡ (anyOf bad w n xs || any (slice 0 n (tableOf f w m xs)))
+  unfolding anyOf tableOf
+  any-either zero m xs h = sym none
+  any-either (suc n) zero xs h = absurd (omega arith)
+  any-either (suc n) (suc m) xs h =
+      let rest : Bool = anyOf bad w n (drop w xs) in
+      let l : List A = slice 0 n (tableOf f w m (drop w xs)) in
+      ap (λ (x : Bool). (bad xs || test (f xs)) || x) (any-either n m (drop w xs) (omega arith))
+      ∙ swap (bad xs) (test (f xs)) rest (any l)
+      ∙ ap (λ (x : Bool). (bad xs || rest) || x) (sym (next (f xs) l))
+    where
+      swap : (a b c d : Bool) → ((a || b) || (c || d)) ≡ ((a || c) || (b || d))
+      swap true b c d = refl
+      swap false true true d = refl
+      swap false true false d = refl
+      swap false false c d = refl
+
 -- ---- writing
 
 module _ {A : Type 0} (f : A → List ℕ) (w : ℕ) where
@@ -138,6 +126,34 @@ module _ {A : Type 0} (f : A → List ℕ) (w : ℕ) where
   unfolding tableBytes
   length-bytes [] k = omega arith
   length-bytes (a ∷ l) k = length-append (f a) (tableBytes f l) ∙ omega (arith, k a, length-bytes l k)
+
+-- the entries of a table from `i` on begin behind the bytes of those before
+pub bytes-drop :
+    {A : Type 0} (g : A → List ℕ) (w : ℕ) → ((a : A) → length (g a) ≡ w) → (i : ℕ) (l : List A) → tableBytes g (drop i l) ≡ drop (w * i) (tableBytes g l)
+unfolding tableBytes
+bytes-drop g w long zero l = let none : 0 ≡ w * 0 = omega arith in ap (λ (n : ℕ). drop n (tableBytes g l)) none
+bytes-drop g w long (suc i) [] = sym (drop-nil (w * suc i))
+bytes-drop g w long (suc i) (a ∷ l) =
+    let on : length (g a) + w * i ≡ w * suc i = omega (arith, long a) in
+    bytes-drop g w long i l ∙ sym (drop-append-add (g a) (tableBytes g l) (w * i)) ∙ ap (λ (n : ℕ). drop n (g a ++ tableBytes g l)) on
+
+-- entries written one behind the other, by what one does to the bytes and to the table that they hold
+module _ {A : Type 0} (g : A → List ℕ) (w off limit : ℕ) (long : (a : A) → length (g a) ≡ w) (table : List ℕ → List A) (Holds : List ℕ → Type 0)
+    (turn : (now next : List ℕ) (i : ℕ) (a : A) → i < limit → Holds now → next ≡ sets now (off + w * i) (g a)
+    → (table next ≡ set (table now) i a) × Holds next) where
+  pub run-stored :
+      (l : List A) (i : ℕ) {now next : List ℕ} → i + length l ≤ limit → Holds now → next ≡ sets now (off + w * i) (tableBytes g l)
+      → (table next ≡ sets (table now) i l) × Holds next
+  unfolding tableBytes
+  run-stored [] i h k e = (ap table e, subst Holds (sym e) k)
+  run-stored (a ∷ l) i {now} h k e =
+      let first : List ℕ = sets now (off + w * i) (g a) in
+      let one = turn now first i a (omega arith) k refl in
+      let on : off + w * i + length (g a) ≡ off + w * suc i = omega (arith, long a) in
+      let rest =
+      run-stored l (suc i) (omega arith) (one .1)
+      (e ∙ sym (sets-append (g a) now (off + w * i) (tableBytes g l)) ∙ ap (λ (n : ℕ). sets first n (tableBytes g l)) on) in
+      (rest .0 ∙ ap (λ (t : List A). sets t (suc i) l) (one .0), rest .1)
 
 -- ---- a table that was written is read back
 

@@ -8,8 +8,8 @@ use Rattle.port.proofs.Laws.Calls.{reply-refused, reply-done}
 use Rattle.port.proofs.calls.dwc2_iso_cancel.Statement.{statement}
 use Rattle.port.proofs.calls.dwc2_iso_cancel.Tie as tie
 
-layout-refusal-requires : tie.Need-layout-refusal-requires
-layout-refusal-requires c κs = search needs
+verdict-at-requires : tie.Need-verdict-at-requires
+verdict-at-requires c κs = search needs
 
 reply-refused-requires : tie.Need-reply-refused-requires
 reply-refused-requires c κs = search needs
@@ -19,29 +19,31 @@ same-length c = search needs
 
 returns : tie.Need-returns
 returns c =
-    reply-refused (c .before .before .before .before .before .args .session .now)
-    (λ (s : IsoChannelState). cancelled s (c .before .before .before .before .before .args .id)) (c .before .before .layout-refusal .ensures)
+    reply-refused (c .before .before .before .before .before .before .args .session .now)
+    (λ (s : IsoChannelState). cancelled s (c .before .before .before .before .before .before .args .id)) (c .before .before .before .verdict-at .ensures .refusal)
     (c .before .if1 .taken) (c .reply-refused .ensures)
 
 cancel-at-requires : tie.Need-cancel-at-requires
-cancel-at-requires c κs = sym (c .before .before .layout-refusal .ensures) ∙ c .before .if1 .left
+cancel-at-requires c κs =
+    let passed = sym (c .before .before .before .verdict-at .ensures .refusal) ∙ c .before .if1 .left in
+    (passed, c .before .before .before .verdict-at .ensures .bad passed)
 
 same-length-2 : tie.Need-same-length-2
 same-length-2 c = search needs
 
 returns-2 : tie.Need-returns-2
 returns-2 c =
-    let xs = c .before .before .before .before .before .before .before .before .args .session .now in
-    reply-done xs (λ (s : IsoChannelState). cancelled s (c .before .before .before .before .before .before .before .before .args .id)) {s = sessionOf xs}
-    {r = cancelled (sessionOf xs) (c .before .before .before .before .before .before .before .before .args .id)}
-    (c .before .before .before .before .before .layout-refusal .ensures) (c .before .before .before .before .if1 .left) refl refl
+    let xs = c .before .before .before .before .before .before .before .before .before .args .session .now in
+    reply-done xs (λ (s : IsoChannelState). cancelled s (c .before .before .before .before .before .before .before .before .before .args .id)) {s = sessionOf xs}
+    {r = cancelled (sessionOf xs) (c .before .before .before .before .before .before .before .before .before .args .id)}
+    (c .before .before .before .before .before .before .verdict-at .ensures .refusal) (c .before .before .before .before .if1 .left) refl refl
     (c .before .before .cancel-at .ensures .0) (c .before .before .cancel-at .ensures .1 .bytes)
 
 pub dwc2-iso-cancel-spec : {M : Type 1} → statement M
 dwc2-iso-cancel-spec =
     tie.close
     (tie.spec
-    layout-refusal-requires
+    verdict-at-requires
     reply-refused-requires
     same-length
     returns

@@ -7,8 +7,8 @@ use Rattle.port.proofs.Laws.Reclaiming.{Promised, refused-by-bytes, don
 use Rattle.port.proofs.calls.dwc2_iso_reclaim.Statement.{statement}
 use Rattle.port.proofs.calls.dwc2_iso_reclaim.Tie as tie
 
-layout-refusal-requires : tie.Need-layout-refusal-requires
-layout-refusal-requires c κs = search needs
+verdict-at-requires : tie.Need-verdict-at-requires
+verdict-at-requires c κs = search needs
 
 reclaim-refused-requires : tie.Need-reclaim-refused-requires
 reclaim-refused-requires c κs = search needs
@@ -18,16 +18,18 @@ same-length c = search needs
 
 returns : tie.Need-returns
 returns c =
-    let a = c .before .before .before .before .before .before .before .args in
+    let a = c .before .before .before .before .before .before .before .before .args in
     refused-by-bytes (a .session .now) (a .ring .now) (a .results .now) (a .id) (eventOf (a .reported) (a .unplugged) (a .hcint))
-    (c .before .before .layout-refusal .ensures) (c .before .if1 .taken)
+    (c .before .before .before .verdict-at .ensures .refusal) (c .before .if1 .taken)
     (c .reclaim-refused .ensures)
 
 event-of-requires : tie.Need-event-of-requires
 event-of-requires c κs = search needs
 
 reclaim-at-requires : tie.Need-reclaim-at-requires
-reclaim-at-requires c κs = sym (c .before .before .before .before .before .layout-refusal .ensures) ∙ c .before .before .before .before .if1 .left
+reclaim-at-requires c κs =
+    let passed = sym (c .before .before .before .before .before .before .verdict-at .ensures .refusal) ∙ c .before .before .before .before .if1 .left in
+    (passed, c .before .before .before .before .before .before .verdict-at .ensures .bad passed)
 
 same-length-2 : tie.Need-same-length-2
 same-length-2 c = search needs
@@ -40,15 +42,15 @@ same-length-4 c = search needs
 
 returns-2 : tie.Need-returns-2
 returns-2 c =
-    let a = c .before .before .before .before .before .before .before .before .before .before .before .before .before .before .before .before .before .args in
+    let a = c .before .before .before .before .before .before .before .before .before .before .before .before .before .before .before .before .before .before .args in
     let last = c .before .before .before .before .before .before .reclaim-at .last in
     subst (λ (e : IsoEvent).
     Promised (a .session .now) (a .ring .now) (a .results .now) (a .id) e (c .before .before .before .before .before .before .reclaim-at .result) (last .0)
-    (last .1 .1 .1 .0) (last .1 .1 .1 .1 .0))
+    (last .1 .1 .1 .1 .0) (last .1 .1 .1 .1 .1 .0))
     (c .before .before .before .before .before .before .before .before .before .before .event-of .ensures)
     (done-by-bytes (a .session .now) (a .ring .now) (a .results .now) (a .id)
     (c .before .before .before .before .before .before .before .before .before .before .event-of .result)
-    (c .before .before .before .before .before .before .before .before .before .before .before .before .layout-refusal .ensures)
+    (c .before .before .before .before .before .before .before .before .before .before .before .before .before .verdict-at .ensures .refusal)
     (c .before .before .before .before .before .before .before .before .before .before .before .if1 .left)
     (c .before .before .before .before .before .before .reclaim-at .ensures))
 
@@ -56,7 +58,7 @@ pub dwc2-iso-reclaim-spec : {M : Type 1} → statement M
 dwc2-iso-reclaim-spec =
     tie.close
     (tie.spec
-    layout-refusal-requires
+    verdict-at-requires
     reclaim-refused-requires
     same-length
     returns

@@ -7,8 +7,8 @@ use Rattle.port.proofs.Laws.Calls.{reply-refused, reply-done}
 use Rattle.port.proofs.calls.dwc2_iso_reset.Statement.{statement}
 use Rattle.port.proofs.calls.dwc2_iso_reset.Tie as tie
 
-layout-refusal-requires : tie.Need-layout-refusal-requires
-layout-refusal-requires c κs = search needs
+verdict-at-requires : tie.Need-verdict-at-requires
+verdict-at-requires c κs = search needs
 
 reply-refused-requires : tie.Need-reply-refused-requires
 reply-refused-requires c κs = search needs
@@ -18,26 +18,28 @@ same-length c = search needs
 
 returns : tie.Need-returns
 returns c =
-    reply-refused (c .before .before .before .before .before .args .session .now) resetReply (c .before .before .layout-refusal .ensures)
+    reply-refused (c .before .before .before .before .before .before .args .session .now) resetReply (c .before .before .before .verdict-at .ensures .refusal)
     (c .before .if1 .taken) (c .reply-refused .ensures)
 
 reset-at-requires : tie.Need-reset-at-requires
-reset-at-requires c κs = sym (c .before .before .layout-refusal .ensures) ∙ c .before .if1 .left
+reset-at-requires c κs =
+    let passed = sym (c .before .before .before .verdict-at .ensures .refusal) ∙ c .before .if1 .left in
+    (passed, c .before .before .before .verdict-at .ensures .bad passed)
 
 same-length-2 : tie.Need-same-length-2
 same-length-2 c = search needs
 
 returns-2 : tie.Need-returns-2
 returns-2 c =
-    let xs = c .before .before .before .before .before .before .before .before .args .session .now in
-    reply-done xs resetReply {s = sessionOf xs} {r = resetReply (sessionOf xs)} (c .before .before .before .before .before .layout-refusal .ensures)
+    let xs = c .before .before .before .before .before .before .before .before .before .args .session .now in
+    reply-done xs resetReply {s = sessionOf xs} {r = resetReply (sessionOf xs)} (c .before .before .before .before .before .before .verdict-at .ensures .refusal)
     (c .before .before .before .before .if1 .left) refl refl (c .before .before .reset-at .ensures .0) (c .before .before .reset-at .ensures .1 .bytes)
 
 pub dwc2-iso-reset-spec : {M : Type 1} → statement M
 dwc2-iso-reset-spec =
     tie.close
     (tie.spec
-    layout-refusal-requires
+    verdict-at-requires
     reply-refused-requires
     same-length
     returns

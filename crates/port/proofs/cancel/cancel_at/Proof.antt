@@ -29,36 +29,36 @@ use Rattle.port.proofs.cancel.cancel_at.Tie as tie
 octets : (c : tie.After-slice-known) → Octets (c .before .args .bytes .now)
 octets c i = omega (arith, c .slice-known .given i)
 
-fine : (c : tie.Else1) → isBadRecord (sessionOf (c .before .before .before .before .args .bytes .now)) ≡ false
-fine c = sym (c .before .is-bad-at .ensures) ∙ c .if1 .left
+fine : (c : tie.Else1) → isBadRecord (sessionOf (c .before .before .args .bytes .now)) ≡ false
+fine c = sym (c .before .before .pre .1) ∙ c .if1 .left
 
-good : (c : tie.Else1) → Sound (sessionOf (c .before .before .before .before .args .bytes .now))
+good : (c : tie.Else1) → Sound (sessionOf (c .before .before .args .bytes .now))
 good c =
-    sound (sessionOf (c .before .before .before .before .args .bytes .now)) (requests-many (c .before .before .before .before .args .bytes .now))
-    (plans-many (c .before .before .before .before .args .bytes .now)) (fine c)
+    sound (sessionOf (c .before .before .args .bytes .now)) (requests-many (c .before .before .args .bytes .now))
+    (plans-many (c .before .before .args .bytes .now)) (fine c)
 
-head-is : (c : tie.After-head-at) → c .head-at .result ≡ sessionOf (c .before .before .before .before .before .before .args .bytes .now) .head
-head-is c = c .head-at .ensures ∙ head-there (c .before .before .before .before .before .before .args .bytes .now)
+head-is : (c : tie.After-head-at) → c .head-at .result ≡ sessionOf (c .before .before .before .before .args .bytes .now) .head
+head-is c = c .head-at .ensures ∙ head-there (c .before .before .before .before .args .bytes .now)
 
 place-is :
     (c : tie.After-place-at)
     → c .place-at .result
-    ≡ requestAt (c .before .before .before .before .before .before .before .before .args .id)
-    (sessionOf (c .before .before .before .before .before .before .before .before .args .bytes .now))
+    ≡ requestAt (c .before .before .before .before .before .before .args .id)
+    (sessionOf (c .before .before .before .before .before .before .args .bytes .now))
 place-is c =
-    let s = sessionOf (c .before .before .before .before .before .before .before .before .args .bytes .now) in
+    let s = sessionOf (c .before .before .before .before .before .before .args .bytes .now) in
     c .place-at .ensures
-    ∙ ap (λ (h : IsoHead). placeOf (c .before .before .before .before .before .before .before .before .args .id) (slice 0 (h .count) (s .requests)))
+    ∙ ap (λ (h : IsoHead). placeOf (c .before .before .before .before .before .before .args .id) (slice 0 (h .count) (s .requests)))
     (head-is (c .before .before))
 
 -- the place of a completed request
 in-use :
     (c : tie.Then2)
     → c .before .before .place-at .result
-    < requestsIn (sessionOf (c .before .before .before .before .before .before .before .before .before .before .args .bytes .now))
+    < requestsIn (sessionOf (c .before .before .before .before .before .before .before .before .args .bytes .now))
 in-use c =
     let g = good (c .before .before .before .before .before .before) in
-    let s = sessionOf (c .before .before .before .before .before .before .before .before .before .before .args .bytes .now) in
+    let s = sessionOf (c .before .before .before .before .before .before .before .before .args .bytes .now) in
     let done : c .before .before .before .before .head-at .result .done ≡ s .head .done =
     ap (λ (h : IsoHead). h .done) (head-is (c .before .before .before .before)) in
     subst⁻¹ (λ (n : ℕ). c .before .before .place-at .result < n) (requests-in s (g .count-in)) (omega (arith, done, c .if2 .taken, g .done-in))
@@ -66,13 +66,13 @@ in-use c =
 below : (c : tie.Then2) → c .before .before .place-at .result < 64
 below c =
     lt-of-lt-of-le (in-use c)
-    (min-le-right (sessionOf (c .before .before .before .before .before .before .before .before .before .before .args .bytes .now) .head .count) 64)
+    (min-le-right (sessionOf (c .before .before .before .before .before .before .before .before .args .bytes .now) .head .count) 64)
 
 not-done :
     (c : tie.Else2)
-    → ltb (requestAt (c .before .before .before .before .before .before .before .before .before .before .args .id)
-    (sessionOf (c .before .before .before .before .before .before .before .before .before .before .args .bytes .now)))
-    (sessionOf (c .before .before .before .before .before .before .before .before .before .before .args .bytes .now) .head .done)
+    → ltb (requestAt (c .before .before .before .before .before .before .before .before .args .id)
+    (sessionOf (c .before .before .before .before .before .before .before .before .args .bytes .now)))
+    (sessionOf (c .before .before .before .before .before .before .before .before .args .bytes .now) .head .done)
     ≡ false
 not-done c =
     sym (ap₂ (λ (n : ℕ) (h : IsoHead). ltb n (h .done)) (place-is (c .before .before)) (head-is (c .before .before .before .before)))
@@ -80,9 +80,9 @@ not-done c =
 
 known :
     (c : tie.Else3)
-    → ltb (requestAt (c .before .before .before .before .before .before .before .before .before .before .before .before .args .id)
-    (sessionOf (c .before .before .before .before .before .before .before .before .before .before .before .before .args .bytes .now)))
-    (sessionOf (c .before .before .before .before .before .before .before .before .before .before .before .before .args .bytes .now) .head .count)
+    → ltb (requestAt (c .before .before .before .before .before .before .before .before .before .before .args .id)
+    (sessionOf (c .before .before .before .before .before .before .before .before .before .before .args .bytes .now)))
+    (sessionOf (c .before .before .before .before .before .before .before .before .before .before .args .bytes .now) .head .count)
     ≡ true
 known c =
     sym (ap₂ (λ (n : ℕ) (h : IsoHead). ltb n (h .count)) (place-is (c .before .before .before .before))
@@ -93,37 +93,31 @@ reason-is :
     (c : tie.After-has-reason)
     → c .has-reason .result
     ≡ hasReason (sessionOf
-    (c .before .before .before .before .before .before .before .before .before .before .before .before .before .before .before .args .bytes .now) .fatal)
+    (c .before .before .before .before .before .before .before .before .before .before .before .before .before .args .bytes .now) .fatal)
 reason-is c =
     c .has-reason .ensures
     ∙ ap hasReason (c .before .reason-at .ensures
     ∙ reason-there
-    (c .before .before .before .before .before .before .before .before .before .before .before .before .before .before .before .args .bytes .now))
-
-is-bad-at-requires : tie.Need-is-bad-at-requires
-is-bad-at-requires c κs = long-enough (c .before .before .args .bytes .now) refl (c .before .before .pre)
+    (c .before .before .before .before .before .before .before .before .before .before .before .before .before .args .bytes .now))
 
 reply-refused-requires : tie.Need-reply-refused-requires
 reply-refused-requires c κs = search needs
 
-same-length : tie.Need-same-length
-same-length c = search needs
-
 returns : tie.Need-returns
 returns c =
-    let s = sessionOf (c .before .before .before .before .before .args .bytes .now) in
-    stays (c .before .before .before .before .before .args .bytes .now) (octets (c .before .before .before .before))
-    (c .before .before .before .before .before .pre) (cancelled s (c .before .before .before .before .before .args .id))
-    (cancel-bad s (c .before .before .before .before .before .args .id) (sym (c .before .before .is-bad-at .ensures) ∙ c .before .if1 .taken)) refl
+    let s = sessionOf (c .before .before .before .args .bytes .now) in
+    stays (c .before .before .before .args .bytes .now) (octets (c .before .before))
+    (c .before .before .before .pre .0) (cancelled s (c .before .before .before .args .id))
+    (cancel-bad s (c .before .before .before .args .id) (sym (c .before .before .before .pre .1) ∙ c .before .if1 .taken)) refl
     (c .reply-refused .ensures)
 
 head-at-requires : tie.Need-head-at-requires
-head-at-requires c κs = long-enough (c .before .before .before .before .before .args .bytes .now) refl (c .before .before .before .before .before .pre)
+head-at-requires c κs = long-enough (c .before .before .before .args .bytes .now) refl (c .before .before .before .pre .0)
 
 place-at-requires : tie.Need-place-at-requires
 place-at-requires c κs = (
-  long-enough (c .before .before .before .before .before .before .before .args .bytes .now) refl
-      (c .before .before .before .before .before .before .before .pre),
+  long-enough (c .before .before .before .before .before .args .bytes .now) refl
+      (c .before .before .before .before .before .pre .0),
   subst⁻¹ (λ (h : IsoHead). h .count ≤ 64) (head-is (c .before)) (good (c .before .before .before) .count-in),
 )
 
@@ -138,23 +132,23 @@ add-put-outcome c = search needs
 
 put-outcome-requires : tie.Need-put-outcome-requires
 put-outcome-requires c κs =
-    let enough : 8488 ≤ length (c .before .before .before .before .before .before .before .before .before .before .before .args .bytes .now) =
-    long-enough (c .before .before .before .before .before .before .before .before .before .before .before .args .bytes .now) refl
-    (c .before .before .before .before .before .before .before .before .before .before .before .pre) in
+    let enough : 8488 ≤ length (c .before .before .before .before .before .before .before .before .before .args .bytes .now) =
+    long-enough (c .before .before .before .before .before .before .before .before .before .args .bytes .now) refl
+    (c .before .before .before .before .before .before .before .before .before .pre .0) in
     omega (arith, below (c .before))
 
 reply-port-requires : tie.Need-reply-port-requires
 reply-port-requires c κs = search needs
 
-same-length-2 : tie.Need-same-length-2
-same-length-2 c = search needs
+same-length : tie.Need-same-length
+same-length c = search needs
 
 returns-2 : tie.Need-returns-2
 returns-2 c =
-    let xs = c .before .before .before .before .before .before .before .before .before .before .before .before .before .before .before .args .bytes .now in
+    let xs = c .before .before .before .before .before .before .before .before .before .before .before .before .before .args .bytes .now in
     let s = sessionOf xs in
     let done : ltb
-    (requestAt (c .before .before .before .before .before .before .before .before .before .before .before .before .before .before .before .args .id) s)
+    (requestAt (c .before .before .before .before .before .before .before .before .before .before .before .before .before .args .id) s)
     (s .head .done)
     ≡ true =
     sym (ap₂ (λ (n : ℕ) (h : IsoHead). ltb n (h .done)) (place-is (c .before .before .before .before .before .before .before))
@@ -163,12 +157,12 @@ returns-2 c =
     (c .before .before .before .before .before .before .before .before .before .head-at .result .done)
     (c .before .before .before .before .before .if2 .taken) in
     becomes xs
-    (cancelled s (c .before .before .before .before .before .before .before .before .before .before .before .before .before .before .before .args .id))
-    (cancel-completed s (c .before .before .before .before .before .before .before .before .before .before .before .before .before .before .before .args .id)
+    (cancelled s (c .before .before .before .before .before .before .before .before .before .before .before .before .before .args .id))
+    (cancel-completed s (c .before .before .before .before .before .before .before .before .before .before .before .before .before .args .id)
     (fine (c .before .before .before .before .before .before .before .before .before .before .before)) done) (c .reply-port .ensures)
     (left-is
-    (outcome-here xs (octets (c .before .before .before .before .before .before .before .before .before .before .before .before .before .before))
-    (c .before .before .before .before .before .before .before .before .before .before .before .before .before .before .before .pre)
+    (outcome-here xs (octets (c .before .before .before .before .before .before .before .before .before .before .before .before))
+    (c .before .before .before .before .before .before .before .before .before .before .before .before .before .pre .0)
     (c .before .before .before .before .before .before .before .place-at .result) outcome.Cancelled (in-use (c .before .before .before .before .before))
     (below (c .before .before .before .before .before)) (c .before .before .before .put-outcome .ensures))
     (ap (λ (n : ℕ). withCancelled n s) (place-is (c .before .before .before .before .before .before .before))))
@@ -176,31 +170,31 @@ returns-2 c =
 reply-refused-requires-2 : tie.Need-reply-refused-requires-2
 reply-refused-requires-2 c κs = search needs
 
-same-length-3 : tie.Need-same-length-3
-same-length-3 c = search needs
+same-length-2 : tie.Need-same-length-2
+same-length-2 c = search needs
 
 returns-3 : tie.Need-returns-3
 returns-3 c =
-    let s = sessionOf (c .before .before .before .before .before .before .before .before .before .before .before .before .before .args .bytes .now) in
-    let unknown : ltb (requestAt (c .before .before .before .before .before .before .before .before .before .before .before .before .before .args .id) s)
+    let s = sessionOf (c .before .before .before .before .before .before .before .before .before .before .before .args .bytes .now) in
+    let unknown : ltb (requestAt (c .before .before .before .before .before .before .before .before .before .before .before .args .id) s)
     (s .head .count)
     ≡ false =
     sym (ap₂ (λ (n : ℕ) (h : IsoHead). ltb n (h .count)) (place-is (c .before .before .before .before .before))
     (head-is (c .before .before .before .before .before .before .before)))
     ∙ le-ltb (c .before .before .before .before .before .place-at .result) (c .before .before .before .before .before .before .before .head-at .result .count)
     (c .before .if3 .taken) in
-    stays (c .before .before .before .before .before .before .before .before .before .before .before .before .before .args .bytes .now)
-    (octets (c .before .before .before .before .before .before .before .before .before .before .before .before))
-    (c .before .before .before .before .before .before .before .before .before .before .before .before .before .pre)
-    (cancelled s (c .before .before .before .before .before .before .before .before .before .before .before .before .before .args .id))
-    (cancel-unknown s (c .before .before .before .before .before .before .before .before .before .before .before .before .before .args .id)
+    stays (c .before .before .before .before .before .before .before .before .before .before .before .args .bytes .now)
+    (octets (c .before .before .before .before .before .before .before .before .before .before))
+    (c .before .before .before .before .before .before .before .before .before .before .before .pre .0)
+    (cancelled s (c .before .before .before .before .before .before .before .before .before .before .before .args .id))
+    (cancel-unknown s (c .before .before .before .before .before .before .before .before .before .before .before .args .id)
     (fine (c .before .before .before .before .before .before .before .before .before)) (not-done (c .before .before .before)) unknown) refl
     (c .reply-refused2 .ensures)
 
 reason-at-requires : tie.Need-reason-at-requires
 reason-at-requires c κs =
-    long-enough (c .before .before .before .before .before .before .before .before .before .before .before .before .before .args .bytes .now) refl
-    (c .before .before .before .before .before .before .before .before .before .before .before .before .before .pre)
+    long-enough (c .before .before .before .before .before .before .before .before .before .before .before .args .bytes .now) refl
+    (c .before .before .before .before .before .before .before .before .before .before .before .pre .0)
 
 has-reason-requires : tie.Need-has-reason-requires
 has-reason-requires c κs = search needs
@@ -208,47 +202,47 @@ has-reason-requires c κs = search needs
 reply-port-requires-2 : tie.Need-reply-port-requires-2
 reply-port-requires-2 c κs = search needs
 
-same-length-4 : tie.Need-same-length-4
-same-length-4 c = search needs
+same-length-3 : tie.Need-same-length-3
+same-length-3 c = search needs
 
 returns-4 : tie.Need-returns-4
 returns-4 c =
     let s =
     sessionOf
-    (c .before .before .before .before .before .before .before .before .before .before .before .before .before .before .before .before .before .args .bytes .now) in
+    (c .before .before .before .before .before .before .before .before .before .before .before .before .before .before .before .args .bytes .now) in
     stays
-    (c .before .before .before .before .before .before .before .before .before .before .before .before .before .before .before .before .before .args .bytes .now)
-    (octets (c .before .before .before .before .before .before .before .before .before .before .before .before .before .before .before .before))
-    (c .before .before .before .before .before .before .before .before .before .before .before .before .before .before .before .before .before .pre)
+    (c .before .before .before .before .before .before .before .before .before .before .before .before .before .before .before .args .bytes .now)
+    (octets (c .before .before .before .before .before .before .before .before .before .before .before .before .before .before))
+    (c .before .before .before .before .before .before .before .before .before .before .before .before .before .before .before .pre .0)
     (cancelled s
-    (c .before .before .before .before .before .before .before .before .before .before .before .before .before .before .before .before .before .args .id))
+    (c .before .before .before .before .before .before .before .before .before .before .before .before .before .before .before .args .id))
     (cancel-again s
-    (c .before .before .before .before .before .before .before .before .before .before .before .before .before .before .before .before .before .args .id)
+    (c .before .before .before .before .before .before .before .before .before .before .before .before .before .before .before .args .id)
     (fine (c .before .before .before .before .before .before .before .before .before .before .before .before .before))
     (not-done (c .before .before .before .before .before .before .before)) (known (c .before .before .before .before .before))
     (sym (reason-is (c .before .before)) ∙ c .before .if4 .taken)) refl (c .reply-port2 .ensures)
 
 halt-at-requires : tie.Need-halt-at-requires
 halt-at-requires c κs =
-    c .before .before .before .before .before .before .before .before .before .before .before .before .before .before .before .before .before .pre
+    c .before .before .before .before .before .before .before .before .before .before .before .before .before .before .before .pre .0
 
 reply-port-requires-3 : tie.Need-reply-port-requires-3
 reply-port-requires-3 c κs = search needs
 
-same-length-5 : tie.Need-same-length-5
-same-length-5 c = search needs
+same-length-4 : tie.Need-same-length-4
+same-length-4 c = search needs
 
 returns-5 : tie.Need-returns-5
 returns-5 c =
     let s =
     sessionOf
-    (c .before .before .before .before .before .before .before .before .before .before .before .before .before .before .before .before .before .before .before .before .before .args .bytes .now) in
+    (c .before .before .before .before .before .before .before .before .before .before .before .before .before .before .before .before .before .before .before .args .bytes .now) in
     becomes
-    (c .before .before .before .before .before .before .before .before .before .before .before .before .before .before .before .before .before .before .before .before .before .args .bytes .now)
+    (c .before .before .before .before .before .before .before .before .before .before .before .before .before .before .before .before .before .before .before .args .bytes .now)
     (cancelled s
-    (c .before .before .before .before .before .before .before .before .before .before .before .before .before .before .before .before .before .before .before .before .before .args .id))
+    (c .before .before .before .before .before .before .before .before .before .before .before .before .before .before .before .before .before .before .before .args .id))
     (cancel-halt s
-    (c .before .before .before .before .before .before .before .before .before .before .before .before .before .before .before .before .before .before .before .before .before .args .id)
+    (c .before .before .before .before .before .before .before .before .before .before .before .before .before .before .before .before .before .before .before .args .id)
     (fine (c .before .before .before .before .before .before .before .before .before .before .before .before .before .before .before .before .before))
     (not-done (c .before .before .before .before .before .before .before .before .before .before .before))
     (known (c .before .before .before .before .before .before .before .before .before))
@@ -259,9 +253,7 @@ pub cancel-at-spec : {M : Type 1} → statement M
 cancel-at-spec =
     tie.close
     (tie.spec
-    is-bad-at-requires
     reply-refused-requires
-    same-length
     returns
     head-at-requires
     place-at-requires
@@ -270,17 +262,17 @@ cancel-at-spec =
     add-put-outcome
     put-outcome-requires
     reply-port-requires
-    same-length-2
+    same-length
     returns-2
     reply-refused-requires-2
-    same-length-3
+    same-length-2
     returns-3
     reason-at-requires
     has-reason-requires
     reply-port-requires-2
-    same-length-4
+    same-length-3
     returns-4
     halt-at-requires
     reply-port-requires-3
-    same-length-5
+    same-length-4
     returns-5)

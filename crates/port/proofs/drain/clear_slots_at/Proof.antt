@@ -1,8 +1,8 @@
 -- The invariant: the slots still to be cleared, cleared on the ring as it is now, give the goal. The measure is how many plans are left.
 use mathlib.Core.Path.{_≡_, refl, _∙_, ap}
-use Prim.Native.Nat.{ℕ, _+_, _-_, _*_}
+use Prim.Native.Nat.{ℕ, _+_, _-_, _*_, _≤_, _<_}
 use native.Mathlib.Omega.{arith}
-use lib.ListN.{length, set}
+use lib.ListN.{length, set, length-set}
 use lib.Seq.{slice}
 use borrow.Author.Needs.{needs}
 use Rattle.session.specs.Settle.{slotsCleared}
@@ -14,19 +14,43 @@ use Rattle.port.proofs.drain.clear_slots_at.Tie as tie
 
 abbrev Inv-loop : tie.InvT-loop
 Inv-loop bytes from to ring₀ i₀ ring i =
-    (length ring ≡ length ring₀) × (slotsCleared (slice i to (plansOf bytes)) ring ≡ slotsCleared (slice from to (plansOf bytes)) ring₀)
+    (from ≤ i) × (length ring ≡ length ring₀)
+    × (slotsCleared (slice i to (plansOf bytes)) ring ≡ slotsCleared (slice from to (plansOf bytes)) ring₀)
 
 abbrev μ-loop : tie.MeasureT-loop
 μ-loop bytes from to ring₀ i₀ ring i = to - i
 
 loop-holds : tie.Need-loop-holds Inv-loop μ-loop
-loop-holds c = (refl, refl)
+loop-holds c = (omega arith, refl, refl)
 
 slot-at-requires : tie.Need-slot-at-requires Inv-loop μ-loop
 slot-at-requires c κs = omega arith
 
-clear-slot-requires : tie.Need-clear-slot-requires Inv-loop μ-loop
-clear-slot-requires c κs = search needs
+cast-at : tie.Need-cast-at Inv-loop μ-loop
+cast-at c = search needs
+
+-- the words that become zero
+in-ring : (c : tie.After-slot-at Inv-loop μ-loop) → 2 * c .slot-at .result + 1 < length (c .before .before .loop .ring)
+in-ring c =
+    let now = c .before .before .loop in omega (arith, c .slot-at .ensures, c .before .before .before .before .before .pre .2 (now .i) (now .inv .0) (omega arith), now .inv .1)
+
+mul-at : tie.Need-mul-at Inv-loop μ-loop
+mul-at c = omega (arith, in-ring c)
+
+mul-ring : tie.Need-mul-ring Inv-loop μ-loop
+mul-ring c = omega (arith, in-ring c)
+
+slice-write-ring : tie.Need-slice-write-ring Inv-loop μ-loop
+slice-write-ring c = omega (arith, in-ring c)
+
+add-ring : tie.Need-add-ring Inv-loop μ-loop
+add-ring c = omega (arith, in-ring c)
+
+mul-ring-2 : tie.Need-mul-ring-2 Inv-loop μ-loop
+mul-ring-2 c = omega (arith, in-ring c)
+
+slice-write-ring-2 : tie.Need-slice-write-ring-2 Inv-loop μ-loop
+slice-write-ring-2 c = omega (arith, in-ring c, length-set (c .before .before .loop .ring) (2 * c .slot-at .result) 0)
 
 add-i : tie.Need-add-i Inv-loop μ-loop
 add-i c = omega arith
@@ -36,22 +60,23 @@ loop-less c = omega arith
 
 loop-again : tie.Need-loop-again Inv-loop μ-loop
 loop-again c =
-    let a = c .before .before .before .before .before .before .before .before .before .args in
-    let now = c .before .before .before .before .before .before .loop in
+    let a = c .before .before .before .before .before .args in
+    let now = c .before .before .loop in
     let plans = plansOf (a .bytes .now) in
-    let zero-at =
-    c .before .before .clear-slot .ensures ∙ ap (λ (n : ℕ). set (set (now .ring) (2 * n) 0) (2 * n + 1) 0) (c .before .before .before .slot-at .ensures) in (
-      c .before .before .clear-slot .kept .0 ∙ now .inv .0,
-      cleared-next (now .i) (a .to) plans (now .ring) _ (omega arith) (omega (arith, plans-many (a .bytes .now))) zero-at ∙ now .inv .1,
+    let at = 2 * c .slot-at .result in
+    let zero-at = ap (λ (n : ℕ). set (set (now .ring) (2 * n) 0) (2 * n + 1) 0) (c .slot-at .ensures) in (
+      omega arith,
+      length-set (set (now .ring) at 0) (at + 1) 0 ∙ length-set (now .ring) at 0 ∙ now .inv .1,
+      cleared-next (now .i) (a .to) plans (now .ring) _ (omega arith) (omega (arith, plans-many (a .bytes .now))) zero-at ∙ now .inv .2,
     )
 
 same-length : tie.Need-same-length Inv-loop μ-loop
-same-length c = c .before .loop .inv .0
+same-length c = c .before .loop .inv .1
 
 returns : tie.Need-returns Inv-loop μ-loop
 returns c =
     let a = c .before .before .before .before .args in
-    cleared-past (c .before .loop .i) (a .to) (plansOf (a .bytes .now)) (c .before .loop .ring) (omega arith) ∙ c .before .loop .inv .1
+    cleared-past (c .before .loop .i) (a .to) (plansOf (a .bytes .now)) (c .before .loop .ring) (omega arith) ∙ c .before .loop .inv .2
 
 pub clear-slots-at-spec : {M : Type 1} → statement M
 clear-slots-at-spec =
@@ -61,7 +86,13 @@ clear-slots-at-spec =
     μ-loop
     loop-holds
     slot-at-requires
-    clear-slot-requires
+    cast-at
+    mul-at
+    mul-ring
+    slice-write-ring
+    add-ring
+    mul-ring-2
+    slice-write-ring-2
     add-i
     loop-less
     loop-again

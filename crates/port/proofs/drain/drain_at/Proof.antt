@@ -1,5 +1,5 @@
--- The invariant: the bytes are of the layout and hold, in the place of those at the beginning, a good record whose plans pending begin at `from`, and
--- draining it from here gives the goal. The measure is how many requests are pending.
+-- The invariant: the bytes are of the layout and hold, in the place of those at the beginning, a good record whose plans pending begin at `from` and
+-- whose words the ring has, and draining it from here gives the goal. The measure is how many requests are pending.
 use mathlib.Core.Path.{_≡_, refl, _∙_, sym, ap, subst⁻¹}
 use mathlib.Core.Bool.{Bool, true, false, not, _||_}
 use Prim.Native.Nat.{ℕ, _+_, _-_, _*_, _≤_, _<_}
@@ -10,7 +10,7 @@ use borrow.Author.Tests.{not-true, not-false}
 use Rattle.words.specs.Words.{isSet, active}
 use Rattle.session.specs.declared.types.IsoHead.{IsoHead}
 use Rattle.session.specs.declared.types.IsoChannelState.{IsoChannelState}
-use Rattle.session.specs.Session.{blankPlan, packetsOf}
+use Rattle.session.specs.Session.{blankPlan, packetsOf, ringWords}
 use Rattle.session.specs.Settle.{oldestFrom, oldestTo, isServed, settledSession, Drained, drained}
 use Rattle.session.proofs.Laws.Record.{Sound, sound, not-bad}
 use Rattle.session.proofs.Laws.Settled.{oldest-in, oldest-some, settled-sound, drained-past, drained-stop, drained-next}
@@ -29,7 +29,7 @@ abbrev Inv-loop : tie.InvT-loop
 Inv-loop bytes₀ bit ring₀ count done₀ from₀ at-once₀ bytes ring done from at-once =
     Sound (sessionOf bytes) × (layoutNumber bytes ≡ 0) × (length bytes ≡ length bytes₀) × (length ring ≡ length ring₀) × (done ≡ sessionOf bytes .head .done)
     × (count ≡ sessionOf bytes .head .count) × (from ≡ oldestFrom (sessionOf bytes)) × (Left bytes₀ bytes (sessionOf bytes))
-    × (drained at-once (sessionOf bytes) ring ≡ drained bit (sessionOf bytes₀) ring₀)
+    × (drained at-once (sessionOf bytes) ring ≡ drained bit (sessionOf bytes₀) ring₀) × (ringWords (sessionOf bytes .cfg) ≤ length ring)
 
 abbrev μ-loop : tie.MeasureT-loop
 μ-loop bytes₀ bit ring₀ count done₀ from₀ at-once₀ bytes ring done from at-once = count - done
@@ -95,6 +95,7 @@ loop-holds c =
       loaded-left xs (c .before .before .before .before .before .before .pre .0)
           (λ i. omega (arith, c .before .before .before .before .before .slice-known .given i)),
       refl,
+      c .before .before .before .before .before .before .pre .2,
     )
 
 cast-packets-at : tie.Need-cast-packets-at Inv-loop μ-loop
@@ -147,6 +148,7 @@ settle-at-requires c κs =
       pending (c .before .before .before .before .before .before .before .before),
       now .inv .6,
       to-is (c .before .before .before .before .before .before),
+      now .inv .9,
     )
 
 add-done : tie.Need-add-done Inv-loop μ-loop
@@ -192,6 +194,7 @@ loop-again c =
           ∙ ap (drained false t) (after .ensures .1)
           ∙ sym (drained-next (now .at-once) s (now .ring) more go)
           ∙ now .inv .8,
+      omega (arith, now .inv .9, ap (λ (u : IsoChannelState). ringWords (u .cfg)) holds, after .kept .1 .1 .1 .0),
     )
 
 same-length-3 : tie.Need-same-length-3 Inv-loop μ-loop

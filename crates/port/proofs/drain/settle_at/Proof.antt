@@ -12,7 +12,7 @@ use Rattle.port.specs.Tags.{directionOf}
 use Rattle.port.specs.Layout.{sessionOf}
 use Rattle.port.proofs.Laws.Calls.{long-enough}
 use Rattle.port.proofs.Laws.Walks.{direction-there, plans-in}
-use Rattle.port.proofs.Laws.Settling.{ring-settled, bytes-settled}
+use Rattle.port.proofs.Laws.Settling.{slots-in, slots-left, ring-settled, bytes-settled}
 use Rattle.port.proofs.Laws.Placed.{head-there, requests-many, plans-many}
 use Rattle.port.proofs.drain.settle_at.Statement.{statement}
 use Rattle.port.proofs.drain.settle_at.Tie as tie
@@ -34,6 +34,13 @@ in-use : (c : tie.After-head-at) → c .head-at .result .done < 64
 in-use c =
     omega (arith, ap (λ (h : IsoHead). h .done) (head-is c), c .before .before .before .before .pre .2, good (c .before .before .before .before) .count-in)
 
+direction-is :
+    (c : tie.After-direction-of) → c .direction-of .result ≡ sessionOf (c .before .before .before .before .before .before .before .args .bytes .now) .cfg .direction
+direction-is c =
+    c .direction-of .ensures
+    ∙ ap directionOf (c .before .byte-at .ensures)
+    ∙ direction-there (c .before .before .before .before .before .before .before .args .bytes .now)
+
 head-at-requires : tie.Need-head-at-requires
 head-at-requires c κs = long (c .before .before .before)
 
@@ -44,35 +51,28 @@ direction-of-requires : tie.Need-direction-of-requires
 direction-of-requires c κs = search needs
 
 settle-plans-at-requires : tie.Need-settle-plans-at-requires
-settle-plans-at-requires c κs = (
-  c .before .before .before .before .before .before .before .before .before .pre .0,
-  omega (
-    arith,
-    c .before .before .before .before .before .before .before .before .before .pre .3,
-    c .before .before .before .before .before .before .before .before .before .pre .4,
-  ),
-  omega (
-    arith,
-    ends (c .before .before .before .before .before .before .before .before .before),
-    plans-in (sessionOf (c .before .before .before .before .before .before .before .before .before .args .bytes .now))
-        (good (c .before .before .before .before .before .before .before .before .before) .count-in)
-        (good (c .before .before .before .before .before .before .before .before .before) .all-few),
-  ),
-)
+settle-plans-at-requires c κs =
+    let start = (c .before .before .before .before .before .before .before .before .before) in
+    let a = start .args in
+    let s = sessionOf (a .bytes .now) in
+    let g = good start in (
+      start .pre .0,
+      omega (arith, start .pre .3, start .pre .4),
+      omega (arith, ends start, plans-in s (g .count-in) (g .all-few)),
+      slots-in s (a .ring .now) (a .from) (a .to) g (ends start) (start .pre .5),
+    )
 
 clear-slots-at-requires : tie.Need-clear-slots-at-requires
-clear-slots-at-requires c κs = (
-  omega (
-    arith,
-    long (c .before .before .before .before .before .before .before .before .before .before .before .before .before .before),
-    c .before .before .before .before .settle-plans-at .kept .0,
-  ),
-  omega (
-    arith,
-    ends (c .before .before .before .before .before .before .before .before .before .before .before .before .before .before),
-    good (c .before .before .before .before .before .before .before .before .before .before .before .before .before .before) .all-few,
-  ),
-)
+clear-slots-at-requires c κs =
+    let start = (c .before .before .before .before .before .before .before .before .before .before .before .before .before .before) in
+    let a = start .args in
+    let way = (c .before .before .before .before .before .before .before) in
+    let plans = c .before .before .before .before .settle-plans-at in (
+      omega (arith, long start, plans .kept .0),
+      omega (arith, ends start, good start .all-few),
+      slots-left (a .bytes .now) (a .ring .now) (a .from) (a .to) (way .direction-of .result) (start .pre .0) (good start) (start .pre .2) (start .pre .3)
+          (start .pre .4) (direction-is way) (plans .ensures .1) (a .ring .now) (start .pre .5),
+    )
 
 cast-place : tie.Need-cast-place
 cast-place c = search needs
@@ -126,39 +126,25 @@ same-length-2 c = search needs
 
 returns : tie.Need-returns
 returns c =
-    let a =
-    c .before .before .before .before .before .before .before .before .before .before .before .before .before .before .before .before .before .before .before .before .before .before .before .before .before .before .before .before .before .args in
+    let start =
+    (c .before .before .before .before .before .before .before .before .before .before .before .before .before .before .before .before .before .before .before .before .before .before .before .before .before .before .before .before .before) in
+    let a = start .args in
     let xs = a .bytes .now in
-    let dir =
-    c .before .before .before .before .before .before .before .before .before .before .before .before .before .before .before .before .before .before .before .before .before .before .direction-of .result in
-    let ed =
-    c .before .before .before .before .before .before .before .before .before .before .before .before .before .before .before .before .before .before .before .before .before .before .direction-of .ensures
-    ∙ ap directionOf
-    (c .before .before .before .before .before .before .before .before .before .before .before .before .before .before .before .before .before .before .before .before .before .before .before .byte-at .ensures)
-    ∙ direction-there xs in
+    let way =
+    (c .before .before .before .before .before .before .before .before .before .before .before .before .before .before .before .before .before .before .before .before .before .before) in
+    let dir = way .direction-of .result in
+    let ed = direction-is way in
     let plans =
-    c .before .before .before .before .before .before .before .before .before .before .before .before .before .before .before .before .before .before .before .settle-plans-at .ensures in (
-      bytes-settled xs (a .ring .now) (a .from) (a .to) dir
-          (c .before .before .before .before .before .before .before .before .before .before .before .before .before .before .before .before .before .before .before .before .before .before .before .before .before .before .before .before .before .pre .0)
-          (good
-          (c .before .before .before .before .before .before .before .before .before .before .before .before .before .before .before .before .before .before .before .before .before .before .before .before .before .before .before .before .before))
-          (c .before .before .before .before .before .before .before .before .before .before .before .before .before .before .before .before .before .before .before .before .before .before .before .before .before .before .before .before .before .pre .2)
-          (c .before .before .before .before .before .before .before .before .before .before .before .before .before .before .before .before .before .before .before .before .before .before .before .before .before .before .before .before .before .pre .3)
-          (c .before .before .before .before .before .before .before .before .before .before .before .before .before .before .before .before .before .before .before .before .before .before .before .before .before .before .before .before .before .pre .4)
-          ed (plans .1) (head-is
-          (c .before .before .before .before .before .before .before .before .before .before .before .before .before .before .before .before .before .before .before .before .before .before .before .before .before))
+    c .before .before .before .before .before .before .before .before .before .before .before .before .before .before .before .before .before .before .before .settle-plans-at .ensures in
+    let head =
+    head-is
+    (c .before .before .before .before .before .before .before .before .before .before .before .before .before .before .before .before .before .before .before .before .before .before .before .before .before) in (
+      bytes-settled xs (a .ring .now) (a .from) (a .to) dir (start .pre .0) (good start) (start .pre .2) (start .pre .3) (start .pre .4) ed (plans .1) head
           (plans .0)
           (c .before .before .before .before .before .before .before .before .before .request-at .ensures)
           (c .before .before .before .before .before .before .before .put-request .ensures) (c .before .before .before .one-more .ensures)
           (c .before .before .put-head .ensures),
-      ring-settled xs (a .ring .now) (a .from) (a .to) dir
-          (c .before .before .before .before .before .before .before .before .before .before .before .before .before .before .before .before .before .before .before .before .before .before .before .before .before .before .before .before .before .pre .0)
-          (good
-          (c .before .before .before .before .before .before .before .before .before .before .before .before .before .before .before .before .before .before .before .before .before .before .before .before .before .before .before .before .before))
-          (c .before .before .before .before .before .before .before .before .before .before .before .before .before .before .before .before .before .before .before .before .before .before .before .before .before .before .before .before .before .pre .2)
-          (c .before .before .before .before .before .before .before .before .before .before .before .before .before .before .before .before .before .before .before .before .before .before .before .before .before .before .before .before .before .pre .3)
-          (c .before .before .before .before .before .before .before .before .before .before .before .before .before .before .before .before .before .before .before .before .before .before .before .before .before .before .before .before .before .pre .4)
-          ed (plans .1)
+      ring-settled xs (a .ring .now) (a .from) (a .to) dir (start .pre .0) (good start) (start .pre .2) (start .pre .3) (start .pre .4) ed (plans .1)
           (c .before .before .before .before .before .before .before .before .before .before .before .before .before .before .clear-slots-at .ensures),
     )
 

@@ -33,14 +33,14 @@ loop-holds : tie.Need-loop-holds Inv-loop μ-loop
 loop-holds c =
     (omega arith, refl, omega arith, any-first isBadRequestBytes 20 (c .before .args .n) (drop 40 (c .before .args .bytes .now)), zero-add _)
 
-is-bad-outcome-at-requires : tie.Need-is-bad-outcome-at-requires Inv-loop μ-loop
-is-bad-outcome-at-requires c κs = omega arith
+is-bad-request-at-requires : tie.Need-is-bad-request-at-requires Inv-loop μ-loop
+is-bad-request-at-requires c κs = omega arith
 
 returns : tie.Need-returns Inv-loop μ-loop
 returns c =
     let a = c .before .before .before .before .before .args in
     let l = c .before .before .before .loop in
-    let found = any-found isBadRequestBytes 20 (a .n) (l .i) (l .at) (a .bytes .now) (omega arith) (c .before .is-bad-outcome-at .ensures) (c .if1 .taken) in
+    let found = any-found isBadRequestBytes 20 (a .n) (l .i) (l .at) (a .bytes .now) (omega arith) (c .before .is-bad-request-at .ensures) (c .if1 .taken) in
     (found ∙ l .inv .3, λ e. absurd (never e))
 
 add-u16-at : tie.Need-add-u16-at Inv-loop μ-loop
@@ -70,7 +70,7 @@ loop-again c =
     let l = c .before .before .before .before .loop in
     let xs = a .bytes .now in
     let rest =
-    any-more isBadRequestBytes 20 (a .n) (l .i) (l .at) xs (omega arith) (c .before .before .is-bad-outcome-at .ensures) (c .before .if1 .left) in
+    any-more isBadRequestBytes 20 (a .n) (l .i) (l .at) xs (omega arith) (c .before .before .is-bad-request-at .ensures) (c .before .if1 .left) in
     let place : l .at + 12 ≡ 52 + 20 * l .i = omega arith in
     let here : c .u16-at .result ≡ getD (requestsOf xs) (l .i) blankRequest .packets =
     c .u16-at .ensures ∙ ap (λ (k : ℕ). u16Of (drop k xs)) place ∙ packets-there xs (l .i) (omega arith) in
@@ -92,7 +92,7 @@ requests-used-spec =
     Inv-loop
     μ-loop
     loop-holds
-    is-bad-outcome-at-requires
+    is-bad-request-at-requires
     returns
     add-u16-at
     u16-at-requires

@@ -28,24 +28,21 @@ returns c =
     ∙ lt-ltb (c .before .before .before .before .args .words) (c .before .ring-words .result) (c .if1 .taken) in
     sym (ap (λ (b : Bool). cond b 17 (cond (isBadRecord s) 18 0)) short)
 
-is-bad-at-requires : tie.Need-is-bad-at-requires
-is-bad-at-requires c κs = search needs
-
 returns-2 : tie.Need-returns-2
 returns-2 c =
-    let s = sessionOf (c .before .before .before .before .before .before .args .bytes .now) in
-    let long : ltb (c .before .before .before .before .before .before .args .words) (ringWords (s .cfg)) ≡ false =
-    sym (ap (ltb (c .before .before .before .before .before .before .args .words)) (least-is (c .before .before .before)))
-    ∙ le-ltb (c .before .before .before .before .before .before .args .words) (c .before .before .before .ring-words .result) (c .before .before .if1 .left) in
-    sym (ap₂ (λ (a b : Bool). cond a 17 (cond b 18 0)) long (sym (c .before .is-bad-at .ensures) ∙ c .if2 .taken))
+    let s = sessionOf (c .before .before .before .before .before .args .bytes .now) in
+    let long : ltb (c .before .before .before .before .before .args .words) (ringWords (s .cfg)) ≡ false =
+    sym (ap (ltb (c .before .before .before .before .before .args .words)) (least-is (c .before .before)))
+    ∙ le-ltb (c .before .before .before .before .before .args .words) (c .before .before .ring-words .result) (c .before .if1 .left) in
+    sym (ap₂ (λ (a b : Bool). cond a 17 (cond b 18 0)) long (sym (c .before .before .before .before .before .pre .1) ∙ c .if2 .taken))
 
 returns-3 : tie.Need-returns-3
 returns-3 c =
-    let s = sessionOf (c .before .before .before .before .before .before .args .bytes .now) in
-    let long : ltb (c .before .before .before .before .before .before .args .words) (ringWords (s .cfg)) ≡ false =
-    sym (ap (ltb (c .before .before .before .before .before .before .args .words)) (least-is (c .before .before .before)))
-    ∙ le-ltb (c .before .before .before .before .before .before .args .words) (c .before .before .before .ring-words .result) (c .before .before .if1 .left) in
-    sym (ap₂ (λ (a b : Bool). cond a 17 (cond b 18 0)) long (sym (c .before .is-bad-at .ensures) ∙ c .if2 .left))
+    let s = sessionOf (c .before .before .before .before .before .args .bytes .now) in
+    let long : ltb (c .before .before .before .before .before .args .words) (ringWords (s .cfg)) ≡ false =
+    sym (ap (ltb (c .before .before .before .before .before .args .words)) (least-is (c .before .before)))
+    ∙ le-ltb (c .before .before .before .before .before .args .words) (c .before .before .ring-words .result) (c .before .if1 .left) in
+    sym (ap₂ (λ (a b : Bool). cond a 17 (cond b 18 0)) long (sym (c .before .before .before .before .before .pre .1) ∙ c .if2 .left))
 
 pub lent-refusal-spec : {M : Type 1} → statement M
 lent-refusal-spec =
@@ -54,6 +51,5 @@ lent-refusal-spec =
     config-at-requires
     ring-words-requires
     returns
-    is-bad-at-requires
     returns-2
     returns-3)

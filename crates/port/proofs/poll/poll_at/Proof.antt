@@ -77,6 +77,7 @@ drain-at-requires : tie.Need-drain-at-requires
 drain-at-requires c κs = (
   c .before .before .before .before .before .before .before .before .before .before .before .before .pre .0,
   c .before .before .before .before .before .before .before .before .before .before .before .before .pre .1,
+  c .before .before .before .before .before .before .before .before .before .before .before .before .pre .2,
 )
 
 said-requires-5 : tie.Need-said-requires-5

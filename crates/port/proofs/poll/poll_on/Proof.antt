@@ -19,7 +19,7 @@ octets : (c : tie.After-slice-known) → Octets (c .before .args .bytes .now)
 octets c i = omega (arith, c .slice-known .given i)
 
 lent-refusal-requires : tie.Need-lent-refusal-requires
-lent-refusal-requires c κs = long-enough (c .before .before .before .args .bytes .now) refl (c .before .before .before .pre)
+lent-refusal-requires c κs = (long-enough (c .before .before .before .args .bytes .now) refl (c .before .before .before .pre .0), c .before .before .before .pre .1)
 
 reply-refused-requires : tie.Need-reply-refused-requires
 reply-refused-requires c κs = search needs
@@ -34,7 +34,7 @@ returns c =
     let way = pollWay s (c .before .before .before .before .before .before .args .event) in
     let both =
     stays (c .before .before .before .before .before .before .args .bytes .now) (octets (c .before .before .before .before .before))
-    (c .before .before .before .before .before .before .pre) (polled s (c .before .before .before .before .before .before .args .event) ring)
+    (c .before .before .before .before .before .before .pre .0) (polled s (c .before .before .before .before .before .before .args .event) ring)
     (lent-refused s (length ring) (c .before .before .lent-refusal .ensures) (λ (n : ℕ). refusedReply n s) (polledBy way s ring) (c .before .if1 .taken)) refl
     (c .reply-refused .ensures) in (
       both .0,
@@ -47,7 +47,7 @@ poll-at-requires c κs =
     let s = sessionOf (c .before .before .before .before .before .before .before .args .bytes .now) in
     let ring = c .before .before .before .before .before .before .before .args .ring .now in
     let passed = lent-passed s (length ring) (c .before .before .before .lent-refusal .ensures) (c .before .before .if1 .left) in
-    (c .before .before .before .before .before .before .before .pre, passed .1, ltb-false (length ring) (ringWords (s .cfg)) (passed .0))
+    (c .before .before .before .before .before .before .before .pre .0, passed .1, ltb-false (length ring) (ringWords (s .cfg)) (passed .0))
 
 reply-port-requires : tie.Need-reply-port-requires
 reply-port-requires c κs = search needs

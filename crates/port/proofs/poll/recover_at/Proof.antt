@@ -28,7 +28,7 @@ abbrev done-by : IsoChannelState → IsoReply
 done-by s = reply answer.Done false false (ended Disconnected s)
 
 lent-refusal-requires : tie.Need-lent-refusal-requires
-lent-refusal-requires c κs = long-enough (c .before .before .before .args .bytes .now) refl (c .before .before .before .pre)
+lent-refusal-requires c κs = (long-enough (c .before .before .before .args .bytes .now) refl (c .before .before .before .pre .0), c .before .before .before .pre .1)
 
 reply-refused-requires : tie.Need-reply-refused-requires
 reply-refused-requires c κs = search needs
@@ -42,7 +42,7 @@ returns c =
     let ring = c .before .before .before .before .before .before .args .ring .now in
     let both =
     stays (c .before .before .before .before .before .before .args .bytes .now) (octets (c .before .before .before .before .before))
-    (c .before .before .before .before .before .before .pre) (recovered s (length ring))
+    (c .before .before .before .before .before .before .pre .0) (recovered s (length ring))
     (lent-refused s (length ring) (c .before .before .lent-refusal .ensures) (λ (n : ℕ). refusedReply n s) (done-by s) (c .before .if1 .taken)) refl
     (c .reply-refused .ensures) in (
       both .0,
@@ -55,7 +55,7 @@ end-at-requires c κs =
     let s = sessionOf (c .before .before .before .before .before .before .before .args .bytes .now) in
     let ring = c .before .before .before .before .before .before .before .args .ring .now in
     let passed = lent-passed s (length ring) (c .before .before .before .lent-refusal .ensures) (c .before .before .if1 .left) in
-    (c .before .before .before .before .before .before .before .pre, passed .1, ltb-false (length ring) (ringWords (s .cfg)) (passed .0))
+    (c .before .before .before .before .before .before .before .pre .0, passed .1, ltb-false (length ring) (ringWords (s .cfg)) (passed .0))
 
 reply-port-requires : tie.Need-reply-port-requires
 reply-port-requires c κs = search needs

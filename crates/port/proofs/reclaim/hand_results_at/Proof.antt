@@ -4,7 +4,7 @@ use mathlib.Core.Bool.{Bool, cond}
 use mathlib.Core.List.{_∷_, map}
 use Prim.Native.Nat.{ℕ, _+_, _-_, _≤_}
 use native.Mathlib.Omega.{arith}
-use lib.ListN.{length, length-set}
+use lib.ListN.{length, set, length-set}
 use lib.Seq.{slice, sets}
 use borrow.Author.Needs.{needs}
 use borrow.Author.Tests.{not-true, not-false}
@@ -17,12 +17,12 @@ use Rattle.port.proofs.reclaim.hand_results_at.Statement.{statement}
 use Rattle.port.proofs.reclaim.hand_results_at.Tie as tie
 
 abbrev Inv-loop : tie.InvT-loop
-Inv-loop bytes done from to results₀ at₀ i₀ results at i =
-    (i ≤ to) × (i ≡ from + at) × (length results ≡ length results₀)
-    × (sets results at (map resultWord (slice i to (plansOf bytes))) ≡ sets results₀ 0 (map resultWord (slice from to (plansOf bytes))))
+Inv-loop bytes done from to results₀ n at₀ results at =
+    (from + n ≡ to) × (at ≤ n) × (length results ≡ length results₀)
+    × (sets results at (map resultWord (slice (from + at) to (plansOf bytes))) ≡ sets results₀ 0 (map resultWord (slice from to (plansOf bytes))))
 
 abbrev μ-loop : tie.MeasureT-loop
-μ-loop bytes done from to results₀ at₀ i₀ results at i = to - i
+μ-loop bytes done from to results₀ n at₀ results at = n - at
 
 returns : tie.Need-returns Inv-loop μ-loop
 returns c =
@@ -31,14 +31,24 @@ returns c =
     sym (ap (λ (b : Bool). cond b (sets results 0 (map resultWord (slice (a .from) (a .to) (plansOf (a .bytes .now))))) results)
     (not-true (a .done) (c .if1 .taken)))
 
+sub-n : tie.Need-sub-n Inv-loop μ-loop
+sub-n c = omega arith
+
 loop-holds : tie.Need-loop-holds Inv-loop μ-loop
-loop-holds c = (omega arith, omega arith, refl, refl)
+loop-holds c =
+    let a = c .before .before .before .args in
+    let plans = plansOf (a .bytes .now) in
+    let first : a .from + 0 ≡ a .from = omega arith in
+    (omega arith, omega arith, refl, ap (λ (k : ℕ). sets (a .results .now) 0 (map resultWord (slice k (a .to) plans))) first)
+
+add-plan-at : tie.Need-add-plan-at Inv-loop μ-loop
+add-plan-at c = omega arith
 
 mul-plan-at : tie.Need-mul-plan-at Inv-loop μ-loop
 mul-plan-at c = omega arith
 
-add-plan-at : tie.Need-add-plan-at Inv-loop μ-loop
-add-plan-at c = omega arith
+add-plan-at-2 : tie.Need-add-plan-at-2 Inv-loop μ-loop
+add-plan-at-2 c = omega arith
 
 plan-at-requires : tie.Need-plan-at-requires Inv-loop μ-loop
 plan-at-requires c κs = omega arith
@@ -55,9 +65,6 @@ slice-write-results c = omega arith
 add-at : tie.Need-add-at Inv-loop μ-loop
 add-at c = omega arith
 
-add-i : tie.Need-add-i Inv-loop μ-loop
-add-i c = omega arith
-
 loop-less : tie.Need-loop-less Inv-loop μ-loop
 loop-less c = omega arith
 
@@ -66,12 +73,16 @@ loop-again c =
     let a = c .before .before .before .before .before .before .before .args in
     let now = c .before .before .before .loop in
     let xs = a .bytes .now in
-    let word = c .result-word .ensures ∙ ap resultWord (c .before .plan-at .ensures ∙ plan-there xs (now .i) blankPlan (omega arith)) in (
+    let i = a .from + now .at in
+    let v = c .result-word .result in
+    let word = c .result-word .ensures ∙ ap resultWord (c .before .plan-at .ensures ∙ plan-there xs i blankPlan (omega arith)) in
+    let on : a .from + (now .at + 1) ≡ i + 1 = omega arith in (
+      now .inv .0,
       omega arith,
-      omega arith,
-      length-set (now .results) (now .at) (c .result-word .result) ∙ now .inv .2,
-      write-next (map resultWord) (now .at) (now .i) (a .to) (plansOf xs) blankPlan (now .results) (c .result-word .result) (omega arith)
-          (omega (arith, plans-many xs)) (λ rest. ap (λ (x : ℕ). x ∷ map resultWord rest) (sym word))
+      length-set (now .results) (now .at) v ∙ now .inv .2,
+      ap (λ (k : ℕ). sets (set (now .results) (now .at) v) (now .at + 1) (map resultWord (slice k (a .to) (plansOf xs)))) on
+          ∙ write-next (map resultWord) (now .at) i (a .to) (plansOf xs) blankPlan (now .results) v (omega arith) (omega (arith, plans-many xs))
+          (λ rest. ap (λ (x : ℕ). x ∷ map resultWord rest) (sym word))
           ∙ now .inv .3,
     )
 
@@ -84,7 +95,7 @@ returns-2 c =
     let now = c .before .loop in
     let results = a .results .now in
     let plans = plansOf (a .bytes .now) in
-    sym (write-past (map resultWord) (now .at) (now .i) (a .to) plans (now .results) refl (omega arith))
+    sym (write-past (map resultWord) (now .at) (a .from + now .at) (a .to) plans (now .results) refl (omega arith))
     ∙ now .inv .3
     ∙ sym
     (ap (λ (b : Bool). cond b (sets results 0 (map resultWord (slice (a .from) (a .to) plans))) results) (not-false (a .done) (c .before .before .if1 .left)))
@@ -96,15 +107,16 @@ hand-results-at-spec =
     Inv-loop
     μ-loop
     returns
+    sub-n
     loop-holds
-    mul-plan-at
     add-plan-at
+    mul-plan-at
+    add-plan-at-2
     plan-at-requires
     result-word-requires
     mul-results
     slice-write-results
     add-at
-    add-i
     loop-less
     loop-again
     same-length

@@ -23,14 +23,14 @@ use Rattle.port.proofs.reclaim.reclaim_at.Statement.{statement}
 use Rattle.port.proofs.reclaim.reclaim_at.Tie as tie
 
 long : (c : tie.Start) → 8488 ≤ length (c .args .bytes .now)
-long c = long-enough (c .args .bytes .now) refl (c .pre)
+long c = long-enough (c .args .bytes .now) refl (c .pre .0)
 
 good : (c : tie.Start) → isBadRecord (sessionOf (c .args .bytes .now)) ≡ false → Sound (sessionOf (c .args .bytes .now))
 good c e = let xs = c .args .bytes .now in sound (sessionOf xs) (requests-many xs) (plans-many xs) e
 
 -- bytes that nothing is stored into
 same : (c : tie.After-slice-known) → Left (c .before .args .bytes .now) (c .before .args .bytes .now) (sessionOf (c .before .args .bytes .now))
-same c = loaded-left (c .before .args .bytes .now) (c .before .pre) (λ i. omega (arith, c .slice-known .given i))
+same c = loaded-left (c .before .args .bytes .now) (c .before .pre .0) (λ i. omega (arith, c .slice-known .given i))
 
 -- the test of 17, by the words that the code counted
 test-short :
@@ -72,9 +72,6 @@ returns c =
     refused-in-place (a .bytes .now) (a .ring .now) (a .results .now) (a .id) (a .event) (same (c .before .before .before .before .before .before .before))
     (c .reclaim-refused .ensures) told
 
-is-bad-at-requires : tie.Need-is-bad-at-requires
-is-bad-at-requires c κs = long (c .before .before .before .before .before .before .before .before)
-
 reclaim-refused-requires-2 : tie.Need-reclaim-refused-requires-2
 reclaim-refused-requires-2 c κs = search needs
 
@@ -83,41 +80,39 @@ same-length-2 c = search needs
 
 returns-2 : tie.Need-returns-2
 returns-2 c =
-    let a = c .before .before .before .before .before .before .before .before .before .before .before .args in
-    let bad = sym (c .before .before .is-bad-at .ensures) ∙ c .before .if2 .taken in
+    let a = c .before .before .before .before .before .before .before .before .before .args in
+    let bad = sym (c .before .before .before .before .before .before .before .before .before .pre .1) ∙ c .before .if2 .taken in
     let told =
     reclaim-bad (sessionOf (a .bytes .now)) (a .id) (a .event) (a .ring .now) (a .results .now)
-    (test-short (c .before .before .before .before .before) (c .before .before .before .before .if1 .left)) bad refl in
+    (test-short (c .before .before .before) (c .before .before .if1 .left)) bad refl in
     refused-in-place (a .bytes .now) (a .ring .now) (a .results .now) (a .id) (a .event)
-    (same (c .before .before .before .before .before .before .before .before .before .before)) (c .reclaim-refused2 .ensures) told
+    (same (c .before .before .before .before .before .before .before .before)) (c .reclaim-refused2 .ensures) told
 
 look-at-requires : tie.Need-look-at-requires
 look-at-requires c κs =
-    let a = c .before .before .before .before .before .before .before .before .before .before .before .before .args in
+    let a = c .before .before .before .before .before .before .before .before .before .before .args in
     let s = sessionOf (a .bytes .now) in
     let enough =
     neither (ltb (length (a .ring .now)) (ringWords (s .cfg))) (ltb (length (a .results .now)) 255)
-    (test-short (c .before .before .before .before .before .before) (c .before .before .before .before .before .if1 .left)) in (
-      c .before .before .before .before .before .before .before .before .before .before .before .before .pre,
-      sym (c .before .before .before .is-bad-at .ensures) ∙ c .before .before .if2 .left,
+    (test-short (c .before .before .before .before) (c .before .before .before .if1 .left)) in (
+      c .before .before .before .before .before .before .before .before .before .before .pre .0,
+      sym (c .before .before .before .before .before .before .before .before .before .before .pre .1) ∙ c .before .before .if2 .left,
       ltb-false (length (a .ring .now)) (ringWords (s .cfg)) (enough .0),
     )
 
 look-again-at-requires : tie.Need-look-again-at-requires
 look-again-at-requires c κs =
-    let start =
-    c .before .before .before .before .before .before .before .before .before .before .before .before .before .before .before .before .before .before .before in
+    let start = (c .before .before .before .before .before .before .before .before .before .before .before .before .before .before .before .before .before) in
     let a = start .args in
     let xs = a .bytes .now in
     let enough =
     neither (ltb (length (a .ring .now)) (ringWords (sessionOf xs .cfg))) (ltb (length (a .results .now)) 255)
-    (test-short (c .before .before .before .before .before .before .before .before .before .before .before .before .before)
-    (c .before .before .before .before .before .before .before .before .before .before .before .before .if1 .left)) in
-    let checked = c .before .before .before .before .before .before .before .before .before .before .is-bad-at in
-    let g = good start (sym (checked .ensures) ∙ c .before .before .before .before .before .before .before .before .before .if2 .left) in
+    (test-short (c .before .before .before .before .before .before .before .before .before .before .before)
+    (c .before .before .before .before .before .before .before .before .before .before .if1 .left)) in
+    let g = good start (sym (start .pre .1) ∙ c .before .before .before .before .before .before .before .before .before .if2 .left) in
     let act = c .before .before .before .before .before .before .look-at .ensures .0 in (
-      looked-layout xs (a .ring .now) (a .results .now) (a .id) (a .event) (start .pre) g act,
-      looked-good xs (a .ring .now) (a .results .now) (a .id) (a .event) (start .pre) g act,
+      looked-layout xs (a .ring .now) (a .results .now) (a .id) (a .event) (start .pre .0) g act,
+      looked-good xs (a .ring .now) (a .results .now) (a .id) (a .event) (start .pre .0) g act,
       ltb-false (length (a .results .now)) 255 (enough .1),
     )
 
@@ -135,19 +130,16 @@ same-length-5 c = search needs
 
 returns-3 : tie.Need-returns-3
 returns-3 c =
-    let start =
-    c .before .before .before .before .before .before .before .before .before .before .before .before .before .before .before .before .before .before .before .before .before .before .before .before .before in
+    let start = (c .before .before .before .before .before .before .before .before .before .before .before .before .before .before .before .before .before .before .before .before .before .before .before) in
     let a = start .args in
-    let checked = c .before .before .before .before .before .before .before .before .before .before .before .before .before .before .before .before .is-bad-at in
     let fine =
-    sym (checked .ensures)
+    sym (start .pre .1)
     ∙ c .before .before .before .before .before .before .before .before .before .before .before .before .before .before .before .if2 .left in
     let look = c .before .before .before .before .before .before .before .before .before .before .before .before .look-at .ensures in
     let again = c .before .before .before .before .before .look-again-at .ensures in
-    done-in-place (a .bytes .now) (a .ring .now) (a .results .now) (a .id) (a .event) (start .pre) (good start fine) (look .0)
-    (test-short
-    (c .before .before .before .before .before .before .before .before .before .before .before .before .before .before .before .before .before .before .before)
-    (c .before .before .before .before .before .before .before .before .before .before .before .before .before .before .before .before .before .before .if1 .left))
+    done-in-place (a .bytes .now) (a .ring .now) (a .results .now) (a .id) (a .event) (start .pre .0) (good start fine) (look .0)
+    (test-short (c .before .before .before .before .before .before .before .before .before .before .before .before .before .before .before .before .before)
+    (c .before .before .before .before .before .before .before .before .before .before .before .before .before .before .before .before .if1 .left))
     fine (look .1) (again .0) (again .1) (again .2) (c .reclaim-port .ensures)
 
 pub reclaim-at-spec : {M : Type 1} → statement M
@@ -159,7 +151,6 @@ reclaim-at-spec =
     reclaim-refused-requires
     same-length
     returns
-    is-bad-at-requires
     reclaim-refused-requires-2
     same-length-2
     returns-2

@@ -1,11 +1,12 @@
 -- Refused at the bytes, a kind that names nothing, or submitted where the bytes stand: a law for each way out.
+use mathlib.Core.Path.{_∙_, sym}
 use Rattle.port.proofs.Laws.Requests.{submit-refused, submit-kind, submit-done}
 use borrow.Author.Needs.{needs}
 use Rattle.port.proofs.requests.dwc2_iso_submit.Statement.{statement}
 use Rattle.port.proofs.requests.dwc2_iso_submit.Tie as tie
 
-layout-refusal-requires : tie.Need-layout-refusal-requires
-layout-refusal-requires c κs = search needs
+verdict-at-requires : tie.Need-verdict-at-requires
+verdict-at-requires c κs = search needs
 
 submit-refused-requires : tie.Need-submit-refused-requires
 submit-refused-requires c κs = search needs
@@ -15,9 +16,9 @@ same-length c = search needs
 
 returns : tie.Need-returns
 returns c =
-    submit-refused (c .before .before .before .before .before .before .before .args .session .now)
-    (c .before .before .before .before .before .before .before .args .transfer) (c .before .before .before .before .before .before .before .args .lengths .now)
-    (c .before .before .before .before .before .before .before .args .ring .now) (c .before .before .layout-refusal .ensures) (c .before .if1 .taken)
+    submit-refused (c .before .before .before .before .before .before .before .before .args .session .now)
+    (c .before .before .before .before .before .before .before .before .args .transfer) (c .before .before .before .before .before .before .before .before .args .lengths .now)
+    (c .before .before .before .before .before .before .before .before .args .ring .now) (c .before .before .before .verdict-at .ensures .refusal) (c .before .if1 .taken)
     (c .submit-refused .ensures)
 
 submit-refused-requires-2 : tie.Need-submit-refused-requires-2
@@ -28,10 +29,10 @@ same-length-2 c = search needs
 
 returns-2 : tie.Need-returns-2
 returns-2 c =
-    submit-kind (c .before .before .before .before .before .before .before .before .before .args .session .now)
-    (c .before .before .before .before .before .before .before .before .before .args .transfer)
-    (c .before .before .before .before .before .before .before .before .before .args .lengths .now)
-    (c .before .before .before .before .before .before .before .before .before .args .ring .now) (c .before .before .before .before .layout-refusal .ensures)
+    submit-kind (c .before .before .before .before .before .before .before .before .before .before .args .session .now)
+    (c .before .before .before .before .before .before .before .before .before .before .args .transfer)
+    (c .before .before .before .before .before .before .before .before .before .before .args .lengths .now)
+    (c .before .before .before .before .before .before .before .before .before .before .args .ring .now) (c .before .before .before .before .before .verdict-at .ensures .refusal)
     (c .before .before .before .if1 .left) (c .before .if2 .taken)
     (c .submit-refused2 .ensures)
 
@@ -39,7 +40,9 @@ transfer-of-requires : tie.Need-transfer-of-requires
 transfer-of-requires c κs = search needs
 
 submit-at-requires : tie.Need-submit-at-requires
-submit-at-requires c κs = search needs
+submit-at-requires c κs =
+    let told = c .before .before .before .before .before .before .before .verdict-at .ensures in
+    (sym (told .refusal) ∙ c .before .before .before .before .before .if1 .left, told)
 
 same-length-3 : tie.Need-same-length-3
 same-length-3 c = search needs
@@ -50,11 +53,11 @@ same-length-4 c = search needs
 returns-3 : tie.Need-returns-3
 returns-3 c =
     submit-done
-    (c .before .before .before .before .before .before .before .before .before .before .before .before .before .before .before .before .args .session .now)
-    (c .before .before .before .before .before .before .before .before .before .before .before .before .before .before .before .before .args .transfer)
-    (c .before .before .before .before .before .before .before .before .before .before .before .before .before .before .before .before .args .lengths .now)
-    (c .before .before .before .before .before .before .before .before .before .before .before .before .before .before .before .before .args .ring .now)
-    (c .before .before .before .before .before .before .before .before .before .before .before .layout-refusal .ensures)
+    (c .before .before .before .before .before .before .before .before .before .before .before .before .before .before .before .before .before .args .session .now)
+    (c .before .before .before .before .before .before .before .before .before .before .before .before .before .before .before .before .before .args .transfer)
+    (c .before .before .before .before .before .before .before .before .before .before .before .before .before .before .before .before .before .args .lengths .now)
+    (c .before .before .before .before .before .before .before .before .before .before .before .before .before .before .before .before .before .args .ring .now)
+    (c .before .before .before .before .before .before .before .before .before .before .before .before .verdict-at .ensures .refusal)
     (c .before .before .before .before .before .before .before .before .before .before .if1 .left)
     (c .before .before .before .before .before .before .before .before .if2 .left)
     (c .before .before .before .before .before .before .before .transfer-of .ensures) (c .before .before .before .before .submit-at .ensures .0)
@@ -64,7 +67,7 @@ pub dwc2-iso-submit-spec : {M : Type 1} → statement M
 dwc2-iso-submit-spec =
     tie.close
     (tie.spec
-    layout-refusal-requires
+    verdict-at-requires
     submit-refused-requires
     same-length
     returns

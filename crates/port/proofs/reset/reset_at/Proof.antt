@@ -36,36 +36,30 @@ cursor-first h =
 some :
     (c : tie.After-has-reason)
     → (not (eqb (c .before .before .before .before .head-at .result .count) 0) || c .has-reason .result)
-    ≡ (not (eqb (sessionOf (c .before .before .before .before .before .before .before .before .before .before .args .bytes .now) .head .count) 0)
-    || hasReason (sessionOf (c .before .before .before .before .before .before .before .before .before .before .args .bytes .now) .fatal))
+    ≡ (not (eqb (sessionOf (c .before .before .before .before .before .before .before .before .args .bytes .now) .head .count) 0)
+    || hasReason (sessionOf (c .before .before .before .before .before .before .before .before .args .bytes .now) .fatal))
 some c =
-    let xs = c .before .before .before .before .before .before .before .before .before .before .args .bytes .now in
+    let xs = c .before .before .before .before .before .before .before .before .args .bytes .now in
     ap (λ (b : Bool). not (eqb (c .before .before .before .before .head-at .result .count) 0) || b)
     (c .has-reason .ensures ∙ ap hasReason (c .before .before .reason-at .ensures ∙ reason-there xs))
     ∙ ap (λ (h : IsoHead). not (eqb (h .count) 0) || hasReason (sessionOf xs .fatal)) (c .before .before .before .before .head-at .ensures ∙ head-there xs)
 
-is-bad-at-requires : tie.Need-is-bad-at-requires
-is-bad-at-requires c κs = long-enough (c .before .before .args .bytes .now) refl (c .before .before .pre)
-
 reply-refused-requires : tie.Need-reply-refused-requires
 reply-refused-requires c κs = search needs
 
-same-length : tie.Need-same-length
-same-length c = search needs
-
 returns : tie.Need-returns
 returns c =
-    let xs = c .before .before .before .before .before .args .bytes .now in
-    stays xs (octets (c .before .before .before .before)) (c .before .before .before .before .before .pre) (resetReply (sessionOf xs))
-    (reset-bad (sessionOf xs) (sym (c .before .before .is-bad-at .ensures) ∙ c .before .if1 .taken)) refl (c .reply-refused .ensures)
+    let xs = c .before .before .before .args .bytes .now in
+    stays xs (octets (c .before .before)) (c .before .before .before .pre .0) (resetReply (sessionOf xs))
+    (reset-bad (sessionOf xs) (sym (c .before .before .before .pre .1) ∙ c .before .if1 .taken)) refl (c .reply-refused .ensures)
 
 head-at-requires : tie.Need-head-at-requires
-head-at-requires c κs = long-enough (c .before .before .before .before .before .args .bytes .now) refl (c .before .before .before .before .before .pre)
+head-at-requires c κs = long-enough (c .before .before .before .args .bytes .now) refl (c .before .before .before .pre .0)
 
 reason-at-requires : tie.Need-reason-at-requires
 reason-at-requires c κs =
-    long-enough (c .before .before .before .before .before .before .before .args .bytes .now) refl
-    (c .before .before .before .before .before .before .before .pre)
+    long-enough (c .before .before .before .before .before .args .bytes .now) refl
+    (c .before .before .before .before .before .pre .0)
 
 has-reason-requires : tie.Need-has-reason-requires
 has-reason-requires c κs = search needs
@@ -73,41 +67,41 @@ has-reason-requires c κs = search needs
 reply-refused-requires-2 : tie.Need-reply-refused-requires-2
 reply-refused-requires-2 c κs = search needs
 
-same-length-2 : tie.Need-same-length-2
-same-length-2 c = search needs
+same-length : tie.Need-same-length
+same-length c = search needs
 
 returns-2 : tie.Need-returns-2
 returns-2 c =
-    let xs = c .before .before .before .before .before .before .before .before .before .before .before .before .args .bytes .now in
-    stays xs (octets (c .before .before .before .before .before .before .before .before .before .before .before))
-    (c .before .before .before .before .before .before .before .before .before .before .before .before .pre) (resetReply (sessionOf xs))
-    (reset-full (sessionOf xs) (sym (c .before .before .before .before .before .before .before .before .before .is-bad-at .ensures)
+    let xs = c .before .before .before .before .before .before .before .before .before .before .args .bytes .now in
+    stays xs (octets (c .before .before .before .before .before .before .before .before .before))
+    (c .before .before .before .before .before .before .before .before .before .before .pre .0) (resetReply (sessionOf xs))
+    (reset-full (sessionOf xs) (sym (c .before .before .before .before .before .before .before .before .before .before .pre .1)
     ∙ c .before .before .before .before .before .before .before .before .if1 .left) (ap not (sym (some (c .before .before)) ∙ c .before .if2 .taken))) refl
     (c .reply-refused2 .ensures)
 
 put-head-requires : tie.Need-put-head-requires
 put-head-requires c κs =
-    long-enough (c .before .before .before .before .before .before .before .before .before .before .before .before .args .bytes .now) refl
-    (c .before .before .before .before .before .before .before .before .before .before .before .before .pre)
+    long-enough (c .before .before .before .before .before .before .before .before .before .before .args .bytes .now) refl
+    (c .before .before .before .before .before .before .before .before .before .before .pre .0)
 
 reply-port-requires : tie.Need-reply-port-requires
 reply-port-requires c κs = search needs
 
-same-length-3 : tie.Need-same-length-3
-same-length-3 c = search needs
+same-length-2 : tie.Need-same-length-2
+same-length-2 c = search needs
 
 returns-3 : tie.Need-returns-3
 returns-3 c =
     let xs =
-    c .before .before .before .before .before .before .before .before .before .before .before .before .before .before .before .before .args .bytes .now in
+    c .before .before .before .before .before .before .before .before .before .before .before .before .before .before .args .bytes .now in
     let s = sessionOf xs in
     becomes xs (resetReply s)
-    (reset-done s (sym (c .before .before .before .before .before .before .before .before .before .before .before .before .before .is-bad-at .ensures)
+    (reset-done s (sym (c .before .before .before .before .before .before .before .before .before .before .before .before .before .before .pre .1)
     ∙ c .before .before .before .before .before .before .before .before .before .before .before .before .if1 .left)
     (ap not (sym (some (c .before .before .before .before .before .before)) ∙ c .before .before .before .before .before .if2 .left))) (c .reply-port .ensures)
     (left-is
-    (head-here xs (octets (c .before .before .before .before .before .before .before .before .before .before .before .before .before .before .before))
-    (c .before .before .before .before .before .before .before .before .before .before .before .before .before .before .before .before .pre)
+    (head-here xs (octets (c .before .before .before .before .before .before .before .before .before .before .before .before .before))
+    (c .before .before .before .before .before .before .before .before .before .before .before .before .before .before .pre .0)
     (cursor-first (c .before .before .before .before .before .before .before .before .before .before .head-at .result))
     (c .before .before .before .put-head .ensures))
     (ap (λ (h : IsoHead). whole (s .cfg) (cursor-first h) (s .fatal) (s .requests) (s .plans))
@@ -117,17 +111,15 @@ pub reset-at-spec : {M : Type 1} → statement M
 reset-at-spec =
     tie.close
     (tie.spec
-    is-bad-at-requires
     reply-refused-requires
-    same-length
     returns
     head-at-requires
     reason-at-requires
     has-reason-requires
     reply-refused-requires-2
-    same-length-2
+    same-length
     returns-2
     put-head-requires
     reply-port-requires
-    same-length-3
+    same-length-2
     returns-3)

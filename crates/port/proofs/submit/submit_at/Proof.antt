@@ -17,7 +17,7 @@ use Rattle.port.proofs.submit.submit_at.Statement.{statement}
 use Rattle.port.proofs.submit.submit_at.Tie as tie
 
 long : (c : tie.Start) → 8488 ≤ length (c .args .bytes .now)
-long c = long-enough (c .args .bytes .now) refl (c .pre)
+long c = long-enough (c .args .bytes .now) refl (c .pre .0)
 
 octets : (c : tie.After-slice-known) → Octets (c .before .args .bytes .now)
 octets c i = omega (arith, c .slice-known .given i)
@@ -35,13 +35,13 @@ read-is c =
     (c .fatal-of .ensures)
 
 walked :
-    (c : tie.After-scan-at)
+    (c : tie.After-scan-of)
     → Scanned (whole (c .before .before .before .before .before .before .before .config-at .result) (c .before .before .before .before .before .head-at .result)
     (c .before .before .fatal-of .result)
     (sessionOf (c .before .before .before .before .before .before .before .before .before .before .before .before .args .bytes .now) .requests)
     (sessionOf (c .before .before .before .before .before .before .before .before .before .before .before .before .args .bytes .now) .plans))
-    (c .scan-at .result)
-walked c = subst⁻¹ (λ (s : IsoChannelState). Scanned s (c .scan-at .result)) (read-is (c .before .before)) (c .scan-at .ensures)
+    (c .scan-of .result)
+walked c = subst⁻¹ (λ (s : IsoChannelState). Scanned s (c .scan-of .result)) (read-is (c .before .before)) (c .scan-of .ensures)
 
 parted :
     (c : tie.After-submit-parts)
@@ -71,8 +71,8 @@ tagged-at-requires c κs = omega (arith, long (c .before .before .before .before
 fatal-of-requires : tie.Need-fatal-of-requires
 fatal-of-requires c κs = search needs
 
-scan-at-requires : tie.Need-scan-at-requires
-scan-at-requires c κs = long (c .before .before .before .before .before .before .before .before .before .before .before)
+scan-of-requires : tie.Need-scan-of-requires
+scan-of-requires c κs = c .before .before .before .before .before .before .before .before .before .before .before .pre
 
 submit-parts-requires : tie.Need-submit-parts-requires
 submit-parts-requires c κs = search needs
@@ -80,7 +80,7 @@ submit-parts-requires c κs = search needs
 put-added-requires : tie.Need-put-added-requires
 put-added-requires c κs =
     let p = parted (c .before .before .before) in (
-      c .before .before .before .before .before .before .before .before .before .before .before .before .before .before .before .before .before .pre,
+      c .before .before .before .before .before .before .before .before .before .before .before .before .before .before .before .before .before .pre .0,
       ap (λ (s : IsoChannelState). s .head) (read-is (c .before .before .before .before .before .before .before)),
       p .some-slots,
       p .fitting,
@@ -116,7 +116,7 @@ returns c =
       c .submit-port .ensures ∙ ap submittedPort (p .joins),
       numbers-put xs (octets
           (c .before .before .before .before .before .before .before .before .before .before .before .before .before .before .before .before .before .before .before .before .before .before .before .before .before .before))
-          (c .before .before .before .before .before .before .before .before .before .before .before .before .before .before .before .before .before .before .before .before .before .before .before .before .before .before .before .pre)
+          (c .before .before .before .before .before .before .before .before .before .before .before .before .before .before .before .before .before .before .before .before .before .before .before .before .before .before .before .pre .0)
           L r
           (c .before .before .before .before .before .before .before .before .before .before .before .before .before .before .before .before .before .before .before .before .before .before .before .before .before .before .before .args .transfer)
           (c .before .before .before .before .before .before .before .before .before .before .before .before .before .before .before .before .before .before .before .before .before .before .before .before .before .before .before .args .ring .now)
@@ -142,7 +142,7 @@ submit-at-spec =
     head-at-requires
     tagged-at-requires
     fatal-of-requires
-    scan-at-requires
+    scan-of-requires
     submit-parts-requires
     put-added-requires
     put-head-requires

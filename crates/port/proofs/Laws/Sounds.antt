@@ -1,0 +1,245 @@
+-- Both checks of a session's bytes in one walk, of the layout and of the record: each test in the code's order, and what each way out says of the two.
+use mathlib.Core.Path.{_≡_, refl, _∙_, sym, ap, ap₂}
+use mathlib.Core.Bool.{Bool, true, false, not, _||_, _&&_}
+use mathlib.Core.List.{List}
+use Prim.Native.Nat.{ℕ, _+_, _≤_, _<_}
+use native.Mathlib.Omega.{arith}
+use lib.Dec.{eqb, leb, ltb}
+use lib.ListN.{drop}
+use lib.Seq.{slice}
+use borrow.Author.Tests.{ltb-false, le-ltb}
+use Rattle.words.proofs.Laws.Tests.{neither}
+use Rattle.ring.specs.RingSums.{packetLimit}
+use Rattle.session.specs.declared.types.IsoConfig.{IsoConfig}
+use Rattle.session.specs.declared.types.IsoFatal.{IsoFatal}
+use Rattle.session.specs.declared.types.IsoHead.{IsoHead}
+use Rattle.session.specs.declared.types.IsoChannelState.{IsoChannelState}
+use Rattle.session.specs.Session.{slots, room, allPackets, pendingPackets, hasReason}
+use Rattle.session.specs.Record.{isBadConfig, isBadCounts, isBadRequest, anyBadRequest, isBadSums, isBadPlan, anyBadPlan, isBadState}
+use Rattle.session.proofs.Laws.Sums.{packets-past}
+use Rattle.session.proofs.Laws.Tests.{none}
+use Rattle.port.specs.declared.scan.RequestSums.{RequestSums}
+use Rattle.port.specs.Bytes.{u16Of, u64Of}
+use Rattle.port.specs.Layout.{requestOf, planOf, anyOf, isBadRequestBytes, isBadPlanBytes, isBadMark, isBadHead, isBadLayout, sessionOf}
+use Rattle.port.specs.Layout.{requestsIn, plansIn}
+use Rattle.port.specs.Scan.{isBadRequestEntry, isBadPlanEntry, isUnsound, Sounded}
+use Rattle.port.proofs.Laws.Entries.{field, ends-here, no-outcome}
+use Rattle.port.proofs.Laws.Scans.{never, same-tests, front-test, state-test, counts-in}
+use Rattle.port.proofs.Laws.Tables.{any-either}
+use Rattle.port.proofs.Laws.Walks.{requests-in, plans-in}
+
+-- ---- one entry
+
+-- a word of eight bytes that is a good count of packets, with no outcome behind it but done
+pub good-entry :
+    (xs : List ℕ) (at : ℕ) {word : ℕ} → word ≡ u64Of (drop (at + 12) xs) → (eqb word 0 || ltb 255 word) ≡ false
+    → false ≡ isBadRequestEntry (drop at xs)
+unfolding requestOf
+good-entry xs at {word} e h =
+    let ys : List ℕ = drop (at + 12) xs in
+    let few : word ≤ 255 = ltb-false 255 word (neither (eqb word 0) (ltb 255 word) h .1) in
+    let small : u64Of ys < 65536 = omega (arith, few, e) in
+    let packets : word ≡ u16Of (drop 12 (drop at xs)) = e ∙ sym (ends-here ys small) ∙ field u16Of 12 at xs in
+    sym (none (sym (no-outcome xs at small)) (sym (ap (λ (n : ℕ). eqb n 0 || ltb 255 n) packets) ∙ h))
+
+-- ---- the tests that ask no entry
+
+-- the configuration, the counts and the state
+abbrev pub isBadNumbers : IsoChannelState → Bool
+isBadNumbers s = (isBadConfig (s .cfg) || isBadCounts s) || isBadState s
+
+module _ (s : IsoChannelState) where
+  pub numbers-test :
+      {cfg : IsoConfig} {h : IsoHead} {fatal : IsoFatal} {size : ℕ} {bad state b : Bool}
+      → cfg ≡ s .cfg
+      → h ≡ s .head
+      → fatal ≡ s .fatal
+      → size ≡ slots (s .cfg)
+      → bad ≡ isBadConfig cfg
+      → state ≡ (leb size (h .«td_last») || not (h .live) && (ltb (h .done) (h .count) || hasReason fatal))
+      → (bad || ((ltb (h .count) (h .done) || ltb 64 (h .count)) || state)) ≡ b
+      → isBadNumbers s ≡ b
+  numbers-test {h = h} {bad = bad} {state = state} ec eh ef es eb et e =
+      ap₂ (λ (x y : Bool). x || y) (front-test s ec eh eb refl) (sym (state-test s eh ef es et))
+      ∙ or-assoc bad (ltb (h .count) (h .done) || ltb 64 (h .count)) state
+      ∙ e
+    where
+      or-assoc : (x y z : Bool) → ((x || y) || z) ≡ (x || (y || z))
+      or-assoc true y z = refl
+      or-assoc false y z = refl
+
+  pub sums-test :
+      {cfg : IsoConfig} {all pending : ℕ} {over : Bool} → cfg ≡ s .cfg → all ≡ allPackets s → pending ≡ pendingPackets s
+      → over ≡ ltb (room cfg) pending
+      → (ltb 1024 all || over) ≡ isBadSums s
+  sums-test {cfg} ec ea ep e =
+      ap₂ (λ (n : ℕ) (x : Bool). ltb 1024 n || x) ea
+      (e ∙ ap (ltb (room cfg)) ep ∙ ap (λ (k : IsoConfig). ltb (room k) (pendingPackets s)) ec)
+
+  pub sums-few : isBadSums s ≡ false → allPackets s ≤ 1024
+  sums-few e = ltb-false 1024 (allPackets s) (neither (ltb 1024 (allPackets s)) (ltb (room (s .cfg)) (pendingPackets s)) e .0)
+
+-- ---- all tests
+
+-- the tests of the layout and of the record, taken together entry by entry
+in-order :
+    (mark head requests plans first each sums last state : Bool)
+    → ((mark || (head || (requests || plans))) || (first || (each || (sums || (last || state)))))
+    ≡ ((mark || head) || ((first || state) || ((requests || each) || (sums || (plans || last)))))
+in-order mark head requests plans first each sums last state = same-tests to from
+  where
+    to : ((mark || (head || (requests || plans))) || (first || (each || (sums || (last || state))))) ≡ false
+        → ((mark || head) || ((first || state) || ((requests || each) || (sums || (plans || last))))) ≡ false
+    to h =
+        let a = neither (mark || (head || (requests || plans))) (first || (each || (sums || (last || state)))) h in
+        let b = neither mark (head || (requests || plans)) (a .0) in
+        let c = neither head (requests || plans) (b .1) in
+        let d = neither requests plans (c .1) in
+        let e = neither first (each || (sums || (last || state))) (a .1) in
+        let f = neither each (sums || (last || state)) (e .1) in
+        let g = neither sums (last || state) (f .1) in
+        let i = neither last state (g .1) in
+        none (none (b .0) (c .0)) (none (none (e .0) (i .1)) (none (none (d .0) (f .0)) (none (g .0) (none (d .1) (i .0)))))
+
+    from : ((mark || head) || ((first || state) || ((requests || each) || (sums || (plans || last))))) ≡ false
+        → ((mark || (head || (requests || plans))) || (first || (each || (sums || (last || state))))) ≡ false
+    from h =
+        let a = neither (mark || head) ((first || state) || ((requests || each) || (sums || (plans || last)))) h in
+        let b = neither mark head (a .0) in
+        let c = neither (first || state) ((requests || each) || (sums || (plans || last))) (a .1) in
+        let d = neither first state (c .0) in
+        let e = neither (requests || each) (sums || (plans || last)) (c .1) in
+        let f = neither requests each (e .0) in
+        let g = neither sums (plans || last) (e .1) in
+        let i = neither plans last (g .1) in
+        none (none (b .0) (none (b .1) (none (f .0) (i .0)))) (none (d .0) (none (f .1) (none (g .0) (none (i .1) (d .1)))))
+
+second-true : (a : Bool) {b : Bool} → b ≡ true → (a || b) ≡ true
+second-true true e = refl
+second-true false e = e
+
+-- entries of which none is there
+no-entry : (bad : List ℕ → Bool) (w n : ℕ) (xs : List ℕ) → n ≡ 0 → anyOf bad w n xs ≡ false
+unfolding anyOf
+no-entry bad w n xs e = ap (λ (k : ℕ). anyOf bad w k xs) e
+
+module _ (xs : List ℕ) where
+  requests-both :
+      (n : ℕ) → n ≤ 64
+      → anyOf isBadRequestEntry 20 n (drop 40 xs) ≡ (anyOf isBadRequestBytes 20 n (drop 40 xs) || anyBadRequest (slice 0 n (sessionOf xs .requests)))
+  unfolding sessionOf
+  requests-both n h = any-either requestOf 20 isBadRequestBytes isBadRequest anyBadRequest refl (λ a l. refl) n 64 (drop 40 xs) h
+
+  plans-both :
+      (limit size n : ℕ) → n ≤ 1024
+      → anyOf (isBadPlanEntry limit size) 7 n (drop 1320 xs)
+      ≡ (anyOf isBadPlanBytes 7 n (drop 1320 xs) || anyBadPlan limit size (slice 0 n (sessionOf xs .plans)))
+  unfolding sessionOf
+  plans-both limit size n h = any-either planOf 7 isBadPlanBytes (isBadPlan limit size) (anyBadPlan limit size) refl (λ a l. refl) n 1024 (drop 1320 xs) h
+
+  -- the bytes' tests as far as the tables go, the record's as far as its counts say
+  abbrev requestTests : Bool
+  requestTests =
+      anyOf isBadRequestBytes 20 (requestsIn (sessionOf xs)) (drop 40 xs)
+      || anyBadRequest (slice 0 (sessionOf xs .head .count) (sessionOf xs .requests))
+
+  abbrev planTests : Bool
+  planTests =
+      anyOf isBadPlanBytes 7 (plansIn (sessionOf xs)) (drop 1320 xs)
+      || anyBadPlan (packetLimit (sessionOf xs .cfg .speed)) (slots (sessionOf xs .cfg)) (slice 0 (allPackets (sessionOf xs)) (sessionOf xs .plans))
+
+  all-tests :
+      isUnsound xs ≡ ((isBadMark xs || isBadHead xs) || (isBadNumbers (sessionOf xs) || (requestTests || (isBadSums (sessionOf xs) || planTests))))
+  unfolding isBadLayout
+  all-tests =
+      let s : IsoChannelState = sessionOf xs in
+      in-order (isBadMark xs) (isBadHead xs) (anyOf isBadRequestBytes 20 (requestsIn s) (drop 40 xs))
+      (anyOf isBadPlanBytes 7 (plansIn s) (drop 1320 xs)) (isBadConfig (s .cfg) || isBadCounts s)
+      (anyBadRequest (slice 0 (s .head .count) (s .requests))) (isBadSums s)
+      (anyBadPlan (packetLimit (s .cfg .speed)) (slots (s .cfg)) (slice 0 (allPackets s) (s .plans))) (isBadState s)
+
+  pub bad-before : (isBadMark xs || isBadHead xs) ≡ true → isUnsound xs ≡ true
+  bad-before e =
+      all-tests ∙ ap (λ (b : Bool). b || (isBadNumbers (sessionOf xs) || (requestTests || (isBadSums (sessionOf xs) || planTests)))) e
+
+  pub bad-numbers : isBadNumbers (sessionOf xs) ≡ true → isUnsound xs ≡ true
+  bad-numbers e =
+      all-tests ∙ second-true (isBadMark xs || isBadHead xs) (ap (λ (b : Bool). b || (requestTests || (isBadSums (sessionOf xs) || planTests))) e)
+
+  pub bad-sums : isBadSums (sessionOf xs) ≡ true → isUnsound xs ≡ true
+  bad-sums e =
+      all-tests
+      ∙ second-true (isBadMark xs || isBadHead xs)
+      (second-true (isBadNumbers (sessionOf xs)) (second-true requestTests (ap (λ (b : Bool). b || planTests) e)))
+
+  module _ (numbers : isBadNumbers (sessionOf xs) ≡ false) where
+    pub counts : (sessionOf xs .head .done ≤ sessionOf xs .head .count) × (sessionOf xs .head .count ≤ 64)
+    counts =
+        let s : IsoChannelState = sessionOf xs in
+        counts-in s (neither (isBadConfig (s .cfg) || isBadCounts s) (isBadState s) numbers .0)
+
+    all-requests : requestTests ≡ anyOf isBadRequestEntry 20 (sessionOf xs .head .count) (drop 40 xs)
+    all-requests =
+        let s : IsoChannelState = sessionOf xs in
+        let each : Bool = anyBadRequest (slice 0 (s .head .count) (s .requests)) in
+        ap (λ (n : ℕ). anyOf isBadRequestBytes 20 n (drop 40 xs) || each) (requests-in s (counts .1)) ∙ sym (requests-both (s .head .count) (counts .1))
+
+    pub bad-request : anyOf isBadRequestEntry 20 (sessionOf xs .head .count) (drop 40 xs) ≡ true → isUnsound xs ≡ true
+    bad-request e =
+        all-tests
+        ∙ second-true (isBadMark xs || isBadHead xs)
+        (second-true (isBadNumbers (sessionOf xs)) (ap (λ (b : Bool). b || (isBadSums (sessionOf xs) || planTests)) (all-requests ∙ e)))
+
+    -- past all other tests the plans decide
+    module _ (before : (isBadMark xs || isBadHead xs) ≡ false)
+        (requests : anyOf isBadRequestEntry 20 (sessionOf xs .head .count) (drop 40 xs) ≡ false) (sums : isBadSums (sessionOf xs) ≡ false) where
+      few : allPackets (sessionOf xs) ≤ 1024
+      few = sums-few (sessionOf xs) sums
+
+      all-plans :
+          planTests
+          ≡ anyOf (isBadPlanEntry (packetLimit (sessionOf xs .cfg .speed)) (slots (sessionOf xs .cfg))) 7 (allPackets (sessionOf xs)) (drop 1320 xs)
+      all-plans =
+          let s : IsoChannelState = sessionOf xs in
+          let each : Bool = anyBadPlan (packetLimit (s .cfg .speed)) (slots (s .cfg)) (slice 0 (allPackets s) (s .plans)) in
+          ap (λ (n : ℕ). anyOf isBadPlanBytes 7 n (drop 1320 xs) || each) (plans-in s (counts .1) few)
+          ∙ sym (plans-both (packetLimit (s .cfg .speed)) (slots (s .cfg)) (allPackets s) few)
+
+      pub by-plans :
+          isUnsound xs
+          ≡ anyOf (isBadPlanEntry (packetLimit (sessionOf xs .cfg .speed)) (slots (sessionOf xs .cfg))) 7 (allPackets (sessionOf xs)) (drop 1320 xs)
+      by-plans =
+          all-tests
+          ∙ ap (λ (b : Bool). b || (isBadNumbers (sessionOf xs) || (requestTests || (isBadSums (sessionOf xs) || planTests)))) before
+          ∙ ap₂ (λ (n r : Bool). n || (r || (isBadSums (sessionOf xs) || planTests))) numbers (all-requests ∙ requests)
+          ∙ ap₂ (λ (m p : Bool). m || p) sums all-plans
+
+  -- without requests there are no packets, and no entry is asked
+  module _ (idle : sessionOf xs .head .count ≡ 0) where
+    pub idle-all : 0 ≡ allPackets (sessionOf xs)
+    idle-all = let s : IsoChannelState = sessionOf xs in sym (packets-past 0 (s .head .count) (s .requests) (omega (arith, idle)))
+
+    pub idle-pending : 0 ≡ pendingPackets (sessionOf xs)
+    idle-pending =
+        let s : IsoChannelState = sessionOf xs in
+        sym (packets-past (s .head .done) (s .head .count) (s .requests) (omega (arith, idle)))
+
+    pub idle-good : isBadNumbers (sessionOf xs) ≡ false → (isBadMark xs || isBadHead xs) ≡ false → isUnsound xs ≡ false
+    idle-good numbers before =
+        let s : IsoChannelState = sessionOf xs in
+        let few : allPackets s ≤ 1024 = omega (arith, idle-all) in
+        let fits : pendingPackets s ≤ room (s .cfg) = omega (arith, idle-pending) in
+        by-plans numbers before (no-entry isBadRequestEntry 20 (s .head .count) (drop 40 xs) idle)
+        (none (le-ltb 1024 (allPackets s) few) (le-ltb (room (s .cfg)) (pendingPackets s) fits))
+        ∙ no-entry (isBadPlanEntry (packetLimit (s .cfg .speed)) (slots (s .cfg))) 7 (allPackets s) (drop 1320 xs) (sym idle-all)
+
+  -- ---- what is answered
+
+  pub bad-sounded : (r : RequestSums) → r .bad ≡ true → isUnsound xs ≡ true → Sounded xs r
+  bad-sounded r b e = record { bad = b ∙ sym e; all = λ g. absurd (never (sym b ∙ g)); pending = λ g. absurd (never (sym b ∙ g)) }
+
+  pub good-sounded :
+      (r : RequestSums) {all pending : ℕ} → (r .bad ≡ false) × (r .all ≡ all) × (r .pending ≡ pending) → all ≡ allPackets (sessionOf xs)
+      → pending ≡ pendingPackets (sessionOf xs) → isUnsound xs ≡ false
+      → Sounded xs r
+  good-sounded r said ea ep e = record { bad = said .0 ∙ sym e; all = λ g. said .1 ∙ ea; pending = λ g. said .2 ∙ ep }
