@@ -10,7 +10,6 @@ use Rattle.session.proofs.open
 use Rattle.session.proofs.poll
 use Rattle.session.proofs.reclaim
 use Rattle.session.proofs.record
-use Rattle.session.proofs.settle
 use Rattle.session.proofs.submit
 use Rattle.session.proofs.tables
 
@@ -81,15 +80,6 @@ handed-answer-unique κs a x y u v = equal refl
 
 pub rest-unique : Unique 0 tables.rest.Kinds.ps tables.rest.Kinds.r tables.rest.Reads.Post
 rest-unique κs a x y u v = equal refl
-
-pub wide-from-unique : Unique 0 record.wide_from.Kinds.ps record.wide_from.Kinds.r record.wide_from.Reads.Post
-wide-from-unique κs a x y u v p q = equal refl (p .0) (q .0)
-
-pub wide-unique : Unique 0 tables.wide.Kinds.ps tables.wide.Kinds.r tables.wide.Reads.Post
-wide-unique κs a x y u v p q = equal refl (p .0) (q .0)
-
-pub settled-plan-unique : Unique 1 settle.settled_plan.Kinds.ps settle.settled_plan.Kinds.r settle.settled_plan.Reads.Post
-settled-plan-unique κs a x y u v = equal refl
 
 pub clear-first-unique : Unique 1 open.clear_first.Kinds.ps open.clear_first.Kinds.r open.clear_first.Reads.Post
 clear-first-unique κs a x y u v = equal-lent (λ (words : List ℕ). (words, (tt, tt)))

@@ -88,7 +88,7 @@ pub fn is_bad_state(head: IsoHead, slots: u16, fatal: IsoFatal) -> bool
 }
 
 // The packets of the request at `at`, where it is pending.
-pub fn wide_from(done: u16, at: u16, packets: u16) -> u32
+fn wide_from(done: u16, at: u16, packets: u16) -> u32
     ensures { λ r. ⌜ (r ≡ cond (ltb at done) 0 packets) × (r ≤ packets) ⌝ }
 {
     if at < done {

@@ -32,7 +32,7 @@ fn status_of(status: u32) -> TransferStatus
 }
 
 // The plan with what its descriptor's status word says.
-pub fn settled_plan(direction: Direction, plan: IsoPacketPlan, ring: &[u32]) -> IsoPacketPlan
+fn settled_plan(direction: Direction, plan: IsoPacketPlan, ring: &[u32]) -> IsoPacketPlan
     ensures { λ r. ⌜ r ≡ settledPlan direction (now (ring .entry)) plan ⌝ }
 {
     let planned = plan.planned;

@@ -45,7 +45,7 @@ pub(crate) fn packets_of(requests: [IsoRequest; 64], from: u16, to: u16) -> u32
     sum
 }
 
-pub fn wide(x: u16) -> u32
+pub(crate) fn wide(x: u16) -> u32
     ensures { λ r. ⌜ (r ≡ x) × (r ≤ 65535) ⌝ }
 {
     x as u32
