@@ -1,6 +1,7 @@
 //! The bytes of a session, from the port's docs/LAYOUT.md, and the numbers of include/dwc2_port.h.
 
 use crate::model::{Behind, Entry, MAX_PACKETS, MAX_REQUESTS, Packet, Request, Session, Unused};
+use crate::slips::{Slip, slip};
 use lifted::calls::*;
 
 pub const SESSION_BYTES: usize = 8_488;
@@ -162,8 +163,12 @@ fn packet_of(b: &Bytes, at: usize) -> Option<Packet> {
     Some(Packet { planned: b.u16(at), slot: b.u16(at + 2), actual: b.u16(at + 4), error: flag_named(b.u8(at + 6))? })
 }
 
-fn unused<T>(b: &Bytes, at: usize, width: usize, read: impl Fn(&Bytes, usize) -> Option<T>) -> Unused<T> {
-    read(b, at).map_or_else(|| Unused::Bytes(b.0[at..at + width].to_vec()), Unused::Entry)
+fn unused<T: Default>(b: &Bytes, at: usize, width: usize, read: impl Fn(&Bytes, usize) -> Option<T>) -> Unused<T> {
+    match read(b, at) {
+        Some(entry) => Unused::Entry(entry),
+        None if slip(Slip::BehindBlank) => Unused::Entry(T::default()),
+        None => Unused::Bytes(b.0[at..at + width].to_vec()),
+    }
 }
 
 /// The entries in use are named, or the bytes are refused; what stands behind them is not looked at.
@@ -194,6 +199,9 @@ fn loaded(b: &Bytes) -> Option<Loaded> {
         requests: (count..MAX_REQUESTS).map(|i| unused(b, request_at(i), 20, entry_of)).collect(),
         packets: (used..MAX_PACKETS).map(|i| unused(b, packet_at(i), 7, packet_of)).collect(),
     };
+    if slip(Slip::BehindTested) && behind.has_bytes() {
+        return None;
+    }
     Some(Loaded::Session(Session {
         cfg,
         next: b.u64(16),

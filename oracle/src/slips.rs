@@ -91,6 +91,11 @@ slips! {
     RecoverIdle: "recovery leaves the ring where no channel was live",
     RecoverLast: "recovery drops the newest request",
     RecoverAfter: "recovery from the record after the call",
+    // a session's bytes
+    BehindTested: "bytes behind the entries in use are tested",
+    BehindBlank: "bytes behind the entries in use become blank",
+    RingFirst: "a short ring's 17 before 18 of the bytes",
+    RecordFirst: "18 of the record before a short ring's 17",
     // planning
     ZeroNoPacket: "length 0 counts as no packet",
     ChunkWhole: "the chunk is 131,071",

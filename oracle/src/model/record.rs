@@ -1,6 +1,7 @@
 //! The record of a session: what it holds, when it is bad, and how it opens.
 
 use super::sums::{capacity_of, packet_limit, ring_size};
+use crate::slips::{Slip, slip};
 use lifted::calls::*;
 
 pub const MAX_REQUESTS: usize = 64;
@@ -45,6 +46,13 @@ pub enum Unused<T> {
 pub struct Behind {
     pub requests: Vec<Unused<Entry>>,
     pub packets: Vec<Unused<Packet>>,
+}
+
+impl Behind {
+    /// some of it is no entry
+    pub fn has_bytes(&self) -> bool {
+        self.requests.iter().any(|e| matches!(e, Unused::Bytes(_))) || self.packets.iter().any(|p| matches!(p, Unused::Bytes(_)))
+    }
 }
 
 #[derive(Clone, PartialEq, Eq, Debug, Hash)]
@@ -150,7 +158,9 @@ impl Session {
 
     /// 17 and 18 of a call that is lent the ring
     pub(super) fn refusal(&self, ring_len: usize) -> Option<u16> {
-        if ring_len < self.cfg.words() {
+        if slip(Slip::RecordFirst) && self.is_bad() {
+            Some(18)
+        } else if ring_len < self.cfg.words() {
             Some(17)
         } else if self.is_bad() {
             Some(18)

@@ -4,6 +4,7 @@ use super::bytes::{In, Out};
 use super::party::{Model, number_of};
 use crate::layout::*;
 use crate::model::{self, Endpoint, Session};
+use crate::slips::{Slip, slip};
 use lifted::calls::*;
 
 fn give_reply(out: &mut Out, reply: Reply) {
@@ -34,6 +35,8 @@ impl Model {
     fn on_session(&mut self, session_len: usize, ring_words: Option<usize>, results: Option<usize>, call: &Call) -> Reply {
         let refused = |n| Reply { answer: Answer::Refused(n), taken: false, halt: false, start: None };
         match self.load(session_len) {
+            // no ring has fewer than 128 words
+            Err(18) if slip(Slip::RingFirst) && ring_words.is_some_and(|w| w < 128) => refused(17),
             Err(number) => refused(number),
             Ok(Loaded::Beyond(cfg)) => {
                 let short = ring_words.is_some_and(|w| w < cfg.words()) || results.is_some_and(|n| n < model::MIN_RESULTS);
