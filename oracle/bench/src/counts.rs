@@ -8,23 +8,21 @@ use std::path::Path;
 #[derive(Clone, Default)]
 pub struct Parts {
     pub total: f64,
-    /// the byte tests of the layout, and the record check as far as it is not inlined
-    pub layout: f64,
-    pub check: f64,
+    /// the walk that checks layout and record
+    pub checks: f64,
     pub copies: f64,
 }
 
 impl Parts {
     /// what is left: the call itself
     pub fn call(&self) -> f64 {
-        self.total - self.layout - self.check - self.copies
+        self.total - self.checks - self.copies
     }
 
     fn add(&mut self, function: &str, cost: f64) {
         self.total += cost;
         match function {
-            f if f.contains("layout_refusal") => self.layout += cost,
-            f if f.contains("port::scan::") => self.check += cost,
+            f if f.contains("port::scan::") => self.checks += cost,
             f if f.contains("memcpy") || f.contains("memmove") || f.contains("memset") => self.copies += cost,
             _ => {}
         }

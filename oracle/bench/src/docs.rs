@@ -45,13 +45,13 @@ fn table(figures: &[Figures]) -> String {
 
 /// instructions a call, and where the port's lie
 fn instructions(figures: &[Figures], counts: &Counts) -> String {
-    let mut out = String::from("| Call | Rust | port | port / Rust | byte tests | record check | copies | the call itself |\n");
-    out.push_str("|---|--:|--:|--:|--:|--:|--:|--:|\n");
+    let mut out = String::from("| Call | Rust | port | port / Rust | both checks | copies | the call itself |\n");
+    out.push_str("|---|--:|--:|--:|--:|--:|--:|\n");
     for f in figures {
         let Some(port) = counts.of("port", &f.name) else { continue };
         let rust = counts.of("rust", &f.name);
         let over = rust.map_or("–".into(), |r| format!("{:.2}", port.total / r.total));
-        let parts: Vec<String> = [port.layout, port.check, port.copies, port.call()].iter().map(|v| whole(*v)).collect();
+        let parts: Vec<String> = [port.checks, port.copies, port.call()].iter().map(|v| whole(*v)).collect();
         let rust = rust.map_or("–".into(), |r| whole(r.total));
         out.push_str(&format!("| {} | {rust} | {} | {over} | {} |\n", f.name, whole(port.total), parts.join(" | ")));
     }
