@@ -2,7 +2,7 @@
 ghost use mathlib.Core.Path.{_≡_};
 ghost use mathlib.Core.List.{[], _∷_, map};
 ghost use Prim.Native.Nat.{_+_, _-_, _*_, _/_, _%_, max, min};
-ghost use lib.ListN.{set, take};
+ghost use lib.ListN.{take};
 ghost use Rattle.ring.specs.Stores.{stored, storesFrom, asWord};
 use crate::grid::at_least_one;
 use words::DmaDescriptor;

@@ -2,11 +2,11 @@
 -- itself.
 use mathlib.Core.Path.{_≡_, refl, _∙_, sym, ap, ap₂}
 use mathlib.Core.List.{List, [], _∷_, _++_}
-use Prim.Native.Nat.{ℕ, suc, _+_, _≤_}
+use Prim.Native.Nat.{ℕ, zero, suc, _+_, _≤_}
 use native.Mathlib.Nat.{add-zero}
 use native.Mathlib.Omega.{arith}
-use lib.ListN.{length, getD, take, drop, set, length-append, take-append-drop}
-use lib.Seq.{slice, sets, sets-eq, drop-at, take-add, take-set-le, drop-set-lt, drop-set-add, length-slice, length-take-le}
+use lib.ListN.{length, getD, take, drop, set, length-append, take-append-drop, drop-of-length-le}
+use lib.Seq.{slice, sets, sets-eq, drop-at, drop-cons, take-add, take-set-le, drop-set-lt, drop-set-add, length-slice, length-take-le}
 use Rattle.session.proofs.Laws.Lists.{slice-next, slice-past, slice-split, slice-after-set}
 
 module _ {A : Type 0} where
@@ -115,3 +115,14 @@ module _ {A : Type 0} where
       sym (ap (sets l (into + k)) (slice-past (from + k) (from + n) l (omega arith)))
       ∙ e
       ∙ ap₂ (λ (i f : ℕ). sets first i (slice f (from + n) first)) (add-zero into) (add-zero from)
+
+-- n entries from i on, each read at its place, are the rest from there
+abbrev places : List ℕ → ℕ → ℕ → List ℕ
+places xs i zero = []
+places xs i (suc n) = getD xs i 0 ∷ places xs (suc i) n
+
+pub places-drop : (xs : List ℕ) (i n : ℕ) → length xs ≡ i + n → places xs i n ≡ drop i xs
+places-drop xs i zero e = sym (drop-of-length-le xs {i = i} (omega (arith, e)))
+places-drop xs i (suc n) e =
+    ap (λ (ys : List ℕ). getD xs i 0 ∷ ys) (places-drop xs (suc i) n (omega (arith, e)))
+    ∙ sym (drop-cons xs i 0 (omega (arith, e)))

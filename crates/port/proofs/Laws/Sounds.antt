@@ -1,6 +1,6 @@
 -- Both checks of a session's bytes in one walk, of the layout and of the record: each test in the code's order, and what each way out says of the two.
 use mathlib.Core.Path.{_≡_, refl, _∙_, sym, ap, ap₂}
-use mathlib.Core.Bool.{Bool, true, false, not, _||_, _&&_}
+use mathlib.Core.Bool.{Bool, true, false, not, _||_, _&&_, or-assoc}
 use mathlib.Core.List.{List}
 use Prim.Native.Nat.{ℕ, _+_, _≤_, _<_}
 use native.Mathlib.Omega.{arith}
@@ -63,10 +63,6 @@ module _ (s : IsoChannelState) where
       ap₂ (λ (x y : Bool). x || y) (front-test s ec eh eb refl) (sym (state-test s eh ef es et))
       ∙ or-assoc bad (ltb (h .count) (h .done) || ltb 64 (h .count)) state
       ∙ e
-    where
-      or-assoc : (x y z : Bool) → ((x || y) || z) ≡ (x || (y || z))
-      or-assoc true y z = refl
-      or-assoc false y z = refl
 
   pub sums-test :
       {cfg : IsoConfig} {all pending : ℕ} {over : Bool} → cfg ≡ s .cfg → all ≡ allPackets s → pending ≡ pendingPackets s

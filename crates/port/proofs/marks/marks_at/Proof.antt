@@ -1,6 +1,6 @@
 -- The invariant: a slot is marked, or a pending plan still to be passed has it, just where a pending plan has it; the answer's other fields stay as
 -- they are at first. The measure is how many plans are left.
-use mathlib.Core.Path.{_≡_, refl, _∙_, sym, ap, ap₂, subst⁻¹}
+use mathlib.Core.Path.{_≡_, refl, _∙_, ap, ap₂, subst⁻¹}
 use mathlib.Core.Bool.{true, false, _||_}
 use Prim.Native.Nat.{ℕ, _+_, _-_, _*_, _≤_, _<_}
 use native.Mathlib.Omega.{arith}

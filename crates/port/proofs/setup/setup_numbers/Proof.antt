@@ -1,29 +1,17 @@
 -- Byte by byte: the table has eight, so its places one by one are the table.
-use lib.ListN.{length, getD, drop, drop-of-length-le}
-use lib.Seq.{drop-cons}
+use lib.ListN.{length, getD}
 use mathlib.Core.Bool.{Bool, true, false, cond}
 use mathlib.Core.List.{List, [], _∷_}
-use mathlib.Core.Path.{_≡_, refl, sym, ap, _∙_}
-use native.Mathlib.Omega.{arith}
-use Prim.Native.Nat.{ℕ, zero, suc, _+_}
+use mathlib.Core.Path.{_≡_, refl, ap}
+use Prim.Native.Nat.{ℕ}
 use Rattle.plan.specs.declared.setup.SetupPacket.{SetupPacket}
 use Rattle.plan.specs.Numbers.{answerNumber}
 use Rattle.port.specs.declared.setup.PortSetupPacket.{PortSetupPacket}
 use Rattle.port.specs.Planning.{setupNumbers, unnamedSetup}
+use Rattle.port.proofs.Laws.Runs.{places-drop}
 use borrow.Author.Needs.{needs}
 use Rattle.port.proofs.setup.setup_numbers.Statement.{statement}
 use Rattle.port.proofs.setup.setup_numbers.Tie as tie
-
--- n entries from i on, each read at its place
-abbrev places : List ℕ → ℕ → ℕ → List ℕ
-places xs i zero = []
-places xs i (suc n) = getD xs i 0 ∷ places xs (suc i) n
-
-places-drop : (xs : List ℕ) (i n : ℕ) → length xs ≡ i + n → places xs i n ≡ drop i xs
-places-drop xs i zero e = sym (drop-of-length-le xs {i = i} (omega (arith, e)))
-places-drop xs i (suc n) e =
-    ap (λ (ys : List ℕ). getD xs i 0 ∷ ys) (places-drop xs (suc i) n (omega (arith, e)))
-    ∙ sym (drop-cons xs i 0 (omega (arith, e)))
 
 -- what the code builds: each byte chosen by itself
 abbrev chosen : Bool → SetupPacket → PortSetupPacket
