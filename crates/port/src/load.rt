@@ -75,7 +75,7 @@ fn requests_in(bytes: &[u8]) -> u16
     64
 }
 
-// What the requests in use say: whether the outcome of one is none of the layout and, where none is, the sum of their packets.
+// What a walk over the requests in use finds: whether one is bad by the test that it makes and, where none is, the sum of their packets.
 pub(crate) struct Used {
     pub bad: bool,
     pub packets: usize,
@@ -132,7 +132,7 @@ fn any_bad_plan(bytes: &[u8], m: usize) -> bool
     false
 }
 
-// Bytes without the mark: its first four are looked at as one number.
+// Three letters and the low byte of the version are one number, 68 + 256 × 87 + 65,536 × 83 + 16,777,216, so that one comparison tells.
 fn is_bad_mark(bytes: &[u8]) -> bool
     requires { ⌜ 8488 ≤ length (now bytes) ⌝ }
     ensures { λ r. ⌜ r ≡ isBadMark (now (bytes .entry)) ⌝ }

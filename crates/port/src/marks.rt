@@ -15,6 +15,7 @@ use session::RecordScan;
 use session::bad_scan;
 use session::rest;
 
+// A slot of a good record is below 256, so that each has its mark.
 fn marks_at(bytes: &[u8], all: u32, pending: u32) -> RecordScan
     requires { ⌜ (8488 ≤ length (now bytes))
         × (isBadRecord (sessionOf (now bytes)) ≡ false)
