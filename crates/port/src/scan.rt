@@ -2,7 +2,7 @@
 // numbers", 18). Only the entries in use are read, each once.
 ghost use mathlib.Core.Path.{_≡_};
 ghost use mathlib.Core.Bool.{true, false};
-ghost use Prim.Native.Nat.{_+_, _≤_};
+ghost use Prim.Native.Nat.{_+_, _≤_, _<_};
 ghost use lib.ListN.{length, drop};
 ghost use lib.Seq.{slice};
 ghost use Rattle.session.specs.Session.{packetsOf};
@@ -94,6 +94,19 @@ fn requests_checked(bytes: &[u8], n: u16) -> Used
     }
 }
 
+// Most packets in flight are not settled: the last three of a plan's seven bytes, what it moved and its status, are 0. Then, and with its
+// slot in the ring, the number of the byte before the plan and of its seven is below 2^24 for each slot of the ring.
+fn is_bad_packet(bytes: &[u8], at: usize, limit: u16, slots: u16) -> bool
+    requires { ⌜ (0 < at) × (at + 7 ≤ length (now bytes)) ⌝ }
+    ensures { λ r. ⌜ r ≡ isBadPlanEntry limit slots (drop at (now (bytes .entry))) ⌝ }
+{
+    let word = u64_at(bytes, at - 1);
+    if (word >= 16_777_216 * slots as u64) | (u16_at(bytes, at) > limit) {
+        return is_bad_plan_at(bytes, at) | is_bad_plan(limit, slots, plan_at(bytes, at));
+    }
+    false
+}
+
 // Whether a plan in use is bad by either check.
 fn any_bad_plan_entry(bytes: &[u8], all: u32, limit: u16, slots: u16) -> bool
     requires { ⌜ (8488 ≤ length (now bytes)) × (all ≤ 1024) ⌝ }
@@ -102,7 +115,7 @@ fn any_bad_plan_entry(bytes: &[u8], all: u32, limit: u16, slots: u16) -> bool
     let mut at: usize = 1_320;
     let mut j: u32 = 0;
     while j < all {
-        if is_bad_plan_at(bytes, at) | is_bad_plan(limit, slots, plan_at(bytes, at)) {
+        if is_bad_packet(bytes, at, limit, slots) {
             return true;
         }
         at += 7;

@@ -2,12 +2,12 @@
 use mathlib.Core.Path.{_≡_, refl, _∙_, sym, ap, ap₂}
 use mathlib.Core.Bool.{Bool, true, false, not, _||_, _&&_, or-assoc}
 use mathlib.Core.List.{List}
-use Prim.Native.Nat.{ℕ, _+_, _≤_, _<_}
+use Prim.Native.Nat.{ℕ, _+_, _-_, _*_, _≤_, _<_}
 use native.Mathlib.Omega.{arith}
 use lib.Dec.{eqb, leb, ltb}
 use lib.ListN.{drop}
-use lib.Seq.{slice}
-use borrow.Author.Tests.{ltb-false, le-ltb}
+use lib.Seq.{slice, drop-drop}
+use borrow.Author.Tests.{leb-false, ltb-false, le-ltb, lt-leb}
 use Rattle.words.proofs.Laws.Tests.{neither}
 use Rattle.ring.specs.RingSums.{packetLimit}
 use Rattle.session.specs.declared.types.IsoConfig.{IsoConfig}
@@ -19,11 +19,11 @@ use Rattle.session.specs.Record.{isBadConfig, isBadCounts, isBadRequest, anyBad
 use Rattle.session.proofs.Laws.Sums.{packets-past}
 use Rattle.session.proofs.Laws.Tests.{none}
 use Rattle.port.specs.declared.scan.RequestSums.{RequestSums}
-use Rattle.port.specs.Bytes.{u16Of, u64Of}
+use Rattle.port.specs.Bytes.{byteOf, u16Of, u64Of}
 use Rattle.port.specs.Layout.{requestOf, planOf, anyOf, isBadRequestBytes, isBadPlanBytes, isBadMark, isBadHead, isBadLayout, sessionOf}
 use Rattle.port.specs.Layout.{requestsIn, plansIn}
 use Rattle.port.specs.Scan.{isBadRequestEntry, isBadPlanEntry, isUnsound, Sounded}
-use Rattle.port.proofs.Laws.Entries.{field, ends-here, no-outcome}
+use Rattle.port.proofs.Laws.Entries.{field, by-plan, ends-here, no-outcome}
 use Rattle.port.proofs.Laws.Scans.{never, same-tests, front-test, state-test, counts-in}
 use Rattle.port.proofs.Laws.Tables.{any-either}
 use Rattle.port.proofs.Laws.Walks.{requests-in, plans-in}
@@ -41,6 +41,34 @@ good-entry xs at {word} e h =
     let small : u64Of ys < 65536 = omega (arith, few, e) in
     let packets : word ≡ u16Of (drop 12 (drop at xs)) = e ∙ sym (ends-here ys small) ∙ field u16Of 12 at xs in
     sym (none (sym (no-outcome xs at small)) (sym (ap (λ (n : ℕ). eqb n 0 || ltb 255 n) packets) ∙ h))
+
+-- the word of a plan that is not settled, with the byte before it: below 2^24 for each slot of the ring
+pub good-packet :
+    (xs : List ℕ) (at limit size : ℕ) {word planned : ℕ} → 0 < at → size ≤ 65535 → word ≡ u64Of (drop (at - 1) xs) → planned ≡ u16Of (drop at xs)
+    → (leb (16777216 * size) word || ltb limit planned) ≡ false
+    → false ≡ isBadPlanEntry limit size (drop at xs)
+unfolding planOf isBadPlanBytes
+good-packet xs at limit size {word} {planned} some narrow ew ep h =
+    let two = neither (leb (16777216 * size) word) (ltb limit planned) h in
+    let below : word < 16777216 * size = leb-false (16777216 * size) word (two .0) in
+    let short : planned ≤ limit = ltb-false limit planned (two .1) in
+    let on : (k : ℕ) → drop (k + 1) (drop (at - 1) xs) ≡ drop k (drop at xs) =
+    λ k.
+    let same : at - 1 + (k + 1) ≡ at + k = omega arith in
+    drop-drop (k + 1) (at - 1) xs ∙ ap (λ (n : ℕ). drop n xs) same ∙ sym (drop-drop k at xs) in
+    let parts = by-plan (drop (at - 1) xs) in
+    let slot = ap u16Of (on 2) in
+    let moved = ap u16Of (on 4) in
+    let tag = ap byteOf (on 6) in
+    let in-ring : u16Of (drop 2 (drop at xs)) < size = omega (arith, parts, slot, ew) in
+    let unmoved : u16Of (drop 4 (drop at xs)) ≡ 0 = omega (arith, parts, moved, ew) in
+    let done : byteOf (drop 6 (drop at xs)) ≡ 0 = omega (arith, parts, tag, ew) in
+    let long : u16Of (drop at xs) ≤ limit = omega (arith, short, ep) in
+    sym
+    (none (le-ltb 1 (byteOf (drop 6 (drop at xs))) (omega (arith, done)))
+    (none (le-ltb limit (u16Of (drop at xs)) long)
+    (none (le-ltb (u16Of (drop at xs)) (u16Of (drop 4 (drop at xs))) (omega (arith, unmoved)))
+    (lt-leb size (u16Of (drop 2 (drop at xs))) in-ring))))
 
 -- ---- the tests that ask no entry
 
