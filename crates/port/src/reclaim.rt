@@ -2,13 +2,13 @@
 ghost use mathlib.Core.Path.{_≡_};
 ghost use mathlib.Core.Bool.{Bool, false, cond};
 ghost use mathlib.Core.List.{map};
-ghost use Prim.Native.Nat.{_+_, _≤_, _<_};
-ghost use lib.ListN.{length, getD};
+ghost use Prim.Native.Nat.{ℕ, _+_, _*_, _≤_, _<_};
+ghost use lib.ListN.{length, getD, drop};
 ghost use lib.Seq.{slice, sets};
 ghost use Rattle.session.specs.Session.{blankRequest, ringWords};
 ghost use Rattle.session.specs.Record.{isBadRecord};
 ghost use Rattle.session.specs.Reclaim.{resultWord, looked, lookedRing, plansBegin, plansEnd, closedUp, oneLess, removed, handedAnswer, handedResults, reclaimReply, lookedAgain, lookedResults, reclaimed, reclaimedRing, reclaimedResults};
-ghost use Rattle.port.specs.Layout.{layoutNumber, sessionOf, requestsIn, plansIn};
+ghost use Rattle.port.specs.Layout.{planOf, isBadPlanBytes, layoutNumber, sessionOf, requestsIn, plansIn};
 ghost use Rattle.port.specs.Calls.{reclaimedPort};
 ghost use Rattle.port.specs.Places.{requestsOf, plansOf, withRequests, withPlans, Left, Acted};
 use crate::answers::PortReclaimed;
@@ -17,11 +17,12 @@ use crate::answers::reclaim_refused;
 use crate::cancel::place_at;
 use crate::drain::packets_at;
 use crate::drain::packets_before;
-use crate::entries::plan_at;
 use crate::entries::request_at;
 use crate::load::config_at;
 use crate::load::head_at;
+use crate::numbers::byte_at;
 use crate::numbers::move_down;
+use crate::numbers::u16_at;
 use crate::poll::PollSaid;
 use crate::poll::poll_at;
 use crate::save::put_head;
@@ -30,7 +31,6 @@ use session::IsoHead;
 use session::ReclaimAnswer;
 use session::handed_answer;
 use session::is_done;
-use session::result_word;
 use session::ring_words;
 
 // The entries from `from` to `to` move down to `into`, as plain bytes: an entry in use is written as it was read. So for requests and for plans.
@@ -86,9 +86,22 @@ fn remove_at(bytes: &mut [u8], at: u16, from: usize, to: usize)
     put_head(bytes, one_less(head));
 }
 
+// The result of the plan at an offset. Its status is 0 or 1, so that it is put in its place as it stands.
+fn result_at(bytes: &[u8], at: usize) -> u64
+    requires { ⌜ (at + 7 ≤ length (now bytes)) × (isBadPlanBytes (drop at (now bytes)) ≡ false) ⌝ }
+    ensures { λ r. ⌜ r ≡ resultWord (planOf (drop at (now (bytes .entry)))) ⌝ }
+{
+    let failed = byte_at(bytes, at + 6) as u32;
+    (u16_at(bytes, at + 4) as u32 + 4_096 * u16_at(bytes, at) as u32 + 16_777_216 * failed) as u64
+}
+
 // The results of the plans from `from` to `to`, unless their request ended in an error; those behind them stay.
 fn hand_results_at(bytes: &[u8], done: bool, from: usize, to: usize, results: &mut [u64])
-    requires { ⌜ (8488 ≤ length (now bytes)) × (from ≤ to) × (to ≤ 1024) × (to ≤ from + length (now results)) ⌝ }
+    requires { ⌜ (8488 ≤ length (now bytes))
+        × (from ≤ to)
+        × (to ≤ 1024)
+        × (to ≤ from + length (now results))
+        × ((k : ℕ) → k < to → isBadPlanBytes (drop (1320 + 7 * k) (now bytes)) ≡ false) ⌝ }
     ensures { λ _. ⌜ now (results .exit)
         ≡ cond done (sets (now (results .entry)) 0 (map resultWord (slice from to (plansOf (now (bytes .entry)))))) (now (results .entry)) ⌝ }
 {
@@ -98,7 +111,7 @@ fn hand_results_at(bytes: &[u8], done: bool, from: usize, to: usize, results: &m
     let n = to - from;
     let mut at: usize = 0;
     while at < n {
-        results[at] = result_word(plan_at(bytes, 1_320 + 7 * (from + at)));
+        results[at] = result_at(bytes, 1_320 + 7 * (from + at));
         at += 1;
     }
 }

@@ -3,11 +3,13 @@
 use mathlib.Core.Path.{_≡_, refl, _∙_, sym, ap, ap₂}
 use mathlib.Core.Bool.{Bool, false}
 use mathlib.Core.List.{List, [], _∷_, _++_}
-use Prim.Native.Nat.{ℕ, _+_, _*_, _≤_, _<_}
+use Prim.Native.Nat.{ℕ, zero, suc, _+_, _*_, _≤_, _<_}
 use native.Mathlib.Omega.{arith}
 use lib.Dec.{ltb}
 use lib.ListN.{length, getD, take, drop}
 use lib.Seq.{sets, getD-drop, getD-take, drop-drop}
+use borrow.Author.Tests.{ltb-false}
+use Rattle.session.specs.Reclaim.{errorBit, resultWord}
 use Rattle.session.specs.declared.types.IsoOutcome.{IsoOutcome}
 use Rattle.session.specs.declared.types.TransferStatus.{TransferStatus}
 use Rattle.session.specs.declared.types.IsoRequest.{IsoRequest}
@@ -184,6 +186,28 @@ no-outcome xs at h =
     let same : at + 12 + 2 ≡ at + 14 = omega arith in
     no-tag (drop (at + 12) xs) h 3 4 refl
     ∙ ap (λ (l : List ℕ). isBadTagged 3 4 (taggedOf l)) (drop-drop 2 (at + 12) xs ∙ ap (λ (n : ℕ). drop n xs) same ∙ sym (drop-drop 14 at xs))
+
+-- ---- the result of a plan
+
+as-bit : (tag : ℕ) → tag ≤ 1 → 16777216 * tag ≡ errorBit (statusOf tag)
+as-bit zero h = refl
+as-bit (suc zero) h = refl
+as-bit (suc (suc n)) h = absurd (omega arith)
+
+-- a status that is of the layout stands for its own bit
+module _ (xs : List ℕ) (at : ℕ) {tag : ℕ} (et : tag ≡ byteOf (drop (at + 6) xs)) (good : isBadPlanBytes (drop at xs) ≡ false) where
+  pub status-few : tag ≤ 1
+  unfolding isBadPlanBytes
+  status-few = ltb-false 1 tag (ap (ltb 1) (et ∙ field byteOf 6 at xs) ∙ good)
+
+  pub result-is :
+      {actual planned : ℕ} → actual ≡ u16Of (drop (at + 4) xs) → planned ≡ u16Of (drop at xs)
+      → actual + 4096 * planned + 16777216 * tag ≡ resultWord (planOf (drop at xs))
+  unfolding planOf
+  result-is {actual} {planned} ea ep =
+      ap (λ (n : ℕ). actual + 4096 * planned + n) (as-bit tag status-few)
+      ∙ ap₂ (λ (m n : ℕ). m + 4096 * n + errorBit (statusOf tag)) (ea ∙ field u16Of 4 at xs) ep
+      ∙ ap (λ (n : ℕ). u16Of (drop 4 (drop at xs)) + 4096 * u16Of (drop at xs) + errorBit (statusOf n)) (et ∙ field byteOf 6 at xs)
 
 -- ---- no entry reads further than its width
 

@@ -1,18 +1,22 @@
 -- The request's plans lie among those in use, and what is handed out is what was read of them before the tables close up.
-use mathlib.Core.Path.{_≡_, refl, _∙_, ap}
-use Prim.Native.Nat.{_+_, _≤_, _<_}
+use mathlib.Core.Path.{_≡_, refl, _∙_, sym, ap}
+use mathlib.Core.Bool.{false}
+use Prim.Native.Nat.{ℕ, _+_, _*_, _≤_, _<_}
 use native.Mathlib.Omega.{arith}
-use lib.ListN.{length, getD}
+use lib.ListN.{length, getD, drop}
+use lib.Seq.{drop-drop}
 use borrow.Author.Needs.{needs}
 use Rattle.session.specs.Session.{blankRequest}
 use Rattle.session.specs.Reclaim.{plansEnd, handedAnswer}
 use Rattle.session.proofs.Laws.Record.{Sound, sound}
 use Rattle.session.proofs.Laws.Handed.{plans-in}
-use Rattle.port.specs.Layout.{sessionOf}
+use Rattle.port.specs.Layout.{isBadPlanBytes, sessionOf}
 use Rattle.port.specs.Places.{requestsOf}
 use Rattle.port.proofs.Laws.Calls.{long-enough}
 use Rattle.port.proofs.Laws.Placed.{request-there, requests-many, plans-many}
 use Rattle.port.proofs.Laws.Closing.{handed-in-place}
+use Rattle.port.proofs.Laws.Walks as InWalk
+use Rattle.port.proofs.Canonical.{plan-clear}
 use Rattle.port.proofs.reclaim.hand_out_at.Statement.{statement}
 use Rattle.port.proofs.reclaim.hand_out_at.Tie as tie
 
@@ -56,6 +60,18 @@ to-in c =
       g .all-few,
     )
 
+-- each plan before its end is in use, and so of the layout
+clear :
+    (c : tie.After-packets-at) (k : ℕ) → k < c .before .before .packets-before .result + c .packets-at .result
+    → isBadPlanBytes (drop (1320 + 7 * k) (c .before .before .before .before .before .before .before .before .args .bytes .now)) ≡ false
+clear c k h =
+    let start = (c .before .before .before .before .before .before .before .before) in
+    let xs = start .args .bytes .now in
+    let g = good start in
+    let few = plans-in (sessionOf xs) g (start .args .at) (in-use start) in
+    let used = InWalk.plans-in (sessionOf xs) (g .count-in) (g .all-few) in
+    ap isBadPlanBytes (sym (drop-drop (7 * k) 1320 xs)) ∙ plan-clear xs (start .pre .0) k (omega (arith, h, to-is c, few, used))
+
 mul-request-at : tie.Need-mul-request-at
 mul-request-at c = search needs
 
@@ -93,6 +109,7 @@ hand-results-at-requires c κs =
         c .before .before .before .packets-at .ensures .0,
         c .before .before .before .before .before .before .before .before .before .before .before .pre .3,
       ),
+      clear (c .before .before .before),
     )
 
 remove-at-requires : tie.Need-remove-at-requires

@@ -6,7 +6,6 @@ use Prim.Native.Nat.{ℕ, _+_, _-_, _≤_}
 use native.Mathlib.Omega.{arith}
 use lib.ListN.{length, set, length-set}
 use lib.Seq.{slice, sets}
-use borrow.Author.Needs.{needs}
 use borrow.Author.Tests.{not-true, not-false}
 use Rattle.session.specs.Session.{blankPlan}
 use Rattle.session.specs.Reclaim.{resultWord}
@@ -41,20 +40,19 @@ loop-holds c =
     let first : a .from + 0 ≡ a .from = omega arith in
     (omega arith, omega arith, refl, ap (λ (k : ℕ). sets (a .results .now) 0 (map resultWord (slice k (a .to) plans))) first)
 
-add-plan-at : tie.Need-add-plan-at Inv-loop μ-loop
-add-plan-at c = omega arith
+add-result-at : tie.Need-add-result-at Inv-loop μ-loop
+add-result-at c = omega arith
 
-mul-plan-at : tie.Need-mul-plan-at Inv-loop μ-loop
-mul-plan-at c = omega arith
+mul-result-at : tie.Need-mul-result-at Inv-loop μ-loop
+mul-result-at c = omega arith
 
-add-plan-at-2 : tie.Need-add-plan-at-2 Inv-loop μ-loop
-add-plan-at-2 c = omega arith
+add-result-at-2 : tie.Need-add-result-at-2 Inv-loop μ-loop
+add-result-at-2 c = omega arith
 
-plan-at-requires : tie.Need-plan-at-requires Inv-loop μ-loop
-plan-at-requires c κs = omega arith
-
-result-word-requires : tie.Need-result-word-requires Inv-loop μ-loop
-result-word-requires c κs = search needs
+result-at-requires : tie.Need-result-at-requires Inv-loop μ-loop
+result-at-requires c κs =
+    let start = c .before .before .before .before .before in
+    (omega arith, start .pre .4 (start .args .from + c .before .loop .at) (omega arith))
 
 mul-results : tie.Need-mul-results Inv-loop μ-loop
 mul-results c = omega arith
@@ -70,12 +68,12 @@ loop-less c = omega arith
 
 loop-again : tie.Need-loop-again Inv-loop μ-loop
 loop-again c =
-    let a = c .before .before .before .before .before .before .before .args in
-    let now = c .before .before .before .loop in
+    let a = c .before .before .before .before .before .before .args in
+    let now = c .before .before .loop in
     let xs = a .bytes .now in
     let i = a .from + now .at in
-    let v = c .result-word .result in
-    let word = c .result-word .ensures ∙ ap resultWord (c .before .plan-at .ensures ∙ plan-there xs i blankPlan (omega arith)) in
+    let v = c .result-at .result in
+    let word = c .result-at .ensures ∙ ap resultWord (plan-there xs i blankPlan (omega arith)) in
     let on : a .from + (now .at + 1) ≡ i + 1 = omega arith in (
       now .inv .0,
       omega arith,
@@ -109,11 +107,10 @@ hand-results-at-spec =
     returns
     sub-n
     loop-holds
-    add-plan-at
-    mul-plan-at
-    add-plan-at-2
-    plan-at-requires
-    result-word-requires
+    add-result-at
+    mul-result-at
+    add-result-at-2
+    result-at-requires
     mul-results
     slice-write-results
     add-at
