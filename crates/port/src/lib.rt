@@ -8,6 +8,7 @@ mod entries;
 mod load;
 mod marks;
 mod numbers;
+mod plain;
 mod planning;
 mod poll;
 mod reclaim;

@@ -2,7 +2,7 @@
 // numbers", 18). Only the entries in use are read, each once.
 ghost use mathlib.Core.Path.{_≡_};
 ghost use mathlib.Core.Bool.{true, false};
-ghost use Prim.Native.Nat.{_+_, _≤_, _<_};
+ghost use Prim.Native.Nat.{_+_, _-_, _*_, _≤_};
 ghost use lib.ListN.{length, drop};
 ghost use lib.Seq.{slice};
 ghost use Rattle.session.specs.Session.{packetsOf};
@@ -21,6 +21,8 @@ use crate::load::is_bad_front;
 use crate::load::reason_at;
 use crate::numbers::u16_at;
 use crate::numbers::u64_at;
+use crate::plain::are_unsettled;
+use crate::plain::plain_requests;
 use ring::iso_max_xfer_size;
 use ring::iso_ring_size;
 use session::is_bad_config;
@@ -94,34 +96,49 @@ fn requests_checked(bytes: &[u8], n: u16) -> Used
     }
 }
 
-// Most packets in flight are not settled: the last three of a plan's seven bytes, what it moved and its status, are 0. Then, and with its
-// slot in the ring, the number of the byte before the plan and of its seven is below 2^24 for each slot of the ring.
-fn is_bad_packet(bytes: &[u8], at: usize, limit: u16, slots: u16) -> bool
-    requires { ⌜ (0 < at) × (at + 7 ≤ length (now bytes)) ⌝ }
-    ensures { λ r. ⌜ r ≡ isBadPlanEntry limit slots (drop at (now (bytes .entry))) ⌝ }
+// The same, the common case first.
+fn requests_found(bytes: &[u8], n: u16) -> Used
+    requires { ⌜ (8488 ≤ length (now bytes)) × (n ≤ 64) ⌝ }
+    ensures { λ r. ⌜ (r .bad ≡ anyOf isBadRequestEntry 20 n (drop 40 (now (bytes .entry))))
+        × (r .bad ≡ false → r .packets ≡ packetsOf (slice 0 n (requestsOf (now (bytes .entry))))) ⌝ }
 {
-    let word = u64_at(bytes, at - 1);
-    if (word >= 16_777_216 * slots as u64) | (u16_at(bytes, at) > limit) {
-        return is_bad_plan_at(bytes, at) | is_bad_plan(limit, slots, plan_at(bytes, at));
+    let plain = plain_requests(bytes, n);
+    if plain.bad {
+        return requests_checked(bytes, n);
     }
-    false
+    plain
 }
 
-// Whether a plan in use is bad by either check.
-fn any_bad_plan_entry(bytes: &[u8], all: u32, limit: u16, slots: u16) -> bool
-    requires { ⌜ (8488 ≤ length (now bytes)) × (all ≤ 1024) ⌝ }
-    ensures { λ r. ⌜ r ≡ anyOf (isBadPlanEntry limit slots) 7 all (drop 1320 (now (bytes .entry))) ⌝ }
+// Whether a plan from `from` to `to` is bad by either check.
+fn any_bad_plan_entry(bytes: &[u8], from: usize, to: usize, limit: u16, slots: u16) -> bool
+    requires { ⌜ (8488 ≤ length (now bytes)) × (from ≤ to) × (to ≤ 1024) ⌝ }
+    ensures { λ r. ⌜ r ≡ anyOf (isBadPlanEntry limit slots) 7 (to - from) (drop (1320 + 7 * from) (now (bytes .entry))) ⌝ }
 {
-    let mut at: usize = 1_320;
-    let mut j: u32 = 0;
-    while j < all {
-        if is_bad_packet(bytes, at, limit, slots) {
+    let n = to - from;
+    let mut at = 1_320 + 7 * from;
+    let mut j: usize = 0;
+    while j < n {
+        if is_bad_plan_at(bytes, at) | is_bad_plan(limit, slots, plan_at(bytes, at)) {
             return true;
         }
         at += 7;
         j += 1;
     }
     false
+}
+
+// Whether a plan in use is bad by either check, where the pending ones begin at `from`. Those are seldom settled.
+fn any_bad_in_use(bytes: &[u8], from: usize, all: usize, limit: u16, slots: u16) -> bool
+    requires { ⌜ (8488 ≤ length (now bytes)) × (from ≤ all) × (all ≤ 1024) ⌝ }
+    ensures { λ r. ⌜ r ≡ anyOf (isBadPlanEntry limit slots) 7 all (drop 1320 (now (bytes .entry))) ⌝ }
+{
+    if any_bad_plan_entry(bytes, 0, from, limit, slots) {
+        return true;
+    }
+    if are_unsettled(bytes, from, all, limit, slots) {
+        return false;
+    }
+    any_bad_plan_entry(bytes, from, all, limit, slots)
 }
 
 // Both checks of a session's bytes, of the layout and of the record, and the packets counted where both are passed. An idle session has
@@ -144,17 +161,17 @@ pub(crate) fn sums_at(bytes: &[u8]) -> RequestSums
     if head.count == 0 {
         return good_sums(0, 0);
     }
-    let used = requests_checked(bytes, head.count);
+    let used = requests_found(bytes, head.count);
     if used.bad {
         return bad_sums();
     }
-    let pending = used.packets - packets_before(bytes, head.done);
+    let before = packets_before(bytes, head.done);
+    let pending = used.packets - before;
     if (used.packets > 1_024) | is_over_room(cfg, pending as u64) {
         return bad_sums();
     }
-    let all = used.packets as u32;
-    if any_bad_plan_entry(bytes, all, iso_max_xfer_size(speed), slots) {
+    if any_bad_in_use(bytes, before, used.packets, iso_max_xfer_size(speed), slots) {
         return bad_sums();
     }
-    good_sums(all, pending as u32)
+    good_sums(used.packets as u32, pending as u32)
 }

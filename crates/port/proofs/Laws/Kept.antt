@@ -49,11 +49,11 @@ u16-low : (xs : List ℕ) → u16Of xs ≡ byteOf xs + 256 * byteOf (drop 1 xs)
 unfolding u16Of byteOf
 u16-low xs = ap (λ (n : ℕ). getD xs 0 0 + 256 * n) (sym (getD-drop 1 xs 0 0))
 
-byte-small : (xs : List ℕ) → Octets xs → byteOf xs < 256
+pub byte-small : (xs : List ℕ) → Octets xs → byteOf xs < 256
 unfolding byteOf
 byte-small xs h = h 0
 
-u16-small : (xs : List ℕ) → Octets xs → u16Of xs < 65536
+pub u16-small : (xs : List ℕ) → Octets xs → u16Of xs < 65536
 u16-small xs h = omega (arith, u16-low xs, byte-small xs h, byte-small (drop 1 xs) (octets-drop 1 xs h))
 
 pub u16-kept : (xs : List ℕ) → Octets xs → 2 ≤ length xs → u16Bytes (u16Of xs) ≡ take 2 xs
@@ -121,7 +121,7 @@ triple-kept tag p q r k e =
     (λ (b : k ≡ 1 → ⊥). split (λ (n : ℕ). tag n ≡ n) k 2 r
     (λ (c : k ≡ 2 → ⊥). absurd (omega (arith, ltb-false 2 k e, a, b, c)))))
 
-both : (a b : Bool) → (a && b) ≡ true → (a ≡ true) × (b ≡ true)
+pub both : (a b : Bool) → (a && b) ≡ true → (a ≡ true) × (b ≡ true)
 both true b e = (refl, e)
 both false b e = let z : _≡_ {A = ℕ} 0 1 = cc in absurd (omega arith)
 

@@ -2,12 +2,12 @@
 use mathlib.Core.Path.{_≡_, refl, _∙_, sym, ap, ap₂}
 use mathlib.Core.Bool.{Bool, true, false, not, _||_, _&&_, or-assoc}
 use mathlib.Core.List.{List}
-use Prim.Native.Nat.{ℕ, _+_, _-_, _*_, _≤_, _<_}
+use Prim.Native.Nat.{ℕ, _+_, _*_, _/_, _%_, _^_, _≤_, _<_}
 use native.Mathlib.Omega.{arith}
 use lib.Dec.{eqb, leb, ltb}
 use lib.ListN.{drop}
 use lib.Seq.{slice, drop-drop}
-use borrow.Author.Tests.{leb-false, ltb-false, le-ltb, lt-leb}
+use borrow.Author.Tests.{ltb-false, le-ltb, lt-leb, ne-eqb}
 use Rattle.words.proofs.Laws.Tests.{neither}
 use Rattle.ring.specs.RingSums.{packetLimit}
 use Rattle.session.specs.declared.types.IsoConfig.{IsoConfig}
@@ -24,6 +24,7 @@ use Rattle.port.specs.Layout.{requestOf, planOf, anyOf, isBadRequestByte
 use Rattle.port.specs.Layout.{requestsIn, plansIn}
 use Rattle.port.specs.Scan.{isBadRequestEntry, isBadPlanEntry, isUnsound, Sounded}
 use Rattle.port.proofs.Laws.Entries.{field, by-plan, ends-here, no-outcome}
+use Rattle.port.proofs.Laws.Kept.{Octets, octets-drop, byte-small, u16-small}
 use Rattle.port.proofs.Laws.Scans.{never, same-tests, front-test, state-test, counts-in}
 use Rattle.port.proofs.Laws.Tables.{any-either}
 use Rattle.port.proofs.Laws.Walks.{requests-in, plans-in}
@@ -42,33 +43,43 @@ good-entry xs at {word} e h =
     let packets : word ≡ u16Of (drop 12 (drop at xs)) = e ∙ sym (ends-here ys small) ∙ field u16Of 12 at xs in
     sym (none (sym (no-outcome xs at small)) (sym (ap (λ (n : ℕ). eqb n 0 || ltb 255 n) packets) ∙ h))
 
+-- the same of the word less 1, which wraps where it is 0
+pub plain-entry :
+    (xs : List ℕ) (at : ℕ) {word less : ℕ} → word ≡ u64Of (drop (at + 12) xs) → (less + 1) % 2 ^ 64 ≡ word → less ≤ 254
+    → false ≡ isBadRequestEntry (drop at xs)
+plain-entry xs at {word} {less} e wraps few =
+    let some : word ≡ less + 1 = omega arith in
+    good-entry xs at e (none (ne-eqb word 0 (λ z. omega arith)) (le-ltb 255 word (omega arith)))
+
 -- the word of a plan that is not settled, with the byte before it: below 2^24 for each slot of the ring
 pub good-packet :
-    (xs : List ℕ) (at limit size : ℕ) {word planned : ℕ} → 0 < at → size ≤ 65535 → word ≡ u64Of (drop (at - 1) xs) → planned ≡ u16Of (drop at xs)
-    → (leb (16777216 * size) word || ltb limit planned) ≡ false
-    → false ≡ isBadPlanEntry limit size (drop at xs)
+    (xs : List ℕ) → Octets xs → (at limit size : ℕ) {word : ℕ} → size ≤ 65535 → word ≡ u64Of (drop at xs) → word < 16777216 * size
+    → word / 256 % 65536 ≤ limit
+    → false ≡ isBadPlanEntry limit size (drop (at + 1) xs)
 unfolding planOf isBadPlanBytes
-good-packet xs at limit size {word} {planned} some narrow ew ep h =
-    let two = neither (leb (16777216 * size) word) (ltb limit planned) h in
-    let below : word < 16777216 * size = leb-false (16777216 * size) word (two .0) in
-    let short : planned ≤ limit = ltb-false limit planned (two .1) in
-    let on : (k : ℕ) → drop (k + 1) (drop (at - 1) xs) ≡ drop k (drop at xs) =
+good-packet xs octets at limit size {word} narrow ew below short =
+    let ys : List ℕ = drop at xs in
+    let zs : List ℕ = drop (at + 1) xs in
+    let on : (k : ℕ) → drop (1 + k) ys ≡ drop k zs =
     λ k.
-    let same : at - 1 + (k + 1) ≡ at + k = omega arith in
-    drop-drop (k + 1) (at - 1) xs ∙ ap (λ (n : ℕ). drop n xs) same ∙ sym (drop-drop k at xs) in
-    let parts = by-plan (drop (at - 1) xs) in
+    let same : at + (1 + k) ≡ at + 1 + k = omega arith in
+    drop-drop (1 + k) at xs ∙ ap (λ (n : ℕ). drop n xs) same ∙ sym (drop-drop k (at + 1) xs) in
+    let parts = by-plan ys in
+    let few : byteOf ys < 256 = byte-small ys (octets-drop at xs octets) in
+    let narrow-length : u16Of (drop 1 ys) < 65536 = u16-small (drop 1 ys) (octets-drop 1 ys (octets-drop at xs octets)) in
+    let length-is : u16Of (drop 1 ys) ≡ word / 256 % 65536 = omega (arith, parts, ew, few, narrow-length) in
+    let planned = ap u16Of (drop-drop 1 at xs) in
     let slot = ap u16Of (on 2) in
     let moved = ap u16Of (on 4) in
     let tag = ap byteOf (on 6) in
-    let in-ring : u16Of (drop 2 (drop at xs)) < size = omega (arith, parts, slot, ew) in
-    let unmoved : u16Of (drop 4 (drop at xs)) ≡ 0 = omega (arith, parts, moved, ew) in
-    let done : byteOf (drop 6 (drop at xs)) ≡ 0 = omega (arith, parts, tag, ew) in
-    let long : u16Of (drop at xs) ≤ limit = omega (arith, short, ep) in
+    let in-ring : u16Of (drop 2 zs) < size = omega (arith, parts, slot, ew, below) in
+    let unmoved : u16Of (drop 4 zs) ≡ 0 = omega (arith, parts, moved, ew, below) in
+    let done : byteOf (drop 6 zs) ≡ 0 = omega (arith, parts, tag, ew, below) in
+    let long : u16Of zs ≤ limit = omega (arith, short, planned, length-is) in
     sym
-    (none (le-ltb 1 (byteOf (drop 6 (drop at xs))) (omega (arith, done)))
-    (none (le-ltb limit (u16Of (drop at xs)) long)
-    (none (le-ltb (u16Of (drop at xs)) (u16Of (drop 4 (drop at xs))) (omega (arith, unmoved)))
-    (lt-leb size (u16Of (drop 2 (drop at xs))) in-ring))))
+    (none (le-ltb 1 (byteOf (drop 6 zs)) (omega (arith, done)))
+    (none (le-ltb limit (u16Of zs) long)
+    (none (le-ltb (u16Of zs) (u16Of (drop 4 zs)) (omega (arith, unmoved))) (lt-leb size (u16Of (drop 2 zs)) in-ring))))
 
 -- ---- the tests that ask no entry
 

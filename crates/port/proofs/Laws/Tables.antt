@@ -1,6 +1,6 @@
 -- Tables of entries: one turn and the end of a walk that reads, tests or writes them.
 use mathlib.Core.Path.{_≡_, refl, _∙_, sym, ap, ap₂, subst}
-use mathlib.Core.Bool.{Bool, true, false, _||_}
+use mathlib.Core.Bool.{Bool, true, false, _||_, or-assoc}
 use mathlib.Core.List.{List, [], _∷_, _++_, append-assoc}
 use Prim.Native.Nat.{ℕ, zero, suc, _+_, _-_, _*_, _≤_, _<_}
 use native.Mathlib.Numerals.{add-one}
@@ -58,6 +58,22 @@ module _ (bad : List ℕ → Bool) (w : ℕ) where
   pub any-end : (n i : ℕ) (xs : List ℕ) → n ≤ i → false ≡ anyOf bad w (n - i) xs
   unfolding anyOf
   any-end n i xs h = let none : n - i ≡ 0 = omega arith in sym (ap (λ (k : ℕ). anyOf bad w k xs) none)
+
+  -- those of a first part, and those behind it
+  pub any-split : (m n at : ℕ) (xs : List ℕ) → anyOf bad w (m + n) (drop at xs) ≡ (anyOf bad w m (drop at xs) || anyOf bad w n (drop (at + w * m) xs))
+  unfolding anyOf
+  any-split zero n at xs =
+      let all : 0 + n ≡ n = omega arith in
+      let here : at ≡ at + w * 0 = omega arith in
+      ap (λ (k : ℕ). anyOf bad w k (drop at xs)) all ∙ ap (λ (k : ℕ). anyOf bad w n (drop k xs)) here
+  any-split (suc m) n at xs =
+      let more : suc m + n ≡ suc (m + n) = omega arith in
+      let on : at + w + w * m ≡ at + w * suc m = omega arith in
+      ap (λ (k : ℕ). anyOf bad w k (drop at xs)) more
+      ∙ any-next (m + n) at xs
+      ∙ ap (λ (x : Bool). bad (drop at xs) || x) (any-split m n (at + w) xs)
+      ∙ sym (or-assoc (bad (drop at xs)) (anyOf bad w m (drop (at + w) xs)) (anyOf bad w n (drop (at + w + w * m) xs)))
+      ∙ ap₂ (λ (x : Bool) (k : ℕ). x || anyOf bad w n (drop k xs)) (sym (any-next m at xs)) on
 
   -- where none of some is bad, none of fewer is, and each is not
   pub any-less : (n m : ℕ) (xs : List ℕ) → m ≤ n → anyOf bad w n xs ≡ false → anyOf bad w m xs ≡ false
