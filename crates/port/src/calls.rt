@@ -132,5 +132,5 @@ pub extern "C" fn dwc2_iso_reclaim(
         return reclaim_refused(verdict.refusal);
     }
     let event = event_of(reported, unplugged, hcint);
-    reclaim_at(session, verdict.bad, id, event, ring, results)
+    reclaim_at(session, verdict, id, event, ring, results)
 }

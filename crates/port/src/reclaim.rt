@@ -5,11 +5,12 @@ ghost use mathlib.Core.List.{map};
 ghost use Prim.Native.Nat.{ℕ, _+_, _*_, _≤_, _<_};
 ghost use lib.ListN.{length, getD, drop};
 ghost use lib.Seq.{slice, sets};
-ghost use Rattle.session.specs.Session.{blankRequest, ringWords};
+ghost use Rattle.session.specs.Session.{blankRequest, ringWords, allPackets};
 ghost use Rattle.session.specs.Record.{isBadRecord};
 ghost use Rattle.session.specs.Reclaim.{resultWord, looked, lookedRing, plansBegin, plansEnd, closedUp, oneLess, removed, handedAnswer, handedResults, reclaimReply, lookedAgain, lookedResults, reclaimed, reclaimedRing, reclaimedResults};
 ghost use Rattle.port.specs.Layout.{planOf, isBadPlanBytes, layoutNumber, sessionOf, requestsIn, plansIn};
 ghost use Rattle.port.specs.Calls.{reclaimedPort};
+ghost use Rattle.port.specs.Scan.{Told};
 ghost use Rattle.port.specs.Places.{requestsOf, plansOf, withRequests, withPlans, Left, Acted};
 use crate::answers::PortReclaimed;
 use crate::answers::reclaim_port;
@@ -26,6 +27,7 @@ use crate::numbers::u16_at;
 use crate::poll::PollSaid;
 use crate::poll::poll_at;
 use crate::save::put_head;
+use crate::verdict::Verdict;
 use session::IsoEvent;
 use session::IsoHead;
 use session::ReclaimAnswer;
@@ -68,19 +70,20 @@ fn one_less(head: IsoHead) -> IsoHead
     }
 }
 
-// Takes out the request at `at` and its plans, which are those from `from` to `to`: plans first, while the requests still tell how many are in use.
-fn remove_at(bytes: &mut [u8], at: u16, from: usize, to: usize)
+// Takes out the request at `at` and its plans, which are those from `from` to `to` of `all`: plans first, while the requests still tell how
+// many are in use.
+fn remove_at(bytes: &mut [u8], at: u16, from: usize, to: usize, all: usize)
     requires { ⌜ (layoutNumber (now bytes) ≡ 0)
         × (isBadRecord (sessionOf (now bytes)) ≡ false)
         × (at < sessionOf (now bytes) .head .done)
         × (from ≡ plansBegin at (sessionOf (now bytes)))
-        × (to ≡ plansEnd at (sessionOf (now bytes))) ⌝ }
+        × (to ≡ plansEnd at (sessionOf (now bytes)))
+        × (all ≡ allPackets (sessionOf (now bytes))) ⌝ }
     ensures { λ _. ⌜ Left (now (bytes .entry)) (now (bytes .exit)) (removed at (sessionOf (now (bytes .entry)))) ⌝ }
 {
     let head = head_at(bytes);
     let count = head.count;
     let place = at as usize;
-    let all = packets_before(bytes, count);
     close_plans_at(bytes, from, to, all);
     close_requests_at(bytes, place, place + 1, count as usize);
     put_head(bytes, one_less(head));
@@ -117,11 +120,12 @@ fn hand_results_at(bytes: &[u8], done: bool, from: usize, to: usize, results: &m
 }
 
 // Hands out the completed request at `at`: what it answers, its results, and the session without it.
-fn hand_out_at(bytes: &mut [u8], at: u16, results: &mut [u64]) -> ReclaimAnswer
+fn hand_out_at(bytes: &mut [u8], at: u16, all: usize, results: &mut [u64]) -> ReclaimAnswer
     requires { ⌜ (layoutNumber (now bytes) ≡ 0)
         × (isBadRecord (sessionOf (now bytes)) ≡ false)
         × (at < sessionOf (now bytes) .head .done)
-        × (255 ≤ length (now results)) ⌝ }
+        × (255 ≤ length (now results))
+        × (all ≡ allPackets (sessionOf (now bytes))) ⌝ }
     ensures { λ r. ⌜ (r ≡ handedAnswer (getD (requestsOf (now (bytes .entry))) at blankRequest))
         × (Left (now (bytes .entry)) (now (bytes .exit)) (removed at (sessionOf (now (bytes .entry)))))
         × (now (results .exit) ≡ handedResults at (sessionOf (now (bytes .entry))) (now (results .entry))) ⌝ }
@@ -132,13 +136,16 @@ fn hand_out_at(bytes: &mut [u8], at: u16, results: &mut [u64]) -> ReclaimAnswer
     let from = packets_before(bytes, at);
     let to = from + packets_at(bytes, place);
     hand_results_at(bytes, is_done(outcome), from, to, results);
-    remove_at(bytes, at, from, to);
+    remove_at(bytes, at, from, to, all);
     handed_answer(request)
 }
 
 // Hands the request out where it is completed. What it answers goes with whether the look took the event and asks for a halt.
-fn look_again_at(bytes: &mut [u8], id: u64, results: &mut [u64]) -> ReclaimAnswer
-    requires { ⌜ (layoutNumber (now bytes) ≡ 0) × (isBadRecord (sessionOf (now bytes)) ≡ false) × (255 ≤ length (now results)) ⌝ }
+fn look_again_at(bytes: &mut [u8], id: u64, all: usize, results: &mut [u64]) -> ReclaimAnswer
+    requires { ⌜ (layoutNumber (now bytes) ≡ 0)
+        × (isBadRecord (sessionOf (now bytes)) ≡ false)
+        × (255 ≤ length (now results))
+        × (all ≡ allPackets (sessionOf (now bytes))) ⌝ }
     ensures { λ r. ⌜ ((taken halt : Bool)
         → reclaimReply r taken halt (sessionOf (now (bytes .exit)))
         ≡ lookedAgain id taken halt (sessionOf (now (bytes .entry))))
@@ -148,7 +155,7 @@ fn look_again_at(bytes: &mut [u8], id: u64, results: &mut [u64]) -> ReclaimAnswe
     let head = head_at(bytes);
     let at = place_at(bytes, head.count, id);
     if at < head.done {
-        return hand_out_at(bytes, at, results);
+        return hand_out_at(bytes, at, all, results);
     }
     if at < head.count {
         return ReclaimAnswer::NotYet;
@@ -178,13 +185,13 @@ fn look_at(bytes: &mut [u8], id: u64, event: IsoEvent, ring: &mut [u32]) -> Poll
 // Hands out the completed request with the number: its outcome and, unless that is an error, a result for each packet.
 pub(crate) fn reclaim_at(
     bytes: &mut [u8],
-    bad: bool,
+    verdict: Verdict,
     id: u64,
     event: IsoEvent,
     ring: &mut [u32],
     results: &mut [u64],
 ) -> PortReclaimed
-    requires { ⌜ (layoutNumber (now bytes) ≡ 0) × (bad ≡ isBadRecord (sessionOf (now bytes))) ⌝ }
+    requires { ⌜ (layoutNumber (now bytes) ≡ 0) × Told (now bytes) verdict ⌝ }
     ensures { λ r. ⌜ (r ≡ reclaimedPort (reclaimed (sessionOf (now (bytes .entry))) id event (now (ring .entry)) (length (now (results .entry)))))
         × (Left (now (bytes .entry)) (now (bytes .exit))
         (reclaimed (sessionOf (now (bytes .entry))) id event (now (ring .entry)) (length (now (results .entry))) .session))
@@ -195,10 +202,10 @@ pub(crate) fn reclaim_at(
     if (ring.len() < words) | (results.len() < 255) {
         return reclaim_refused(17);
     }
-    if bad {
+    if verdict.bad {
         return reclaim_refused(18);
     }
     let look = look_at(bytes, id, event, ring);
-    let answer = look_again_at(bytes, id, results);
+    let answer = look_again_at(bytes, id, verdict.all as usize, results);
     reclaim_port(answer, look.taken, look.halt)
 }

@@ -10,6 +10,7 @@ use Rattle.session.specs.declared.reply.IsoReply.{IsoReply}
 use Rattle.session.specs.declared.reply.ReclaimAnswer.{ReclaimAnswer}
 use Rattle.session.specs.declared.reply.ReclaimAnswer.the-variants.{Refused}
 use Rattle.session.specs.declared.reply.Reclaimed.{Reclaimed}
+use Rattle.session.specs.Session.{allPackets}
 use Rattle.session.specs.Record.{isBadRecord}
 use Rattle.session.specs.Reclaim.{looked, lookedRing, reclaimReply, lookedAgain, lookedResults, isShort, reclaimed, reclaimedRing, reclaimedResults}
 use Rattle.session.proofs.Laws.Record.{Sound, not-bad}
@@ -58,6 +59,9 @@ module _ (xs ring results : List ℕ) (id : ℕ) (e : IsoEvent) where
 
     pub looked-good : isBadRecord (sessionOf b) ≡ false
     looked-good = not-bad (sessionOf b) (subst⁻¹ Sound (act .bytes .holds) (looked-sound id e s ring g))
+
+    pub looked-all : allPackets (sessionOf b) ≡ allPackets s
+    looked-all = ap allPackets (act .bytes .holds) ∙ looked-in-use id e s ring g .packets
 
     pub done-in-place :
         {a : ReclaimAnswer} {c words after : List ℕ} {p : PortReclaimed} → isShort s (length ring) (length results) ≡ false → isBadRecord s ≡ false

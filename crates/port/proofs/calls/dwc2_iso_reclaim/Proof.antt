@@ -29,7 +29,7 @@ event-of-requires c κs = search needs
 reclaim-at-requires : tie.Need-reclaim-at-requires
 reclaim-at-requires c κs =
     let passed = sym (c .before .before .before .before .before .before .verdict-at .ensures .refusal) ∙ c .before .before .before .before .if1 .left in
-    (passed, c .before .before .before .before .before .before .verdict-at .ensures .bad passed)
+    (passed, c .before .before .before .before .before .before .verdict-at .ensures)
 
 same-length-2 : tie.Need-same-length-2
 same-length-2 c = search needs

@@ -119,6 +119,7 @@ remove-at-requires c κs = (
   c .before .before .before .before .before .before .before .before .before .before .before .before .before .before .before .pre .2,
   c .before .before .before .before .before .before .before .before .before .packets-before .ensures,
   to-is (c .before .before .before .before .before .before .before),
+  c .before .before .before .before .before .before .before .before .before .before .before .before .before .before .before .pre .4,
 )
 
 handed-answer-requires : tie.Need-handed-answer-requires

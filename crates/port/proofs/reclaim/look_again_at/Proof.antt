@@ -58,6 +58,7 @@ hand-out-at-requires c κs = (
   c .before .before .before .before .before .before .before .before .before .before .pre .1,
   omega (arith, c .before .before .if1 .taken, ap (λ (h : IsoHead). h .done) (head-is (c .before .before .before .before .before .before))),
   c .before .before .before .before .before .before .before .before .before .before .pre .2,
+  c .before .before .before .before .before .before .before .before .before .before .pre .3,
 )
 
 same-length : tie.Need-same-length

@@ -17,7 +17,7 @@ use Rattle.port.specs.Layout.{sessionOf}
 use Rattle.port.specs.Places.{Left}
 use Rattle.port.proofs.Canonical.{loaded-left}
 use Rattle.port.proofs.Laws.Calls.{long-enough}
-use Rattle.port.proofs.Laws.Reclaiming.{refused-in-place, looked-layout, looked-good, done-in-place}
+use Rattle.port.proofs.Laws.Reclaiming.{refused-in-place, looked-layout, looked-good, looked-all, done-in-place}
 use Rattle.port.proofs.Laws.Placed.{config-there, requests-many, plans-many}
 use Rattle.port.proofs.reclaim.reclaim_at.Statement.{statement}
 use Rattle.port.proofs.reclaim.reclaim_at.Tie as tie
@@ -81,7 +81,7 @@ same-length-2 c = search needs
 returns-2 : tie.Need-returns-2
 returns-2 c =
     let a = c .before .before .before .before .before .before .before .before .before .args in
-    let bad = sym (c .before .before .before .before .before .before .before .before .before .pre .1) ∙ c .before .if2 .taken in
+    let bad = sym (c .before .before .before .before .before .before .before .before .before .pre .1 .bad (c .before .before .before .before .before .before .before .before .before .pre .0)) ∙ c .before .if2 .taken in
     let told =
     reclaim-bad (sessionOf (a .bytes .now)) (a .id) (a .event) (a .ring .now) (a .results .now)
     (test-short (c .before .before .before) (c .before .before .if1 .left)) bad refl in
@@ -96,24 +96,28 @@ look-at-requires c κs =
     neither (ltb (length (a .ring .now)) (ringWords (s .cfg))) (ltb (length (a .results .now)) 255)
     (test-short (c .before .before .before .before) (c .before .before .before .if1 .left)) in (
       c .before .before .before .before .before .before .before .before .before .before .pre .0,
-      sym (c .before .before .before .before .before .before .before .before .before .before .pre .1) ∙ c .before .before .if2 .left,
+      sym (c .before .before .before .before .before .before .before .before .before .before .pre .1 .bad (c .before .before .before .before .before .before .before .before .before .before .pre .0)) ∙ c .before .before .if2 .left,
       ltb-false (length (a .ring .now)) (ringWords (s .cfg)) (enough .0),
     )
 
+cast-look-again-at : tie.Need-cast-look-again-at
+cast-look-again-at c = search needs
+
 look-again-at-requires : tie.Need-look-again-at-requires
 look-again-at-requires c κs =
-    let start = (c .before .before .before .before .before .before .before .before .before .before .before .before .before .before .before .before .before) in
+    let start = (c .before .before .before .before .before .before .before .before .before .before .before .before .before .before .before .before .before .before) in
     let a = start .args in
     let xs = a .bytes .now in
     let enough =
     neither (ltb (length (a .ring .now)) (ringWords (sessionOf xs .cfg))) (ltb (length (a .results .now)) 255)
-    (test-short (c .before .before .before .before .before .before .before .before .before .before .before)
-    (c .before .before .before .before .before .before .before .before .before .before .if1 .left)) in
-    let g = good start (sym (start .pre .1) ∙ c .before .before .before .before .before .before .before .before .before .if2 .left) in
-    let act = c .before .before .before .before .before .before .look-at .ensures .0 in (
+    (test-short (c .before .before .before .before .before .before .before .before .before .before .before .before)
+    (c .before .before .before .before .before .before .before .before .before .before .before .if1 .left)) in
+    let g = good start (sym (start .pre .1 .bad (start .pre .0)) ∙ c .before .before .before .before .before .before .before .before .before .before .if2 .left) in
+    let act = c .before .before .before .before .before .before .before .look-at .ensures .0 in (
       looked-layout xs (a .ring .now) (a .results .now) (a .id) (a .event) (start .pre .0) g act,
       looked-good xs (a .ring .now) (a .results .now) (a .id) (a .event) (start .pre .0) g act,
       ltb-false (length (a .results .now)) 255 (enough .1),
+      start .pre .1 .all (c .before .before .before .before .before .before .before .before .before .before .if2 .left) ∙ sym (looked-all xs (a .ring .now) (a .results .now) (a .id) (a .event) (start .pre .0) g act),
     )
 
 reclaim-port-requires : tie.Need-reclaim-port-requires
@@ -130,16 +134,16 @@ same-length-5 c = search needs
 
 returns-3 : tie.Need-returns-3
 returns-3 c =
-    let start = (c .before .before .before .before .before .before .before .before .before .before .before .before .before .before .before .before .before .before .before .before .before .before .before) in
+    let start = (c .before .before .before .before .before .before .before .before .before .before .before .before .before .before .before .before .before .before .before .before .before .before .before .before) in
     let a = start .args in
     let fine =
-    sym (start .pre .1)
-    ∙ c .before .before .before .before .before .before .before .before .before .before .before .before .before .before .before .if2 .left in
-    let look = c .before .before .before .before .before .before .before .before .before .before .before .before .look-at .ensures in
+    sym (start .pre .1 .bad (start .pre .0))
+    ∙ c .before .before .before .before .before .before .before .before .before .before .before .before .before .before .before .before .if2 .left in
+    let look = c .before .before .before .before .before .before .before .before .before .before .before .before .before .look-at .ensures in
     let again = c .before .before .before .before .before .look-again-at .ensures in
     done-in-place (a .bytes .now) (a .ring .now) (a .results .now) (a .id) (a .event) (start .pre .0) (good start fine) (look .0)
-    (test-short (c .before .before .before .before .before .before .before .before .before .before .before .before .before .before .before .before .before)
-    (c .before .before .before .before .before .before .before .before .before .before .before .before .before .before .before .before .if1 .left))
+    (test-short (c .before .before .before .before .before .before .before .before .before .before .before .before .before .before .before .before .before .before)
+    (c .before .before .before .before .before .before .before .before .before .before .before .before .before .before .before .before .before .if1 .left))
     fine (look .1) (again .0) (again .1) (again .2) (c .reclaim-port .ensures)
 
 pub reclaim-at-spec : {M : Type 1} → statement M
@@ -155,6 +159,7 @@ reclaim-at-spec =
     same-length-2
     returns-2
     look-at-requires
+    cast-look-again-at
     look-again-at-requires
     reclaim-port-requires
     same-length-3
