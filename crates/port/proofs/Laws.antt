@@ -11,6 +11,7 @@ pub mod Loaded
 pub mod Numbers
 pub mod Over
 pub mod Placed
+pub mod Plain
 pub mod Planning
 pub mod Reclaiming
 pub mod Requests

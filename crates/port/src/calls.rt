@@ -16,13 +16,14 @@ use crate::poll::recover_at;
 use crate::reclaim::reclaim_at;
 use crate::reset::reset_at;
 use crate::verdict::verdict_at;
+use crate::verdict::verdict_whole;
 use session::IsoEvent;
 
 #[no_mangle]
 pub extern "C" fn dwc2_iso_check(session: &[u8]) -> u32
     ensures { λ r. ⌜ r ≡ checkBy (now (session .entry)) ⌝ }
 {
-    let verdict = verdict_at(session);
+    let verdict = verdict_whole(session);
     if verdict.refusal != 0 {
         return verdict.refusal as u32;
     }

@@ -1,6 +1,6 @@
-// The walks of both checks in the common case: requests without an outcome but done, packets that are not settled. The bits of all entries'
-// numbers are put together without a test of each; what comes out is below none of them, so that one test of it speaks of all. Where that
-// test fails nothing is said, and each entry is looked at (`scan`).
+// Both checks of a session's bytes in the common case: high or full speed, no reason to end, requests without an outcome but done, packets in
+// flight that are not settled. Where a test fails nothing is said, and the whole walk (`scan`) decides. The bits of many entries' numbers
+// are put together without a test of each: what comes out is below none of them, so that one test of it speaks of all.
 ghost use mathlib.Core.Path.{_≡_};
 ghost use mathlib.Core.Bool.{true, false};
 ghost use Prim.Native.Nat.{_+_, _-_, _*_, _/_, _%_, _≤_};
@@ -9,11 +9,51 @@ ghost use lib.Seq.{slice};
 ghost use Rattle.session.specs.Session.{packetsOf};
 ghost use Rattle.port.specs.Layout.{anyOf};
 ghost use Rattle.port.specs.Places.{requestsOf};
-ghost use Rattle.port.specs.Scan.{isBadRequestEntry, isBadPlanEntry};
+ghost use Rattle.port.specs.Scan.{isBadRequestEntry, isBadPlanEntry, hasPlainNames, hasPlainLimits, PlainFront, Sounded};
+use crate::drain::packets_before;
 use crate::load::Used;
+use crate::load::config_at;
+use crate::load::head_at;
 use crate::numbers::u16_at;
 use crate::numbers::u64_at;
+use crate::scan::RequestSums;
+use crate::scan::any_bad_plan_entry;
+use crate::scan::bad_sums;
+use crate::scan::good_sums;
+use ring::iso_max_xfer_size;
+use ring::iso_ring_size;
+use session::IsoFatal;
+use session::is_bad_state;
+use session::is_over_room;
 use std::num::wrapping_sub_u64;
+
+// Quotients and remainders by powers of two, so that the compiler makes one mask of them.
+fn has_plain_names(word: u64) -> bool
+    ensures { λ r. ⌜ r ≡ hasPlainNames word ⌝ }
+{
+    (word % 1_099_511_627_776 == 22_239_044)
+        & ((word / 2_199_023_255_552 % 128 == 0)
+            & ((word / 562_949_953_421_312 % 128 == 0) & (word / 144_115_188_075_855_872 == 0)))
+}
+
+fn has_plain_limits(word: u64) -> bool
+    ensures { λ r. ⌜ r ≡ hasPlainLimits word ⌝ }
+{
+    (word / 134_217_728 % 32 == 0)
+        & ((word / 68_719_476_736 % 16 == 0)
+            & ((word / 140_737_488_355_328 % 2 == 0)
+                & ((word / 1_125_899_906_842_624 % 64 == 0)
+                    & (word / 144_115_188_075_855_872 == 0))))
+}
+
+// The count of requests and the six bytes of the reason behind it are a number up to 64 where there is no reason.
+fn is_plain_front(bytes: &[u8]) -> bool
+    requires { ⌜ 8488 ≤ length (now bytes) ⌝ }
+    ensures { λ r. ⌜ (r ≡ true → PlainFront (now (bytes .entry))) ⌝ }
+{
+    has_plain_names(u64_at(bytes, 0))
+        & (has_plain_limits(u64_at(bytes, 8)) & (u64_at(bytes, 32) <= 64))
+}
 
 // Below neither number, and in the place of a plan's length, bits 8 to 23, below neither length.
 fn joined(a: u64, b: u64) -> u64
@@ -23,7 +63,7 @@ fn joined(a: u64, b: u64) -> u64
 }
 
 // The count of packets and the six bytes behind it, less 1, are a number up to 254 in a request that is good and has no outcome but done.
-pub(crate) fn plain_requests(bytes: &[u8], n: u16) -> Used
+fn plain_requests(bytes: &[u8], n: u16) -> Used
     requires { ⌜ (8488 ≤ length (now bytes)) × (n ≤ 64) ⌝ }
     ensures { λ r. ⌜ (r .bad ≡ false → anyOf isBadRequestEntry 20 n (drop 40 (now (bytes .entry))) ≡ false)
         × (r .packets ≡ packetsOf (slice 0 n (requestsOf (now (bytes .entry))))) ⌝ }
@@ -46,7 +86,7 @@ pub(crate) fn plain_requests(bytes: &[u8], n: u16) -> Used
 
 // Of a plan that is not settled the last three bytes, what it moved and its status, are 0. Then, and with its slot in the ring, the number of
 // the byte before it and of its seven is below 2^24 for each slot of the ring.
-pub(crate) fn are_unsettled(bytes: &[u8], from: usize, to: usize, limit: u16, slots: u16) -> bool
+fn are_unsettled(bytes: &[u8], from: usize, to: usize, limit: u16, slots: u16) -> bool
     requires { ⌜ (8488 ≤ length (now bytes)) × (from ≤ to) × (to ≤ 1024) ⌝ }
     ensures { λ r. ⌜ (r ≡ true → anyOf (isBadPlanEntry limit slots) 7 (to - from) (drop (1320 + 7 * from) (now (bytes .entry))) ≡ false) ⌝ }
 {
@@ -60,4 +100,37 @@ pub(crate) fn are_unsettled(bytes: &[u8], from: usize, to: usize, limit: u16, sl
         j += 1;
     }
     (words < 16_777_216 * slots as u64) & (words / 256 % 65_536 <= limit as u64)
+}
+
+pub(crate) fn plain_sums(bytes: &[u8]) -> RequestSums
+    requires { ⌜ 8488 ≤ length (now bytes) ⌝ }
+    ensures { λ r. ⌜ (r .bad ≡ false → Sounded (now (bytes .entry)) r) ⌝ }
+{
+    if !is_plain_front(bytes) {
+        return bad_sums();
+    }
+    let cfg = config_at(bytes);
+    let head = head_at(bytes);
+    let speed = cfg.speed;
+    let slots = iso_ring_size(speed);
+    if (head.count < head.done) | is_bad_state(head, slots, IsoFatal::Nothing) {
+        return bad_sums();
+    }
+    if head.count == 0 {
+        return good_sums(0, 0);
+    }
+    let used = plain_requests(bytes, head.count);
+    let before = packets_before(bytes, head.done);
+    let pending = used.packets - before;
+    if used.bad | ((used.packets > 1_024) | is_over_room(cfg, pending as u64)) {
+        return bad_sums();
+    }
+    let limit = iso_max_xfer_size(speed);
+    if any_bad_plan_entry(bytes, before as u32, limit, slots) {
+        return bad_sums();
+    }
+    if are_unsettled(bytes, before, used.packets, limit, slots) {
+        return good_sums(used.packets as u32, pending as u32);
+    }
+    bad_sums()
 }

@@ -2,7 +2,7 @@
 // numbers", 18). Only the entries in use are read, each once.
 ghost use mathlib.Core.Path.{_≡_};
 ghost use mathlib.Core.Bool.{true, false};
-ghost use Prim.Native.Nat.{_+_, _-_, _*_, _≤_};
+ghost use Prim.Native.Nat.{_+_, _≤_};
 ghost use lib.ListN.{length, drop};
 ghost use lib.Seq.{slice};
 ghost use Rattle.session.specs.Session.{packetsOf};
@@ -21,8 +21,6 @@ use crate::load::is_bad_front;
 use crate::load::reason_at;
 use crate::numbers::u16_at;
 use crate::numbers::u64_at;
-use crate::plain::are_unsettled;
-use crate::plain::plain_requests;
 use ring::iso_max_xfer_size;
 use ring::iso_ring_size;
 use session::is_bad_config;
@@ -38,7 +36,7 @@ pub(crate) struct RequestSums {
     pub pending: u32,
 }
 
-fn bad_sums() -> RequestSums
+pub(crate) fn bad_sums() -> RequestSums
     ensures { λ r. ⌜ (r .bad ≡ true) × (r .all ≡ 0) × (r .pending ≡ 0) ⌝ }
 {
     RequestSums {
@@ -48,7 +46,7 @@ fn bad_sums() -> RequestSums
     }
 }
 
-fn good_sums(all: u32, pending: u32) -> RequestSums
+pub(crate) fn good_sums(all: u32, pending: u32) -> RequestSums
     ensures { λ r. ⌜ (r .bad ≡ false) × (r .all ≡ all) × (r .pending ≡ pending) ⌝ }
 {
     RequestSums {
@@ -96,28 +94,14 @@ fn requests_checked(bytes: &[u8], n: u16) -> Used
     }
 }
 
-// The same, the common case first.
-fn requests_found(bytes: &[u8], n: u16) -> Used
-    requires { ⌜ (8488 ≤ length (now bytes)) × (n ≤ 64) ⌝ }
-    ensures { λ r. ⌜ (r .bad ≡ anyOf isBadRequestEntry 20 n (drop 40 (now (bytes .entry))))
-        × (r .bad ≡ false → r .packets ≡ packetsOf (slice 0 n (requestsOf (now (bytes .entry))))) ⌝ }
+// Whether a plan in use is bad by either check.
+pub(crate) fn any_bad_plan_entry(bytes: &[u8], all: u32, limit: u16, slots: u16) -> bool
+    requires { ⌜ (8488 ≤ length (now bytes)) × (all ≤ 1024) ⌝ }
+    ensures { λ r. ⌜ r ≡ anyOf (isBadPlanEntry limit slots) 7 all (drop 1320 (now (bytes .entry))) ⌝ }
 {
-    let plain = plain_requests(bytes, n);
-    if plain.bad {
-        return requests_checked(bytes, n);
-    }
-    plain
-}
-
-// Whether a plan from `from` to `to` is bad by either check.
-fn any_bad_plan_entry(bytes: &[u8], from: usize, to: usize, limit: u16, slots: u16) -> bool
-    requires { ⌜ (8488 ≤ length (now bytes)) × (from ≤ to) × (to ≤ 1024) ⌝ }
-    ensures { λ r. ⌜ r ≡ anyOf (isBadPlanEntry limit slots) 7 (to - from) (drop (1320 + 7 * from) (now (bytes .entry))) ⌝ }
-{
-    let n = to - from;
-    let mut at = 1_320 + 7 * from;
-    let mut j: usize = 0;
-    while j < n {
+    let mut at: usize = 1_320;
+    let mut j: u32 = 0;
+    while j < all {
         if is_bad_plan_at(bytes, at) | is_bad_plan(limit, slots, plan_at(bytes, at)) {
             return true;
         }
@@ -125,20 +109,6 @@ fn any_bad_plan_entry(bytes: &[u8], from: usize, to: usize, limit: u16, slots: u
         j += 1;
     }
     false
-}
-
-// Whether a plan in use is bad by either check, where the pending ones begin at `from`. Those are seldom settled.
-fn any_bad_in_use(bytes: &[u8], from: usize, all: usize, limit: u16, slots: u16) -> bool
-    requires { ⌜ (8488 ≤ length (now bytes)) × (from ≤ all) × (all ≤ 1024) ⌝ }
-    ensures { λ r. ⌜ r ≡ anyOf (isBadPlanEntry limit slots) 7 all (drop 1320 (now (bytes .entry))) ⌝ }
-{
-    if any_bad_plan_entry(bytes, 0, from, limit, slots) {
-        return true;
-    }
-    if are_unsettled(bytes, from, all, limit, slots) {
-        return false;
-    }
-    any_bad_plan_entry(bytes, from, all, limit, slots)
 }
 
 // Both checks of a session's bytes, of the layout and of the record, and the packets counted where both are passed. An idle session has
@@ -161,17 +131,17 @@ pub(crate) fn sums_at(bytes: &[u8]) -> RequestSums
     if head.count == 0 {
         return good_sums(0, 0);
     }
-    let used = requests_found(bytes, head.count);
+    let used = requests_checked(bytes, head.count);
     if used.bad {
         return bad_sums();
     }
-    let before = packets_before(bytes, head.done);
-    let pending = used.packets - before;
+    let pending = used.packets - packets_before(bytes, head.done);
     if (used.packets > 1_024) | is_over_room(cfg, pending as u64) {
         return bad_sums();
     }
-    if any_bad_in_use(bytes, before, used.packets, iso_max_xfer_size(speed), slots) {
+    let all = used.packets as u32;
+    if any_bad_plan_entry(bytes, all, iso_max_xfer_size(speed), slots) {
         return bad_sums();
     }
-    good_sums(used.packets as u32, pending as u32)
+    good_sums(all, pending as u32)
 }

@@ -72,7 +72,7 @@ head-at xs en ea ec es ed eo = rw (en, ea, ec, es, ed, eo)
 is : {m n : ℕ} → not (eqb m n) ≡ false → m ≡ n
 is {m} {n} e = eqb-true m n (not-false (eqb m n) e)
 
-are : (m n : ℕ) → m ≡ n → not (eqb m n) ≡ false
+pub are : (m n : ℕ) → m ≡ n → not (eqb m n) ≡ false
 are m n e = ap not (eq-eqb m n e)
 
 pub bad-mark-at :

@@ -54,27 +54,27 @@ in-range c =
 
 -- the requests, and their packets
 requests-are :
-    (c : tie.After-requests-found)
+    (c : tie.After-requests-checked)
     → let xs = c .before .before .before .before .before .before .before .before .before .before .before .before .before .before .before .args .bytes .now in
-    c .requests-found .result .bad ≡ anyOf isBadRequestEntry 20 (sessionOf xs .head .count) (drop 40 xs)
+    c .requests-checked .result .bad ≡ anyOf isBadRequestEntry 20 (sessionOf xs .head .count) (drop 40 xs)
 requests-are c =
     let xs = c .before .before .before .before .before .before .before .before .before .before .before .before .before .before .before .args .bytes .now in
     let head = head-is (c .before .before .before .before .before .before .before .before .before .before) in
-    c .requests-found .ensures .0 ∙ ap (λ (h : IsoHead). anyOf isBadRequestEntry 20 (h .count) (drop 40 xs)) head
+    c .requests-checked .ensures .0 ∙ ap (λ (h : IsoHead). anyOf isBadRequestEntry 20 (h .count) (drop 40 xs)) head
 
 all-is :
     (c : tie.Else4)
     → let xs = c .before .before .before .before .before .before .before .before .before .before .before .before .before .before .before .before .args .bytes .now in
-    c .before .requests-found .result .packets ≡ allPackets (sessionOf xs)
+    c .before .requests-checked .result .packets ≡ allPackets (sessionOf xs)
 all-is c =
     let xs = c .before .before .before .before .before .before .before .before .before .before .before .before .before .before .before .before .args .bytes .now in
     let head = head-is (c .before .before .before .before .before .before .before .before .before .before .before) in
-    c .before .requests-found .ensures .1 (c .if4 .left) ∙ ap (λ (h : IsoHead). packetsOf (slice 0 (h .count) (sessionOf xs .requests))) head
+    c .before .requests-checked .ensures .1 (c .if4 .left) ∙ ap (λ (h : IsoHead). packetsOf (slice 0 (h .count) (sessionOf xs .requests))) head
 
 split :
     (c : tie.After-packets-before)
     → let xs = c .before .before .before .before .before .before .before .before .before .before .before .before .before .before .before .before .before .args .bytes .now in
-    c .before .before .requests-found .result .packets ≡ c .packets-before .result + pendingPackets (sessionOf xs)
+    c .before .before .requests-checked .result .packets ≡ c .packets-before .result + pendingPackets (sessionOf xs)
 split c =
     let xs = c .before .before .before .before .before .before .before .before .before .before .before .before .before .before .before .before .before .args .bytes .now in
     let s = sessionOf xs in
@@ -88,13 +88,13 @@ split c =
 pending-is :
     (c : tie.After-packets-before)
     → let xs = c .before .before .before .before .before .before .before .before .before .before .before .before .before .before .before .before .before .args .bytes .now in
-    c .before .before .requests-found .result .packets - c .packets-before .result ≡ pendingPackets (sessionOf xs)
+    c .before .before .requests-checked .result .packets - c .packets-before .result ≡ pendingPackets (sessionOf xs)
 pending-is c = omega (arith, split c)
 
 sums-are :
     (c : tie.After-is-over-room)
     → let xs = c .before .before .before .before .before .before .before .before .before .before .before .before .before .before .before .before .before .before .before .before .args .bytes .now in
-    (ltb 1024 (c .before .before .before .before .before .requests-found .result .packets) || c .is-over-room .result) ≡ isBadSums (sessionOf xs)
+    (ltb 1024 (c .before .before .before .before .before .requests-checked .result .packets) || c .is-over-room .result) ≡ isBadSums (sessionOf xs)
 sums-are c =
     let xs = c .before .before .before .before .before .before .before .before .before .before .before .before .before .before .before .before .before .before .before .before .args .bytes .now in
     let config = config-is (c .before .before .before .before .before .before .before .before .before .before .before .before .before .before .before .before) in
@@ -106,29 +106,29 @@ sums :
     isBadSums (sessionOf xs) ≡ false
 sums c = sym (sums-are (c .before)) ∙ c .if5 .left
 
-few : (c : tie.Else5) → c .before .before .before .before .before .before .requests-found .result .packets ≤ 1024
+few : (c : tie.Else5) → c .before .before .before .before .before .before .requests-checked .result .packets ≤ 1024
 few c =
     let xs = c .before .before .before .before .before .before .before .before .before .before .before .before .before .before .before .before .before .before .before .before .before .args .bytes .now in
     subst⁻¹ (λ (n : ℕ). n ≤ 1024) (all-is (c .before .before .before .before .before)) (sums-few (sessionOf xs) (sums c))
 
 -- the plans, which decide
 plans-are :
-    (c : tie.After-any-bad-in-use)
-    → let xs = c .before .before .before .before .before .before .before .before .before .before .before .before .before .before .before .before .before .before .before .before .before .before .before .args .bytes .now in
-    c .any-bad-in-use .result ≡ isUnsound xs
+    (c : tie.After-any-bad-plan-entry)
+    → let xs = c .before .before .before .before .before .before .before .before .before .before .before .before .before .before .before .before .before .before .before .before .before .before .before .before .args .bytes .now in
+    c .any-bad-plan-entry .result ≡ isUnsound xs
 plans-are c =
-    let xs = c .before .before .before .before .before .before .before .before .before .before .before .before .before .before .before .before .before .before .before .before .before .before .before .args .bytes .now in
+    let xs = c .before .before .before .before .before .before .before .before .before .before .before .before .before .before .before .before .before .before .before .before .before .before .before .before .args .bytes .now in
     let s = sessionOf xs in
-    let config = config-is (c .before .before .before .before .before .before .before .before .before .before .before .before .before .before .before .before .before .before .before) in
+    let config = config-is (c .before .before .before .before .before .before .before .before .before .before .before .before .before .before .before .before .before .before .before .before) in
     let limit = c .before .iso-max-xfer-size .ensures ∙ ap (λ (k : IsoConfig). packetLimit (k .speed)) config in
-    let size = c .before .before .before .before .before .before .before .before .before .before .before .before .before .before .before .before .before .iso-ring-size .ensures ∙ ap slots config in
-    let front = before (c .before .before .before .before .before .before .before .before .before .before .before .before .before .before .before .before .before .before .before .before) in
-    let used = c .before .before .before .before .before .before .before .before .requests-found .result in
-    let requests = sym (requests-are (c .before .before .before .before .before .before .before .before)) ∙ c .before .before .before .before .before .before .before .if4 .left in
-    c .any-bad-in-use .ensures
+    let size = c .before .before .before .before .before .before .before .before .before .before .before .before .before .before .before .before .before .before .iso-ring-size .ensures ∙ ap slots config in
+    let front = before (c .before .before .before .before .before .before .before .before .before .before .before .before .before .before .before .before .before .before .before .before .before) in
+    let used = c .before .before .before .before .before .before .before .before .before .requests-checked .result in
+    let requests = sym (requests-are (c .before .before .before .before .before .before .before .before .before)) ∙ c .before .before .before .before .before .before .before .before .if4 .left in
+    c .any-bad-plan-entry .ensures
     ∙ ap₂ (λ (l z : ℕ). anyOf (isBadPlanEntry l z) 7 (used .packets) (drop 1320 xs)) limit size
-    ∙ ap (λ (n : ℕ). anyOf (isBadPlanEntry (packetLimit (s .cfg .speed)) (slots (s .cfg))) 7 n (drop 1320 xs)) (all-is (c .before .before .before .before .before .before .before))
-    ∙ sym (by-plans xs (numbers (c .before .before .before .before .before .before .before .before .before .before .before)) front requests (sums (c .before .before)))
+    ∙ ap (λ (n : ℕ). anyOf (isBadPlanEntry (packetLimit (s .cfg .speed)) (slots (s .cfg))) 7 n (drop 1320 xs)) (all-is (c .before .before .before .before .before .before .before .before))
+    ∙ sym (by-plans xs (numbers (c .before .before .before .before .before .before .before .before .before .before .before .before)) front requests (sums (c .before .before .before)))
 
 is-bad-front-requires : tie.Need-is-bad-front-requires
 is-bad-front-requires c κs = search needs
@@ -178,8 +178,8 @@ returns-3 c =
     let idle = sym (ap (λ (h : IsoHead). h .count) head) ∙ c .before .if3 .taken in
     good-sounded xs (c .good-sums .result) (c .good-sums .ensures) (idle-all xs idle) (idle-pending xs idle) (idle-good xs idle (numbers (c .before .before .before)) front)
 
-requests-found-requires : tie.Need-requests-found-requires
-requests-found-requires c κs = (c .before .before .before .before .before .before .before .before .before .before .before .before .before .before .pre, in-range (c .before .before) .1)
+requests-checked-requires : tie.Need-requests-checked-requires
+requests-checked-requires c κs = (c .before .before .before .before .before .before .before .before .before .before .before .before .before .before .pre, in-range (c .before .before) .1)
 
 bad-sums-requires-3 : tie.Need-bad-sums-requires-3
 bad-sums-requires-3 c κs = search needs
@@ -207,25 +207,25 @@ returns-5 c =
     let xs = c .before .before .before .before .before .before .before .before .before .before .before .before .before .before .before .before .before .before .before .before .before .before .args .bytes .now in
     bad-sounded xs (c .bad-sums4 .result) (c .bad-sums4 .ensures .0) (bad-sums xs (sym (sums-are (c .before .before)) ∙ c .before .if5 .taken))
 
+cast-all : tie.Need-cast-all
+cast-all c = omega (arith, few (c .before))
+
 iso-max-xfer-size-requires : tie.Need-iso-max-xfer-size-requires
 iso-max-xfer-size-requires c κs = search needs
 
-any-bad-in-use-requires : tie.Need-any-bad-in-use-requires
-any-bad-in-use-requires c κs = (c .before .before .before .before .before .before .before .before .before .before .before .before .before .before .before .before .before .before .before .before .before .before .pre, omega (arith, split (c .before .before .before .before .before)), few (c .before))
+any-bad-plan-entry-requires : tie.Need-any-bad-plan-entry-requires
+any-bad-plan-entry-requires c κs = (c .before .before .before .before .before .before .before .before .before .before .before .before .before .before .before .before .before .before .before .before .before .before .before .pre, few (c .before .before))
 
 bad-sums-requires-5 : tie.Need-bad-sums-requires-5
 bad-sums-requires-5 c κs = search needs
 
 returns-6 : tie.Need-returns-6
 returns-6 c =
-    let xs = c .before .before .before .before .before .before .before .before .before .before .before .before .before .before .before .before .before .before .before .before .before .before .before .before .before .args .bytes .now in
+    let xs = c .before .before .before .before .before .before .before .before .before .before .before .before .before .before .before .before .before .before .before .before .before .before .before .before .before .before .args .bytes .now in
     bad-sounded xs (c .bad-sums5 .result) (c .bad-sums5 .ensures .0) (sym (plans-are (c .before .before)) ∙ c .before .if6 .taken)
 
 cast-good-sums : tie.Need-cast-good-sums
 cast-good-sums c = omega (arith, few (c .before .before .before .before))
-
-cast-good-sums-2 : tie.Need-cast-good-sums-2
-cast-good-sums-2 c = omega (arith, few (c .before .before .before .before))
 
 good-sums-requires-2 : tie.Need-good-sums-requires-2
 good-sums-requires-2 c κs = search needs
@@ -235,7 +235,7 @@ returns-7 c =
     let xs = c .before .before .before .before .before .before .before .before .before .before .before .before .before .before .before .before .before .before .before .before .before .before .before .before .before .before .args .bytes .now in
     let all = all-is (c .before .before .before .before .before .before .before .before .before .before) in
     let pending = pending-is (c .before .before .before .before .before .before .before .before .before) in
-    good-sounded xs (c .good-sums2 .result) (c .good-sums2 .ensures) all pending (sym (plans-are (c .before .before .before)) ∙ c .before .before .if6 .left)
+    good-sounded xs (c .good-sums2 .result) (c .good-sums2 .ensures) all pending (sym (plans-are (c .before .before)) ∙ c .before .if6 .left)
 
 pub sums-at-spec : {M : Type 1} → statement M
 sums-at-spec =
@@ -254,7 +254,7 @@ sums-at-spec =
     returns-2
     good-sums-requires
     returns-3
-    requests-found-requires
+    requests-checked-requires
     bad-sums-requires-3
     returns-4
     packets-before-requires
@@ -262,11 +262,11 @@ sums-at-spec =
     is-over-room-requires
     bad-sums-requires-4
     returns-5
+    cast-all
     iso-max-xfer-size-requires
-    any-bad-in-use-requires
+    any-bad-plan-entry-requires
     bad-sums-requires-5
     returns-6
     cast-good-sums
-    cast-good-sums-2
     good-sums-requires-2
     returns-7)
