@@ -7,11 +7,13 @@ use Rattle.words.proofs.Unique.{Unique, equal, equal-lent, equal-both, equal-al
 use Rattle.session.proofs.types.IsoChannelState as functions
 use Rattle.session.proofs.end
 use Rattle.session.proofs.open
+use Rattle.session.proofs.place
 use Rattle.session.proofs.poll
 use Rattle.session.proofs.reclaim
 use Rattle.session.proofs.record
 use Rattle.session.proofs.submit
 use Rattle.session.proofs.tables
+use Rattle.session.proofs.way
 
 pub open-unique : Unique 1 functions.open.Kinds.ps functions.open.Kinds.r functions.open.Reads.Post
 open-unique κs a x y u v = equal-both (λ (words : List ℕ). (tt, (words, tt)))
@@ -57,9 +59,6 @@ has-reason-unique κs a x y u v = equal refl
 pub is-bad-state-unique : Unique 0 record.is_bad_state.Kinds.ps record.is_bad_state.Kinds.r record.is_bad_state.Reads.Post
 is-bad-state-unique κs a x y u v = equal refl
 
-pub bad-scan-unique : Unique 0 record.bad_scan.Kinds.ps record.bad_scan.Kinds.r record.bad_scan.Reads.Post
-bad-scan-unique κs a x y u v = equal refl
-
 pub ring-words-unique : Unique 0 open.ring_words.Kinds.ps open.ring_words.Kinds.r open.ring_words.Reads.Post
 ring-words-unique κs a x y u v p q = equal refl (p .0) (q .0)
 
@@ -80,6 +79,15 @@ handed-answer-unique κs a x y u v = equal refl
 
 pub rest-unique : Unique 0 tables.rest.Kinds.ps tables.rest.Kinds.r tables.rest.Reads.Post
 rest-unique κs a x y u v = equal refl
+
+pub insert-of-unique : Unique 1 place.insert_of.Kinds.ps place.insert_of.Kinds.r place.insert_of.Reads.Post
+insert-of-unique κs a x y u v = equal refl
+
+pub is-guarded-unique : Unique 0 way.is_guarded.Kinds.ps way.is_guarded.Kinds.r way.is_guarded.Reads.Post
+is-guarded-unique κs a x y u v = equal refl
+
+pub clash-unique : Unique 1 way.clash.Kinds.ps way.clash.Kinds.r way.clash.Reads.Post
+clash-unique κs a x y u v = equal refl
 
 pub clear-first-unique : Unique 1 open.clear_first.Kinds.ps open.clear_first.Kinds.r open.clear_first.Reads.Post
 clear-first-unique κs a x y u v = equal-lent (λ (words : List ℕ). (words, (tt, tt)))

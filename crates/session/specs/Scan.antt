@@ -3,8 +3,8 @@
 use mathlib.Core.Path.{_≡_}
 use mathlib.Core.Bool.{Bool, true, false}
 use mathlib.Core.List.{List, []}
-use Prim.Native.Nat.{ℕ, _+_, _<_}
-use lib.ListN.{getD, replicate, take}
+use Prim.Native.Nat.{ℕ, _+_, _≤_, _<_}
+use lib.ListN.{length, getD, replicate, take}
 use Rattle.ring.specs.RingSums.{nextNumber}
 use Rattle.session.specs.declared.types.IsoConfig.{IsoConfig}
 use Rattle.session.specs.declared.types.IsoHead.{IsoHead}
@@ -15,13 +15,14 @@ use Rattle.session.specs.declared.types.IsoPacketPlan.{IsoPacketPlan}
 use Rattle.session.specs.declared.types.IsoChannelState.{IsoChannelState}
 use Rattle.session.specs.declared.record.RecordScan.{RecordScan}
 use Rattle.session.specs.declared.transfer.IsoTransfer.{IsoTransfer}
+use Rattle.session.specs.declared.transfer.SubmitScan.{SubmitScan}
 use Rattle.session.specs.declared.transfer.SubmitWay.{SubmitWay}
 use Rattle.session.specs.declared.transfer.SubmitWay.the-variants.{Refuse, TooLong, Spend, Early, Cut, Late, Accept}
 use Rattle.session.specs.Session.{slots, ringWords, cleared, allPackets, pendingPackets}
 use Rattle.session.specs.Record.{isBadRecord}
 use Rattle.ring.specs.Stores.{stored, storesFrom}
-use Rattle.session.specs.Place.{stepOf, startAt, tailSlot}
-use Rattle.session.specs.Way.{isHeld, pendingPlans}
+use Rattle.session.specs.Place.{stepOf, startAt, tailSlot, insertOf}
+use Rattle.session.specs.Way.{isHeld, pendingPlans, isClash}
 use Rattle.session.specs.Submit.{spent, unplugged}
 
 -- a session by its parts, and one of which only the configuration and the numbers are read
@@ -45,6 +46,17 @@ pub record Walked (s : IsoChannelState) (r : RecordScan) : Type 0 where
 pub record Scanned (s : IsoChannelState) (r : RecordScan) : Type 0 where
   pub bad : r .bad ≡ isBadRecord s
   pub found : isBadRecord s ≡ false → Walked s r
+
+-- what a submission asks of a good record; more than 255 packets are refused before 13 is asked
+pub record Found (s : IsoChannelState) (t : IsoTransfer) (lengths ring : List ℕ) (r : SubmitScan) : Type 0 where
+  pub all : r .all ≡ allPackets s
+  pub pending : r .pending ≡ pendingPackets s
+  pub insert : r .insert ≡ insertOf s t ring
+  pub clash : length lengths ≤ 255 → r .clash ≡ isClash s t ring (length lengths)
+
+pub record Asked (s : IsoChannelState) (t : IsoTransfer) (lengths ring : List ℕ) (r : SubmitScan) : Type 0 where
+  pub bad : r .bad ≡ isBadRecord s
+  pub found : isBadRecord s ≡ false → Found s t lengths ring r
 
 -- the ways that pass every refusal before the gates
 abbrev pub isGate : SubmitWay → Bool

@@ -3,7 +3,7 @@ use mathlib.Core.Bool.{Bool, true, false, not, _||_, _&&_, cond}
 use mathlib.Core.List.{List, [], _∷_}
 use Prim.Native.Nat.{ℕ, suc, _+_, _-_, _*_}
 use lib.Dec.{eqb, ltb}
-use lib.ListN.{length}
+use lib.ListN.{length, getD}
 use lib.Seq.{slice}
 use Rattle.words.specs.Words.{isBeyond}
 use Rattle.ring.specs.declared.speed.Speed.{Speed}
@@ -46,6 +46,11 @@ isHeld (p ∷ ps) slot = eqb (p .«desc_index») slot || isHeld ps slot
 abbrev pub anyHeld : List IsoPacketPlan → List ℕ → Bool
 anyHeld ps [] = false
 anyHeld ps (slot ∷ rest) = isHeld ps slot || anyHeld ps rest
+
+-- the same where a table has a mark for each slot
+abbrev pub anyMarked : List Bool → List ℕ → Bool
+anyMarked held [] = false
+anyMarked held (slot ∷ rest) = getD held slot false || anyMarked held rest
 
 abbrev pub pendingPlans : IsoChannelState → List IsoPacketPlan
 pendingPlans s = slice (allPackets s - pendingPackets s) (allPackets s) (s .plans)

@@ -57,7 +57,7 @@ fn target_of(cfg: IsoConfig, transfer: IsoTransfer) -> u16
 
 // While the newest packet in flight is still the controller's, the next one follows it without a gap; else the first slot ahead of
 // the controller that the channel visits. `tail` is that packet's slot.
-pub(crate) fn insert_of(
+pub fn insert_of(
     cfg: IsoConfig,
     head: IsoHead,
     transfer: IsoTransfer,

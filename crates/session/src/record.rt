@@ -24,7 +24,7 @@ use ring::iso_ring_size;
 
 // What one walk finds: whether the record is bad, and where it is not, the packets of all requests and of the pending ones, the
 // newest packet's slot, and a yes for each slot below 256 that a pending packet has.
-pub struct RecordScan {
+pub(crate) struct RecordScan {
     pub bad: bool,
     pub all: u32,
     pub pending: u32,
@@ -98,7 +98,7 @@ fn wide_from(done: u16, at: u16, packets: u16) -> u32
 }
 
 // Where a record is bad the rest is not read.
-pub fn bad_scan() -> RecordScan
+fn bad_scan() -> RecordScan
     ensures { λ r. ⌜ r ≡ badScan ⌝ }
 {
     RecordScan {

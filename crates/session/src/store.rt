@@ -1,12 +1,9 @@
 // The tests of a submission that walk its packets.
 ghost use mathlib.Core.Path.{_≡_};
-ghost use mathlib.Core.Bool.{false};
-ghost use mathlib.Core.List.{List};
-ghost use Prim.Native.Nat.{ℕ, _≤_, _<_};
-ghost use lib.ListN.{length, getD};
+ghost use Prim.Native.Nat.{_≤_, _<_};
+ghost use lib.ListN.{length};
 ghost use Rattle.ring.specs.RingSums.{slotsFrom};
-ghost use Rattle.session.specs.declared.types.IsoPacketPlan.{IsoPacketPlan};
-ghost use Rattle.session.specs.Way.{sum, firstLong, isHeld, anyHeld};
+ghost use Rattle.session.specs.Way.{sum, firstLong, anyMarked};
 use ring::next_slot;
 
 // The number of packets before the first that is longer than the limit.
@@ -42,10 +39,10 @@ fn wide(x: u32) -> u64
     x as u64
 }
 
-// Whether one of n packets' slots is held, where `held` has a yes for each slot that is.
-pub(crate) fn any_held(held: [bool; 256], slots: u16, insert: u16, step: u16, n: usize) -> bool
+// Whether one of n packets' slots is marked in `held`.
+pub(crate) fn any_marked(held: &[bool; 256], slots: u16, insert: u16, step: u16, n: usize) -> bool
     requires { ⌜ (0 < slots) × (slots ≤ 256) ⌝ }
-    ensures { λ r. ⌜ ((ps : List IsoPacketPlan) → ((k : ℕ) → k < 256 → getD held k false ≡ isHeld ps k) → r ≡ anyHeld ps (slotsFrom slots insert step 0 n)) ⌝ }
+    ensures { λ r. ⌜ r ≡ anyMarked (now (held .entry)) (slotsFrom slots insert step 0 n) ⌝ }
 {
     let mut slot = insert % slots;
     let mut i: usize = 0;

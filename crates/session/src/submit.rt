@@ -6,11 +6,12 @@ ghost use mathlib.Core.List.{List};
 ghost use Prim.Native.Nat.{_+_, _≤_};
 ghost use lib.Dec.{T};
 ghost use lib.ListN.{length, take};
+ghost use Rattle.session.specs.declared.types.IsoFatal.{IsoFatal};
 ghost use Rattle.session.specs.declared.types.IsoRequest.{IsoRequest};
 ghost use Rattle.session.specs.declared.types.IsoPacketPlan.{IsoPacketPlan};
 ghost use Rattle.session.specs.declared.transfer.SubmitWay.the-variants.{Accept};
 ghost use Rattle.session.specs.Session.{slots, ringWords};
-ghost use Rattle.session.specs.Scan.{whole, only, Scanned, isGate, added, headAfter, ringBy};
+ghost use Rattle.session.specs.Scan.{whole, only, Scanned, Asked, isGate, added, headAfter, ringBy};
 ghost use Rattle.ring.specs.Stores.{stored, storesFrom};
 ghost use Rattle.session.specs.Place.{stepOf};
 ghost use Rattle.session.specs.Way.{sum};
@@ -28,6 +29,7 @@ use crate::start::start_if;
 use crate::transfer::IsoTransfer;
 use crate::transfer::SubmitAnswer;
 use crate::transfer::SubmitParts;
+use crate::transfer::SubmitScan;
 use crate::transfer::SubmitWay;
 use crate::transfer::Submitted;
 use crate::types::IsoChannelState;
@@ -38,6 +40,7 @@ use crate::types::IsoOutcome;
 use crate::types::IsoPacketPlan;
 use crate::types::IsoRequest;
 use crate::types::TransferStatus;
+use crate::way::clash;
 use crate::way::submit_way;
 use ring::next_request_id;
 use ring::next_slot;
@@ -178,23 +181,46 @@ fn store_by(
     }
 }
 
+// What a submission asks of the tables, by one walk over them. Packets that are too many for any room are not looked up.
+fn asked(
+    cfg: IsoConfig,
+    head: IsoHead,
+    transfer: IsoTransfer,
+    scan: RecordScan,
+    lengths: &[u32],
+    ring: &[u32],
+) -> SubmitScan
+    ensures { λ r. ⌜ ((fatal : IsoFatal) (requests : List IsoRequest) (plans : List IsoPacketPlan)
+        → Scanned (whole cfg head fatal requests plans) scan
+        → Asked (whole cfg head fatal requests plans) transfer (now (lengths .entry)) (now (ring .entry)) r) ⌝ }
+{
+    let insert = insert_of(cfg, head, transfer, scan.tail, ring);
+    SubmitScan {
+        bad: scan.bad,
+        all: scan.all,
+        pending: scan.pending,
+        insert,
+        clash: (lengths.len() <= 255) && clash(cfg, insert, &scan.held, lengths.len()),
+    }
+}
+
 // A submission but for the tables of the session, which its caller holds: the ring is stored to, and the parts say what else is left.
 pub fn submit_parts(
     cfg: IsoConfig,
     head: IsoHead,
     fatal: IsoFatal,
-    scan: RecordScan,
+    scan: SubmitScan,
     transfer: IsoTransfer,
     lengths: &[u32],
     ring: &mut [u32],
 ) -> SubmitParts
     ensures { λ r. ⌜ ((requests : List IsoRequest) (plans : List IsoPacketPlan)
-        → Scanned (whole cfg head fatal requests plans) scan
+        → Asked (whole cfg head fatal requests plans) transfer (now (lengths .entry)) (now (ring .entry)) scan
         → Parted (whole cfg head fatal requests plans) transfer (now (lengths .entry)) (now (ring .entry)) r ×
         (now (ring .exit) ≡ submittedRing (whole cfg head fatal requests plans) transfer (now (lengths .entry)) (now (ring .entry)))) ⌝ }
 {
-    let insert = insert_of(cfg, head, transfer, scan.tail, ring);
-    let way = submit_way(cfg, head, fatal, scan, transfer, lengths, ring, insert);
+    let insert = scan.insert;
+    let way = submit_way(cfg, head, fatal, scan, transfer, lengths, ring);
     store_by(way, cfg, transfer, insert, lengths, ring);
     let n = added_packets(way, lengths.len());
     let slots = slots_of(cfg);
@@ -232,7 +258,7 @@ impl IsoChannelState {
         let cfg = self.cfg;
         let head = self.head;
         let fatal = self.fatal;
-        let scan = self.scan();
+        let scan = asked(cfg, head, transfer, self.scan(), lengths, ring);
         let parts = submit_parts(cfg, head, fatal, scan, transfer, lengths, ring);
         let n = parts.added;
         let slots = parts.slots;

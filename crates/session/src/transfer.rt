@@ -18,6 +18,16 @@ pub struct IsoTransfer {
     pub words: u32,
 }
 
+// What a submission asks of the session's tables: whether the record is bad, and where it is not, the packets of all requests and of
+// the pending ones, the slot of its first packet, and whether one of its slots is a pending request's. Small, since it is handed on.
+pub struct SubmitScan {
+    pub bad: bool,
+    pub all: u32,
+    pub pending: u32,
+    pub insert: u16,
+    pub clash: bool,
+}
+
 // The way that a submission goes: refused with nothing altered, refused with its number spent, unplugged at a gate, cut, or
 // accepted.
 pub enum SubmitWay {

@@ -1,29 +1,31 @@
 // Which way a submission goes, before anything is stored: document 01, "Submit" and "Refusal numbers". It is decided on the small
-// parts of the session and on what one walk found in its tables.
+// parts of the session and on what was asked of its tables.
 ghost use mathlib.Core.Path.{_≡_};
-ghost use mathlib.Core.Bool.{false, _&&_};
+ghost use mathlib.Core.Bool.{_&&_};
 ghost use mathlib.Core.List.{List};
 ghost use Prim.Native.Nat.{ℕ, _+_, _≤_, _<_};
 ghost use lib.Dec.{T, ltb};
-ghost use lib.ListN.{length, getD};
+ghost use lib.ListN.{length};
 ghost use Rattle.ring.specs.RingSums.{slotsFrom};
+ghost use Rattle.session.specs.declared.types.IsoConfig.{IsoConfig};
+ghost use Rattle.session.specs.declared.types.IsoFatal.{IsoFatal};
 ghost use Rattle.session.specs.declared.types.IsoRequest.{IsoRequest};
 ghost use Rattle.session.specs.declared.types.IsoPacketPlan.{IsoPacketPlan};
 ghost use Rattle.session.specs.Session.{slots, ringWords, room};
-ghost use Rattle.session.specs.Scan.{whole, Walked, Scanned, isGate};
-ghost use Rattle.session.specs.Place.{stepOf, insertAt};
-ghost use Rattle.session.specs.Way.{isLow, isGuarded, isHeld, anyHeld, sum, entryNumber, entryRefusal, spendNumber, spendRefusal, gateAt, submitWay};
+ghost use Rattle.session.specs.Scan.{whole, Found, Asked, isGate};
+ghost use Rattle.session.specs.Place.{stepOf};
+ghost use Rattle.session.specs.Way.{isLow, isGuarded, anyMarked, sum, entryNumber, entryRefusal, spendNumber, spendRefusal, gateAt, submitWay};
 use crate::open::ring_words;
 use crate::place::slots_of;
 use crate::place::step_of;
-use crate::record::RecordScan;
 use crate::record::has_reason;
 use crate::record::is_over_room;
-use crate::store::any_held;
+use crate::store::any_marked;
 use crate::store::first_long;
 use crate::store::sum_of;
 use crate::tables::rest;
 use crate::transfer::IsoTransfer;
+use crate::transfer::SubmitScan;
 use crate::transfer::SubmitWay;
 use crate::types::IsoConfig;
 use crate::types::IsoFatal;
@@ -42,7 +44,7 @@ fn is_low(speed: Speed) -> bool
     }
 }
 
-fn is_guarded(mode: IsoMode) -> bool
+pub fn is_guarded(mode: IsoMode) -> bool
     ensures { λ r. ⌜ r ≡ isGuarded mode ⌝ }
 {
     match mode {
@@ -136,13 +138,13 @@ fn entry_refusal(
     cfg: IsoConfig,
     head: IsoHead,
     fatal: IsoFatal,
-    scan: RecordScan,
+    scan: SubmitScan,
     transfer: IsoTransfer,
     n: usize,
     words: usize,
 ) -> u16
-    ensures { λ r. ⌜ ((requests : List IsoRequest) (plans : List IsoPacketPlan)
-        → Scanned (whole cfg head fatal requests plans) scan
+    ensures { λ r. ⌜ ((requests : List IsoRequest) (plans : List IsoPacketPlan) (lengths ring : List ℕ)
+        → Asked (whole cfg head fatal requests plans) transfer lengths ring scan
         → r
         ≡ entryRefusal (whole cfg head fatal requests plans) transfer n words)
         × (r ≡ 0 → (n ≤ 255) × (head .count < 64) × (ringWords cfg ≤ words)) ⌝ }
@@ -168,65 +170,50 @@ fn entry_refusal(
     )
 }
 
-// 13: a slot of the submission is one of a pending request.
-fn clash(cfg: IsoConfig, insert: u16, held: [bool; 256], n: usize) -> bool
-    ensures { λ r. ⌜ ((ps : List IsoPacketPlan)
-        → ((k : ℕ) → k < 256 → getD held k false ≡ isHeld ps k)
-        → r
-        ≡ (isGuarded (cfg .mode) && anyHeld ps (slotsFrom (slots cfg) insert (stepOf cfg) 0 n))) ⌝ }
+// 13: a slot of the submission is one of a pending request, whose slots are marked in `held`. The table is lent, not copied.
+pub fn clash(cfg: IsoConfig, insert: u16, held: &[bool; 256], n: usize) -> bool
+    ensures { λ r. ⌜ r
+        ≡ (isGuarded (cfg .mode) && anyMarked (now (held .entry)) (slotsFrom (slots cfg) insert (stepOf cfg) 0 n)) ⌝ }
 {
     let mode = cfg.mode;
     if !is_guarded(mode) {
         return false;
     }
-    any_held(held, slots_of(cfg), insert, step_of(cfg), n)
+    any_marked(held, slots_of(cfg), insert, step_of(cfg), n)
 }
 
 // 10 to 13: the number is spent.
-fn spend_refusal(
-    cfg: IsoConfig,
-    head: IsoHead,
-    fatal: IsoFatal,
-    scan: RecordScan,
-    transfer: IsoTransfer,
-    lengths: &[u32],
-    insert: u16,
-) -> u16
-    requires { ⌜ length (now lengths) ≤ 1024 ⌝ }
-    ensures { λ r. ⌜ ((requests : List IsoRequest) (plans : List IsoPacketPlan) (ring : List ℕ)
-        → Walked (whole cfg head fatal requests plans) scan
-        → insert ≡ insertAt cfg head transfer (scan .tail) ring
+fn spend_refusal(head: IsoHead, scan: SubmitScan, transfer: IsoTransfer, lengths: &[u32]) -> u16
+    requires { ⌜ length (now lengths) ≤ 255 ⌝ }
+    ensures { λ r. ⌜ ((cfg : IsoConfig) (fatal : IsoFatal) (requests : List IsoRequest) (plans : List IsoPacketPlan) (ring : List ℕ)
+        → Found (whole cfg head fatal requests plans) transfer (now (lengths .entry)) ring scan
         → r
         ≡ spendRefusal (whole cfg head fatal requests plans) transfer (now (lengths .entry)) ring)
         × (r ≡ 0 → transfer .base + sum (now (lengths .entry)) ≤ 4294967295) ⌝ }
 {
     let sum = sum_of(lengths);
     let no_channel = !head.live & !transfer.channel_free;
-    let held = scan.held;
-    let clash = clash(cfg, insert, held, lengths.len());
     spend_number(
         !(sum == transfer.buffer_len as u64),
         words::is_beyond(transfer.base, sum),
         no_channel,
-        clash,
+        scan.clash,
     )
 }
 
-// The way of a submission: what it does follows from this alone. Whatever the walk found, a way past every refusal is sure of ring,
-// address and room. `insert` is the slot of its first packet.
+// The way of a submission: what it does follows from this alone. Whatever the tables answered, a way past every refusal is sure of
+// ring, address and room.
 pub(crate) fn submit_way(
     cfg: IsoConfig,
     head: IsoHead,
     fatal: IsoFatal,
-    scan: RecordScan,
+    scan: SubmitScan,
     transfer: IsoTransfer,
     lengths: &[u32],
     ring: &[u32],
-    insert: u16,
 ) -> SubmitWay
-    requires { ⌜ insert ≡ insertAt cfg head transfer (scan .tail) (now ring) ⌝ }
     ensures { λ r. ⌜ ((requests : List IsoRequest) (plans : List IsoPacketPlan)
-        → Scanned (whole cfg head fatal requests plans) scan
+        → Asked (whole cfg head fatal requests plans) transfer (now (lengths .entry)) (now (ring .entry)) scan
         → r
         ≡ submitWay (whole cfg head fatal requests plans) transfer (now (lengths .entry)) (now (ring .entry)))
         × (T (isGate r)
@@ -243,7 +230,7 @@ pub(crate) fn submit_way(
     if long < n {
         return SubmitWay::TooLong(long as u32);
     }
-    let spent = spend_refusal(cfg, head, fatal, scan, transfer, lengths, insert);
+    let spent = spend_refusal(head, scan, transfer, lengths);
     if spent != 0 {
         return SubmitWay::Spend(spent);
     }

@@ -1,9 +1,10 @@
 -- The slots that pending plans hold: looked up packet by packet, and marked plan by plan in a table of 256 marks. Each loop's invariant
 -- says that what is still to be looked up or marked gives the goal; a law for each way out of a turn keeps it.
-use mathlib.Core.Path.{_≡_, refl, sym, ap, _∙_}
-use mathlib.Core.Bool.{Bool, true, false, _||_, or-true, or-false, or-assoc}
+use mathlib.Core.Path.{_≡_, refl, sym, ap, ap₂, _∙_}
+use mathlib.Core.Bool.{Bool, true, false, _||_, _&&_, or-true, or-false, or-assoc}
 use mathlib.Core.List.{List}
-use Prim.Native.Nat.{ℕ, suc, _+_, _-_, _≤_, _<_}
+use Prim.Native.Nat.{ℕ, zero, suc, _+_, _-_, _*_, _≤_, _<_}
+use native.Mathlib.Nat.{mod-lt}
 use native.Mathlib.Numerals.{add-one}
 use native.Mathlib.Omega.{arith}
 use lib.Dec.{eqb}
@@ -11,31 +12,62 @@ use lib.ListN.{length, getD, set, replicate, getD-replicate}
 use lib.Seq.{slice, slice-empty, slice-cons, getD-set-same, getD-set-other}
 use borrow.Author.Tests.{eqb-true, eqb-false}
 use Rattle.ring.specs.RingSums.{slotAt, slotsFrom}
+use Rattle.ring.proofs.RingFacts.{ring-size-pos}
+use Rattle.session.specs.declared.types.IsoConfig.{IsoConfig}
 use Rattle.session.specs.declared.types.IsoPacketPlan.{IsoPacketPlan}
-use Rattle.session.specs.Session.{blankPlan}
-use Rattle.session.specs.Way.{isHeld, anyHeld}
+use Rattle.session.specs.Session.{blankPlan, slots}
+use Rattle.session.specs.Place.{stepOf}
+use Rattle.session.specs.Way.{isGuarded, isHeld, anyHeld, anyMarked}
+use Rattle.session.proofs.Laws.Sums.{ring-few}
 
--- no slot is left to look up
-pub held-end : (R insert step i n : ℕ) (ps : List IsoPacketPlan) → n ≤ i → anyHeld ps (slotsFrom R insert step i (n - i)) ≡ false
-held-end R insert step i n ps h =
-    let e : n - i ≡ 0 = omega arith in
-    rw e
+-- ---- looked up in the table
 
--- packet i's slot, and those of the packets after it
-pub held-more : (R insert step i n : ℕ) (ps : List IsoPacketPlan) → i < n
-    → anyHeld ps (slotsFrom R insert step i (n - i)) ≡ (isHeld ps (slotAt R insert step i) || anyHeld ps (slotsFrom R insert step (i + 1) (n - (i + 1))))
-held-more R insert step i n ps h =
-    let e : n - i ≡ suc (n - (i + 1)) = omega arith in
-    rw (e, add-one i)
+module _ (held : List Bool) (R insert step i n : ℕ) where
+  -- no slot is left to look up
+  pub marked-end : n ≤ i → anyMarked held (slotsFrom R insert step i (n - i)) ≡ false
+  marked-end h =
+      let e : n - i ≡ 0 = omega arith in
+      rw e
 
--- packet i's slot is held, so one is; it is not, so the others decide
-module _ (R insert step i n : ℕ) (ps : List IsoPacketPlan) (slot : ℕ) (marked : Bool) (h : i < n) (at : slot ≡ slotAt R insert step i)
-    (same : marked ≡ isHeld ps slot) where
-  pub held-here : marked ≡ true → true ≡ anyHeld ps (slotsFrom R insert step i (n - i))
-  held-here e = rw (held-more R insert step i n ps h, ← at, ← same, e)
+  -- packet i's slot, and those of the packets after it
+  marked-more :
+      i < n
+      → anyMarked held (slotsFrom R insert step i (n - i))
+      ≡ (getD held (slotAt R insert step i) false || anyMarked held (slotsFrom R insert step (i + 1) (n - (i + 1))))
+  marked-more h =
+      let e : n - i ≡ suc (n - (i + 1)) = omega arith in
+      rw (e, add-one i)
 
-  pub held-later : marked ≡ false → anyHeld ps (slotsFrom R insert step (i + 1) (n - (i + 1))) ≡ anyHeld ps (slotsFrom R insert step i (n - i))
-  held-later e = rw (held-more R insert step i n ps h, ← at, ← same, e)
+  -- packet i's slot is marked, so one is; it is not, so the others decide
+  module _ (slot : ℕ) (h : i < n) (at : slot ≡ slotAt R insert step i) where
+    pub marked-here : getD held slot false ≡ true → true ≡ anyMarked held (slotsFrom R insert step i (n - i))
+    marked-here e = rw (marked-more h, ← at, e)
+
+    pub marked-later :
+        getD held slot false ≡ false
+        → anyMarked held (slotsFrom R insert step (i + 1) (n - (i + 1))) ≡ anyMarked held (slotsFrom R insert step i (n - i))
+    marked-later e = rw (marked-more h, ← at, e)
+
+-- where the marks are those of plans, a slot is marked just where one of them has it
+pub marked-held :
+    (held : List Bool) (ps : List IsoPacketPlan) → ((k : ℕ) → k < 256 → getD held k false ≡ isHeld ps k)
+    → (R insert step i n : ℕ) → 0 < R → R ≤ 256
+    → anyMarked held (slotsFrom R insert step i n) ≡ anyHeld ps (slotsFrom R insert step i n)
+marked-held held ps same R insert step i zero some few = refl
+marked-held held ps same R insert step i (suc n) some few =
+    let below : slotAt R insert step i < 256 = omega (arith, mod-lt (insert + i * step) some) in
+    ap₂ (λ (a b : Bool). a || b) (same (slotAt R insert step i) below) (marked-held held ps same R insert step (suc i) n some few)
+
+-- so a submission whose slots are looked up in them clashes with those plans just where it meets a mark
+pub clash-marked :
+    (cfg : IsoConfig) (held : List Bool) (ps : List IsoPacketPlan) → ((k : ℕ) → k < 256 → getD held k false ≡ isHeld ps k) → (insert n : ℕ)
+    → (isGuarded (cfg .mode) && anyMarked held (slotsFrom (slots cfg) insert (stepOf cfg) 0 n))
+    ≡ (isGuarded (cfg .mode) && anyHeld ps (slotsFrom (slots cfg) insert (stepOf cfg) 0 n))
+clash-marked cfg held ps same insert n =
+    ap (λ (b : Bool). isGuarded (cfg .mode) && b)
+    (marked-held held ps same (slots cfg) insert (stepOf cfg) 0 n (ring-size-pos (cfg .speed)) (ring-few (cfg .speed)))
+
+-- ---- marked, plan by plan
 
 -- the marks after one slot more
 module _ (held marked : List Bool) (slot k : ℕ) (below : k < 256) where

@@ -15,7 +15,6 @@ use Rattle.session.specs.declared.types.IsoHead.{IsoHead}
 use Rattle.session.specs.declared.types.IsoRequest.{IsoRequest}
 use Rattle.session.specs.declared.types.IsoPacketPlan.{IsoPacketPlan}
 use Rattle.session.specs.declared.types.IsoChannelState.{IsoChannelState}
-use Rattle.session.specs.declared.record.RecordScan.{RecordScan}
 use Rattle.session.specs.declared.transfer.IsoTransfer.{IsoTransfer}
 use Rattle.session.specs.declared.transfer.SubmitWay.{SubmitWay}
 use Rattle.session.specs.declared.transfer.SubmitWay.the-variants.{Refuse, TooLong, Spend, Early, Cut, Late, Accept}
@@ -23,10 +22,11 @@ use Rattle.session.specs.declared.transfer.IsoChannelStart.{IsoChannelSt
 use Rattle.session.specs.declared.transfer.SubmitAnswer.{SubmitAnswer}
 use Rattle.session.specs.declared.transfer.Submitted.{Submitted}
 use Rattle.session.specs.declared.transfer.SubmitParts.{SubmitParts}
+use Rattle.session.specs.declared.transfer.SubmitScan.{SubmitScan}
 use Rattle.session.specs.Session.{slots, allPackets}
-use Rattle.session.specs.Scan.{whole, only, Walked, Scanned, isGate, added, headAfter, ringBy}
+use Rattle.session.specs.Scan.{whole, only, Found, Asked, isGate, added, headAfter, ringBy}
 use Rattle.ring.specs.Stores.{stored, storesFrom}
-use Rattle.session.specs.Place.{stepOf, insertAt, insertOf, plansFrom}
+use Rattle.session.specs.Place.{stepOf, insertOf, plansFrom}
 use Rattle.session.specs.Way.{submitWay}
 use Rattle.session.specs.Submit.{newRequest, startWords, noStart, answerOf, startAfter, sessionAfter, ringAfter, submittedBy, submittedRing}
 use Rattle.session.specs.Parts.{requestsWith, plansWith, joined, Parted}
@@ -185,23 +185,20 @@ module _ (s : IsoChannelState) (t : IsoTransfer) (lengths ring : List ℕ) (r : 
       ∙ ap (of (answerOf way s) (startAfter way s t))
       (session-left s t lengths ring (r .insert) (r .added) (r .to) slot way e at f (last ∙ ap₂ (λ (x y : ℕ). slotAt x (r .insert) y (r .added)) eR ek))
 
--- the parts in a session that the walk speaks of: what the walk found is asked only past every refusal
-module _ (s : IsoChannelState) (t : IsoTransfer) (lengths ring : List ℕ) (scan : RecordScan) (way : SubmitWay) (insert : ℕ)
-    (found : Scanned s scan) (e : way ≡ submitWay s t lengths ring) (at : insert ≡ insertAt (s .cfg) (s .head) t (scan .tail) ring) where
+-- the parts in a session that was asked: what it answered is used only past every refusal
+module _ (s : IsoChannelState) (t : IsoTransfer) (lengths ring : List ℕ) (scan : SubmitScan) (way : SubmitWay)
+    (asked : Asked s t lengths ring scan) (e : way ≡ submitWay s t lengths ring) where
   passed : T (isGate way) → Admitted s t lengths ring
   passed = gate-admitted s t lengths ring way e
 
-  walked : T (isGate way) → Walked s scan
-  walked g = found .found (passed g .entry .record-good)
+  found : T (isGate way) → Found s t lengths ring scan
+  found g = asked .found (passed g .entry .record-good)
 
-  there : T (isGate way) → insert ≡ insertOf s t ring
-  there g = at ∙ ap (λ (tail : ℕ). insertAt (s .cfg) (s .head) t tail ring) (walked g .tail)
-
-  pub ring-parted : ringBy way (s .cfg) t insert lengths ring ≡ submittedRing s t lengths ring
-  ring-parted = ring-by s t lengths ring e (ring-left s t lengths ring insert way there (λ a. told-of s t lengths ring Accept (sym e ∙ a) .1))
+  pub ring-parted : ringBy way (s .cfg) t (scan .insert) lengths ring ≡ submittedRing s t lengths ring
+  ring-parted = ring-by s t lengths ring e (ring-left s t lengths ring (scan .insert) way (λ g. found g .insert) (λ a. told-of s t lengths ring Accept (sym e ∙ a) .1))
 
   pub parted :
-      (r : SubmitParts) (slot : ℕ) → r .insert ≡ insert → r .to ≡ scan .all → (r .slots ≡ slots (s .cfg)) × (0 < r .slots) × (r .slots ≤ 256)
+      (r : SubmitParts) (slot : ℕ) → r .insert ≡ scan .insert → r .to ≡ scan .all → (r .slots ≡ slots (s .cfg)) × (0 < r .slots) × (r .slots ≤ 256)
       → r .step ≡ stepOf (s .cfg)
       → r .added ≡ added way (length lengths)
       → slot ≡ slotAt (r .slots) (r .insert) (r .step) (r .added)
@@ -210,9 +207,9 @@ module _ (s : IsoChannelState) (t : IsoTransfer) (lengths ring : List ℕ) (scan
       → r .head ≡ headAfter way (s .cfg) (s .head) t slot
       → Parted s t lengths ring r
   parted r slot ei et eR ek en last a b h =
-      let taken : way ≡ Accept → (r .to ≡ allPackets s) × (0 < length lengths) = λ w. (et ∙ walked (gate way w) .all, passed (gate way w) .entry .some) in
+      let taken : way ≡ Accept → (r .to ≡ allPackets s) × (0 < length lengths) = λ w. (et ∙ found (gate way w) .all, passed (gate way w) .entry .some) in
       record {
-        joins = answer-by s t lengths ring e (parts-by s t lengths ring r way slot (eR .0) ek en (λ g. ei ∙ there g) taken last a b h);
+        joins = answer-by s t lengths ring e (parts-by s t lengths ring r way slot (eR .0) ek en (λ g. ei ∙ found g .insert) taken last a b h);
         some-slots = eR .1;
         fitting = λ some.
             let q = some-added way (length lengths) (r .added) en some in

@@ -1,4 +1,4 @@
--- `submit_parts` acts by its way: what its functions answer for the way are the parts of the submission, in every session that the walk speaks of.
+-- `submit_parts` acts by its way: what its functions answer for the way are the parts of the submission, in every session that was asked.
 use mathlib.Core.Path.{refl, _∙_}
 use native.Mathlib.Omega.{arith}
 use lib.ListN.{length}
@@ -8,11 +8,8 @@ use borrow.Author.Needs.{needs}
 use Rattle.session.proofs.submit.submit_parts.Statement.{statement}
 use Rattle.session.proofs.submit.submit_parts.Tie as tie
 
-insert-of-requires : tie.Need-insert-of-requires
-insert-of-requires c κs = search needs
-
 submit-way-requires : tie.Need-submit-way-requires
-submit-way-requires c κs = c .before .insert-of .ensures
+submit-way-requires c κs = search needs
 
 store-by-requires : tie.Need-store-by-requires
 store-by-requires c κs = λ g. (c .before .submit-way .ensures .1 g .2, c .before .submit-way .ensures .1 g .3)
@@ -30,7 +27,7 @@ slot-after-requires : tie.Need-slot-after-requires
 slot-after-requires c κs = (
   c .before .slots-of .ensures .1,
   few-added (c .before .before .before .before .before .before .before .submit-way .result)
-      (length (c .before .before .before .before .before .before .before .before .before .before .before .before .before .args .lengths .now))
+      (length (c .before .before .before .before .before .before .before .before .before .before .before .args .lengths .now))
       (c .before .before .added-packets .result) 255 (c .before .before .added-packets .ensures) (λ e.
       c .before .before .before .before .before .before .before .submit-way .ensures .1
       (gate (c .before .before .before .before .before .before .before .submit-way .result) e) .0),
@@ -50,8 +47,8 @@ head-after-requires c κs = λ e.
           (gate (c .before .before .before .before .before .before .before .before .before .before .before .submit-way .result) e) .1,
     )
 
-cast-t21 : tie.Need-cast-t21
-cast-t21 c = search needs
+cast-t19 : tie.Need-cast-t19
+cast-t19 c = search needs
 
 same-length : tie.Need-same-length
 same-length c = search needs
@@ -59,17 +56,15 @@ same-length c = search needs
 returns : tie.Need-returns
 returns c = λ requests plans w.
     let a =
-    c .before .before .before .before .before .before .before .before .before .before .before .before .before .before .before .before .before .before .before .args in
+    c .before .before .before .before .before .before .before .before .before .before .before .before .before .before .before .before .before .args in
     let s = whole (a .cfg) (a .head) (a .fatal) requests plans in
     let L = a .lengths .now in
     let ring = a .ring .now in
     let way = c .before .before .before .before .before .before .before .before .before .before .before .before .before .submit-way .result in
-    let insert = c .before .before .before .before .before .before .before .before .before .before .before .before .before .before .before .insert-of .result in
     let way-is =
     c .before .before .before .before .before .before .before .before .before .before .before .before .before .submit-way .ensures .0 requests
     plans w in (
-      parted s (a .transfer) L ring (a .scan) way insert w way-is
-          (c .before .before .before .before .before .before .before .before .before .before .before .before .before .before .before .insert-of .ensures) _
+      parted s (a .transfer) L ring (a .scan) way w way-is _
           (c .before .before .before .before .before .slot-after .result) refl refl
           (c .before .before .before .before .before .before .before .slots-of .ensures)
           (c .before .before .before .before .before .before .step-of .ensures)
@@ -77,15 +72,13 @@ returns c = λ requests plans w.
           (c .before .before .before .before .before .slot-after .ensures) (c .before .before .before .before .answer-of .ensures)
           (c .before .before .start-if .ensures) (c .before .head-after .ensures),
       c .before .before .before .before .before .before .before .before .before .before .before .store-by .ensures
-          ∙ ring-parted s (a .transfer) L ring (a .scan) way insert w way-is
-          (c .before .before .before .before .before .before .before .before .before .before .before .before .before .before .before .insert-of .ensures),
+          ∙ ring-parted s (a .transfer) L ring (a .scan) way w way-is,
     )
 
 pub submit-parts-spec : {M : Type 1} → statement M
 submit-parts-spec =
     tie.close
     (tie.spec
-    insert-of-requires
     submit-way-requires
     store-by-requires
     added-packets-requires
@@ -95,6 +88,6 @@ submit-parts-spec =
     answer-of-requires
     start-if-requires
     head-after-requires
-    cast-t21
+    cast-t19
     same-length
     returns)

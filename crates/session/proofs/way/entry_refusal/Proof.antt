@@ -1,4 +1,4 @@
--- `entry_refusal` tests in order: 17 and 18 by themselves, then the code's flags are the definition's tests, in every session that the walk speaks of.
+-- `entry_refusal` tests in order: 17 and 18 by themselves, then the code's flags are the definition's tests, in every session that was asked.
 use mathlib.Core.Path.{_≡_, _∙_, sym, ap, subst}
 use mathlib.Core.Bool.{true, false, not, _||_, _&&_}
 use Prim.Native.Nat.{ℕ, _+_, _-_, _≤_, _<_}
@@ -27,10 +27,10 @@ returns : tie.Need-returns
 returns c =
     let e1 : ltb (c .before .before .args .words) (ringWords (c .before .before .args .cfg)) ≡ true =
     lt-ltb _ _ (subst (λ (n : ℕ). c .before .before .args .words < n) (c .before .ring-words .ensures .0) (c .if1 .taken)) in
-    (λ requests plans w. entry-short _ e1, λ z. absurd (omega arith))
+    (λ requests plans lengths ring w. entry-short _ e1, λ z. absurd (omega arith))
 
 returns-2 : tie.Need-returns-2
-returns-2 c = (λ requests plans w. entry-bad _ (long (c .before)) (sym (w .bad) ∙ c .if2 .taken), λ z. absurd (omega arith))
+returns-2 c = (λ requests plans lengths ring w. entry-bad _ (long (c .before)) (sym (w .bad) ∙ c .if2 .taken), λ z. absurd (omega arith))
 
 is-over-with-requires : tie.Need-is-over-with-requires
 is-over-with-requires c κs = search needs
@@ -53,7 +53,7 @@ returns-3 c =
     let n = a .n in
     let alone = eqb (a .head .done) (a .head .count) in
     let last = leb 64 (a .head .count) || ltb (c .before .before .before .before .before .before .rest .result) n in (
-      λ requests plans w.
+      λ requests plans lengths ring w.
           let s = whole (a .cfg) (a .head) (a .fatal) requests plans in
           let bad : isBadRecord s ≡ false = sym (w .bad) ∙ c .before .before .before .before .before .before .before .before .before .if2 .left in
           let found = w .found bad in

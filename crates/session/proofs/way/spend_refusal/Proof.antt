@@ -1,16 +1,11 @@
--- `spend_refusal`: the code's flags are the definition's tests, in every session that the walk speaks of.
+-- `spend_refusal`: the code's flags are the definition's tests, in every session that was asked.
 use mathlib.Core.Path.{_≡_, _∙_, sym, ap}
 use mathlib.Core.Bool.{not, _&&_}
 use Prim.Native.Nat.{ℕ, _+_}
 use lib.Dec.{eqb}
-use lib.ListN.{length}
 use borrow.Author.Tests.{ltb-false}
 use Rattle.words.specs.Words.{isBeyond}
-use Rattle.ring.specs.RingSums.{slotsFrom}
-use Rattle.session.specs.Session.{slots}
-use Rattle.session.specs.Scan.{whole}
-use Rattle.session.specs.Place.{insertAt, stepOf}
-use Rattle.session.specs.Way.{isGuarded, sum, anyHeld, pendingPlans}
+use Rattle.session.specs.Way.{sum}
 use Rattle.session.proofs.Laws.Ways.{spend-equal, not-beyond}
 use borrow.Author.Needs.{needs}
 use Rattle.session.proofs.way.spend_refusal.Statement.{statement}
@@ -18,9 +13,6 @@ use Rattle.session.proofs.way.spend_refusal.Tie as tie
 
 sum-of-requires : tie.Need-sum-of-requires
 sum-of-requires c κs = search needs
-
-clash-requires : tie.Need-clash-requires
-clash-requires c κs = search needs
 
 cast-spend-number : tie.Need-cast-spend-number
 cast-spend-number c = search needs
@@ -33,23 +25,19 @@ spend-number-requires c κs = search needs
 
 returns : tie.Need-returns
 returns c =
-    let a = c .before .before .before .before .before .before .before .before .before .args in
-    let n = length (a .lengths .now) in
-    let sum-is = c .before .before .before .before .before .before .before .sum-of .ensures in
+    let a = c .before .before .before .before .before .before .before .args in
+    let sum-is = c .before .before .before .before .before .sum-of .ensures in
     let no-channel = not (a .head .live) && not (a .transfer .«channel_free») in
     let beyond : c .before .is-beyond .result ≡ isBeyond (a .transfer .base) (sum (a .lengths .now)) =
     c .before .is-beyond .ensures ∙ ap (isBeyond (a .transfer .base)) sum-is in (
-      λ requests plans ring w at.
-          let s = whole (a .cfg) (a .head) (a .fatal) requests plans in
+      λ cfg fatal requests plans ring w.
           c .spend-number .ensures
           ∙ spend-equal no-channel (ap (λ (x : ℕ). not (eqb x (a .transfer .«buffer_len»))) sum-is) beyond
-          (c .before .before .before .clash .ensures (pendingPlans s) (w .held)
-          ∙ ap (λ (i : ℕ). isGuarded (a .cfg .mode) && anyHeld (pendingPlans s) (slotsFrom (slots (a .cfg)) i (stepOf (a .cfg)) 0 n))
-          (at ∙ ap (λ (tail : ℕ). insertAt (a .cfg) (a .head) (a .transfer) tail ring) (w .tail))),
+          (w .clash (c .before .before .before .before .before .before .before .pre)),
       λ z.
           let off =
-          not-beyond (not (eqb (c .before .before .before .before .before .before .before .sum-of .result) (a .transfer .«buffer_len»)))
-          (c .before .is-beyond .result) no-channel (c .before .before .before .clash .result) (sym (c .spend-number .ensures) ∙ z) in
+          not-beyond (not (eqb (c .before .before .before .before .before .sum-of .result) (a .transfer .«buffer_len»)))
+          (c .before .is-beyond .result) no-channel (a .scan .clash) (sym (c .spend-number .ensures) ∙ z) in
           ltb-false 4294967295 (a .transfer .base + sum (a .lengths .now)) (sym beyond ∙ off),
     )
 
@@ -58,7 +46,6 @@ spend-refusal-spec =
     tie.close
     (tie.spec
     sum-of-requires
-    clash-requires
     cast-spend-number
     is-beyond-requires
     spend-number-requires

@@ -1,4 +1,4 @@
--- `submit_way` is its definition, in every session that the walk speaks of: each way out knows the tests before it.
+-- `submit_way` is its definition, in every session that was asked: each way out knows the tests before it.
 use mathlib.Core.Path.{_≡_, _∙_, sym, ap}
 use mathlib.Core.List.{List}
 use Prim.Native.Nat.{ℕ, _≤_, _<_}
@@ -8,7 +8,7 @@ use Rattle.session.specs.declared.types.IsoRequest.{IsoRequest}
 use Rattle.session.specs.declared.types.IsoPacketPlan.{IsoPacketPlan}
 use Rattle.session.specs.declared.types.IsoChannelState.{IsoChannelState}
 use Rattle.session.specs.Session.{ringWords}
-use Rattle.session.specs.Scan.{whole, Scanned}
+use Rattle.session.specs.Scan.{whole, Asked}
 use Rattle.session.specs.Way.{firstLong, entryRefusal, tooLong, spendRefusal, gateWay}
 use Rattle.session.proofs.Laws.Admitted.{entered}
 use Rattle.session.proofs.Laws.Ways.{refuse-way, long-way, spend-way, gated-way}
@@ -29,11 +29,11 @@ entry c = c .before .entry-refusal .ensures .1 (c .if1 .left)
 
 none :
     (c : tie.Else1) (requests : List IsoRequest) (plans : List IsoPacketPlan)
-    → Scanned (of (c .before .before .before .before) requests plans) (c .before .before .before .before .args .scan)
+    → Asked (of (c .before .before .before .before) requests plans) (c .before .before .before .before .args .transfer) (c .before .before .before .before .args .lengths .now) (c .before .before .before .before .args .ring .now) (c .before .before .before .before .args .scan)
     → entryRefusal (of (c .before .before .before .before) requests plans) (c .before .before .before .before .args .transfer)
     (length (c .before .before .before .before .args .lengths .now)) (length (c .before .before .before .before .args .ring .now))
     ≡ 0
-none c requests plans w = sym (c .before .entry-refusal .ensures .0 requests plans w) ∙ c .if1 .left
+none c requests plans w = sym (c .before .entry-refusal .ensures .0 requests plans (c .before .before .before .before .args .lengths .now) (c .before .before .before .before .args .ring .now) w) ∙ c .if1 .left
 
 long-is :
     (c : tie.After-first-long) (requests : List IsoRequest) (plans : List IsoPacketPlan)
@@ -45,7 +45,7 @@ long-is c requests plans =
 
 spend-is :
     (c : tie.After-spend-refusal) (requests : List IsoRequest) (plans : List IsoPacketPlan)
-    → Scanned (of (c .before .before .before .before .before .before .before .before) requests plans)
+    → Asked (of (c .before .before .before .before .before .before .before .before) requests plans) (c .before .before .before .before .before .before .before .before .args .transfer) (c .before .before .before .before .before .before .before .before .args .lengths .now) (c .before .before .before .before .before .before .before .before .args .ring .now)
     (c .before .before .before .before .before .before .before .before .args .scan)
     → c .spend-refusal .result
     ≡ spendRefusal (of (c .before .before .before .before .before .before .before .before) requests plans)
@@ -56,10 +56,9 @@ spend-is c requests plans w =
     let at = c .before .before .before .before .before .before .before .before in
     let a = at .args in
     let s = of at requests plans in
-    c .spend-refusal .ensures .0 requests plans (a .ring .now)
+    c .spend-refusal .ensures .0 (a .cfg) (a .fatal) requests plans (a .ring .now)
     (w .found (entered s (a .transfer) (length (a .lengths .now)) (length (a .ring .now))
     (none (c .before .before .before .before) requests plans w) .record-good))
-    (at .pre)
 
 entry-refusal-requires : tie.Need-entry-refusal-requires
 entry-refusal-requires c κs = search needs
@@ -71,7 +70,7 @@ returns c = (
       let s = of (c .before .before .before .before) requests plans in
       let n = length (a .lengths .now) in
       refuse-way (c .before .entry-refusal .result) (entryRefusal s (a .transfer) n (length (a .ring .now))) (tooLong s (a .lengths .now)) n
-      (spendRefusal s (a .transfer) (a .lengths .now) (a .ring .now)) (gateWay s (a .transfer) n) (c .before .entry-refusal .ensures .0 requests plans w)
+      (spendRefusal s (a .transfer) (a .lengths .now) (a .ring .now)) (gateWay s (a .transfer) n) (c .before .entry-refusal .ensures .0 requests plans (a .lengths .now) (a .ring .now) w)
       (c .if1 .taken),
   λ g. absurd g,
 )
@@ -82,8 +81,8 @@ iso-max-xfer-size-requires c κs = search needs
 first-long-requires : tie.Need-first-long-requires
 first-long-requires c κs = search needs
 
-cast-t17 : tie.Need-cast-t17
-cast-t17 c = omega (arith, entry (c .before .before .before) .0, c .if2 .taken)
+cast-t16 : tie.Need-cast-t16
+cast-t16 c = omega (arith, entry (c .before .before .before) .0, c .if2 .taken)
 
 returns-2 : tie.Need-returns-2
 returns-2 c = (
@@ -139,7 +138,7 @@ submit-way-spec =
     returns
     iso-max-xfer-size-requires
     first-long-requires
-    cast-t17
+    cast-t16
     returns-2
     spend-refusal-requires
     returns-3

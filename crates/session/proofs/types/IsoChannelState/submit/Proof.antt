@@ -12,7 +12,7 @@ use Rattle.ring.proofs.Steps.{first-slot}
 use Rattle.ring.proofs.Stores.{some-slots, slot-more}
 use Rattle.session.specs.declared.types.IsoChannelState.{IsoChannelState}
 use Rattle.session.specs.declared.types.IsoRequest.{IsoRequest}
-use Rattle.session.specs.Scan.{whole}
+use Rattle.session.specs.Scan.{whole, Asked}
 use Rattle.session.specs.Place.{plansFrom}
 use Rattle.session.specs.Parts.{plansWith, Fitting, Parted}
 use Rattle.session.proofs.Laws.Stores.{newPlan, plans-next, plans-past}
@@ -34,25 +34,34 @@ abbrev μ-loop : tie.MeasureT-loop
 long-plans : (c : tie.Start Inv-loop μ-loop) → length (c .args .t1 .plans) ≡ 1024
 long-plans c = sym (length-map (c .args .t1 .plans) _) ∙ c .good .0 .1 .1 .1 .1 .1 .1 .0 .1 .0 .1
 
+-- what was asked is of the session
+answered :
+    (c : tie.After-asked Inv-loop μ-loop)
+    → Asked (c .before .before .before .before .before .before .before .args .t1) (c .before .before .before .before .before .before .before .args .transfer) (c .before .before .before .before .before .before .before .args .lengths .now) (c .before .before .before .before .before .before .before .args .ring .now) (c .asked .result)
+answered c = c .asked .ensures (c .before .before .before .before .before .before .before .args .t1 .fatal) (c .before .before .before .before .before .before .before .args .t1 .requests) (c .before .before .before .before .before .before .before .args .t1 .plans) (c .before .before .scan .ensures)
+
 -- the parts are the submission's
 parted :
     (c : tie.After-submit-parts Inv-loop μ-loop)
-    → Parted (c .before .before .before .before .before .before .before .args .t1) (c .before .before .before .before .before .before .before .args .transfer)
-    (c .before .before .before .before .before .before .before .args .lengths .now)
-    (c .before .before .before .before .before .before .before .args .ring .now) (c .submit-parts .result)
+    → Parted (c .before .before .before .before .before .before .before .before .before .args .t1) (c .before .before .before .before .before .before .before .before .before .args .transfer)
+    (c .before .before .before .before .before .before .before .before .before .args .lengths .now)
+    (c .before .before .before .before .before .before .before .before .before .args .ring .now) (c .submit-parts .result)
 parted c =
-    c .submit-parts .ensures (c .before .before .before .before .before .before .before .args .t1 .requests)
-    (c .before .before .before .before .before .before .before .args .t1 .plans) (c .before .before .scan .ensures) .0
+    c .submit-parts .ensures (c .before .before .before .before .before .before .before .before .before .args .t1 .requests)
+    (c .before .before .before .before .before .before .before .before .before .args .t1 .plans) (answered (c .before .before)) .0
 
 -- where packets are added, they fit
 fits :
     (c : tie.After-submit-parts Inv-loop μ-loop) → 0 < c .submit-parts .result .added
-    → Fitting (c .before .before .before .before .before .before .before .args .t1) (c .submit-parts .result)
-    (c .before .before .before .before .before .before .before .args .lengths .now)
+    → Fitting (c .before .before .before .before .before .before .before .before .before .args .t1) (c .submit-parts .result)
+    (c .before .before .before .before .before .before .before .before .before .args .lengths .now)
 fits c = parted c .fitting
 
 scan-requires : tie.Need-scan-requires Inv-loop μ-loop
 scan-requires c κs = search needs
+
+asked-requires : tie.Need-asked-requires Inv-loop μ-loop
+asked-requires c κs = search needs
 
 submit-parts-requires : tie.Need-submit-parts-requires Inv-loop μ-loop
 submit-parts-requires c κs = search needs
@@ -66,24 +75,24 @@ loop-holds c =
       omega arith,
       sym (first-slot (r .slots) (r .insert) (r .step)),
       omega arith,
-      long-plans (c .before .before .before .before .before .before .before .before .before .before),
+      long-plans (c .before .before .before .before .before .before .before .before .before .before .before .before),
       refl,
       refl,
     )
 
-mul-t24 : tie.Need-mul-t24 Inv-loop μ-loop
-mul-t24 c = omega (arith, fits (c .before .before .before .before .before) (omega arith) .few)
+mul-t27 : tie.Need-mul-t27 Inv-loop μ-loop
+mul-t27 c = omega (arith, fits (c .before .before .before .before .before) (omega arith) .few)
 
-shared-slice-read-t26 : tie.Need-shared-slice-read-t26 Inv-loop μ-loop
-shared-slice-read-t26 c = omega (arith, fits (c .before .before .before .before .before .before) (omega arith) .every)
+shared-slice-read-t29 : tie.Need-shared-slice-read-t29 Inv-loop μ-loop
+shared-slice-read-t29 c = omega (arith, fits (c .before .before .before .before .before .before) (omega arith) .every)
 
-cast-t27 : tie.Need-cast-t27 Inv-loop μ-loop
-cast-t27 c =
+cast-t30 : tie.Need-cast-t30 Inv-loop μ-loop
+cast-t30 c =
     let fit = fits (c .before .before .before .before .before .before) (omega arith) in
     omega (arith, fit .short (c .before .before .loop .i) (omega (arith, fit .every)))
 
-mul-t30 : tie.Need-mul-t30 Inv-loop μ-loop
-mul-t30 c = omega (arith, fits (c .before .before .before .before .before .before) (omega arith) .plans, c .before .before .loop .inv .2)
+mul-t33 : tie.Need-mul-t33 Inv-loop μ-loop
+mul-t33 c = omega (arith, fits (c .before .before .before .before .before .before) (omega arith) .plans, c .before .before .loop .inv .2)
 
 element-set-from-self : tie.Need-element-set-from-self Inv-loop μ-loop
 element-set-from-self c =
@@ -108,7 +117,7 @@ loop-less c = omega arith
 
 loop-again : tie.Need-loop-again Inv-loop μ-loop
 loop-again c =
-    let L = c .before .before .before .before .before .before .before .before .before .before .before .before .before .before .args .lengths .now in
+    let L = c .before .before .before .before .before .before .before .before .before .before .before .before .before .before .before .before .args .lengths .now in
     let r = c .before .before .before .before .before .before .before .submit-parts .result in
     let now = c .before .before .before .loop in
     let many : r .added ≤ length L = omega (arith, fits (c .before .before .before .before .before .before .before) (omega arith) .every) in (
@@ -130,11 +139,11 @@ cast-new-request c = omega (arith, fits (c .before .before .before .before .befo
 new-request-requires : tie.Need-new-request-requires Inv-loop μ-loop
 new-request-requires c κs = search needs
 
-cast-t36 : tie.Need-cast-t36 Inv-loop μ-loop
-cast-t36 c = search needs
+cast-t39 : tie.Need-cast-t39 Inv-loop μ-loop
+cast-t39 c = search needs
 
-mul-t37 : tie.Need-mul-t37 Inv-loop μ-loop
-mul-t37 c = omega (arith, fits (c .before .before .before .before .before .before .before .before) (omega arith) .requests)
+mul-t40 : tie.Need-mul-t40 Inv-loop μ-loop
+mul-t40 c = omega (arith, fits (c .before .before .before .before .before .before .before .before) (omega arith) .requests)
 
 element-set-from-self-2 : tie.Need-element-set-from-self-2 Inv-loop μ-loop
 element-set-from-self-2 c = omega (arith, fits (c .before .before .before .before .before .before .before .before) (omega arith) .requests)
@@ -144,8 +153,8 @@ same-length c = search needs
 
 returns : tie.Need-returns Inv-loop μ-loop
 returns c =
-    let s = c .before .before .before .before .before .before .before .before .before .before .before .before .before .before .before .args .t1 in
-    let L = c .before .before .before .before .before .before .before .before .before .before .before .before .before .before .before .args .lengths .now in
+    let s = c .before .before .before .before .before .before .before .before .before .before .before .before .before .before .before .before .before .args .t1 in
+    let L = c .before .before .before .before .before .before .before .before .before .before .before .before .before .before .before .before .before .args .lengths .now in
     let r = c .before .before .before .before .before .before .before .before .submit-parts .result in
     let now = c .before .before .before .before .loop in
     let put : now .self .plans ≡ plansWith s r L =
@@ -164,7 +173,7 @@ returns c =
       joined-by s L r (c .before .before .if1 .self) (now .self .plans) push put
           ∙ parted (c .before .before .before .before .before .before .before .before) .joins,
       c .before .before .before .before .before .before .before .before .submit-parts .ensures (s .requests) (s .plans)
-          (c .before .before .before .before .before .before .before .before .before .before .scan .ensures) .1,
+          (answered (c .before .before .before .before .before .before .before .before .before .before)) .1,
     )
 
 pub submit-spec : {M : Type 1} → statement M
@@ -174,13 +183,14 @@ submit-spec =
     Inv-loop
     μ-loop
     scan-requires
+    asked-requires
     submit-parts-requires
     rem-slot
     loop-holds
-    mul-t24
-    shared-slice-read-t26
-    cast-t27
-    mul-t30
+    mul-t27
+    shared-slice-read-t29
+    cast-t30
+    mul-t33
     element-set-from-self
     next-slot-requires
     add-to
@@ -189,8 +199,8 @@ submit-spec =
     loop-again
     cast-new-request
     new-request-requires
-    cast-t36
-    mul-t37
+    cast-t39
+    mul-t40
     element-set-from-self-2
     same-length
     returns)
