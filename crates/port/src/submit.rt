@@ -99,7 +99,7 @@ pub(crate) fn submit_at(
     let cfg = config_at(bytes);
     let head = head_at(bytes);
     let fatal = fatal_of(tagged_at(bytes, 34));
-    let scan = scan_of(bytes, verdict);
+    let scan = scan_of(bytes, verdict, cfg, head, transfer, lengths, ring);
     let parts = submit_parts(cfg, head, fatal, scan, transfer, lengths, ring);
     put_added(bytes, head, parts, lengths);
     let next = parts.head;

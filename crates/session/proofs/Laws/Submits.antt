@@ -195,7 +195,9 @@ module _ (s : IsoChannelState) (t : IsoTransfer) (lengths ring : List ℕ) (scan
   found g = asked .found (passed g .entry .record-good)
 
   pub ring-parted : ringBy way (s .cfg) t (scan .insert) lengths ring ≡ submittedRing s t lengths ring
-  ring-parted = ring-by s t lengths ring e (ring-left s t lengths ring (scan .insert) way (λ g. found g .insert) (λ a. told-of s t lengths ring Accept (sym e ∙ a) .1))
+  ring-parted =
+      ring-by s t lengths ring e
+      (ring-left s t lengths ring (scan .insert) way (λ g. found g .insert) (λ a. told-of s t lengths ring Accept (sym e ∙ a) .1))
 
   pub parted :
       (r : SubmitParts) (slot : ℕ) → r .insert ≡ scan .insert → r .to ≡ scan .all → (r .slots ≡ slots (s .cfg)) × (0 < r .slots) × (r .slots ≤ 256)

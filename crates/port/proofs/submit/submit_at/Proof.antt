@@ -4,7 +4,7 @@ use Prim.Native.Nat.{_≤_}
 use native.Mathlib.Omega.{arith}
 use lib.ListN.{length}
 use Rattle.session.specs.declared.types.IsoChannelState.{IsoChannelState}
-use Rattle.session.specs.Scan.{whole, Scanned}
+use Rattle.session.specs.Scan.{whole, Asked}
 use Rattle.session.specs.Submit.{submittedRing}
 use Rattle.session.specs.Parts.{Parted}
 use Rattle.port.specs.Layout.{sessionOf}
@@ -23,41 +23,41 @@ octets : (c : tie.After-slice-known) → Octets (c .before .args .bytes .now)
 octets c i = omega (arith, c .slice-known .given i)
 
 -- the parts that were read, with the tables
-read-is :
-    (c : tie.After-fatal-of)
-    → whole (c .before .before .before .before .before .config-at .result) (c .before .before .before .head-at .result) (c .fatal-of .result)
+abbrev read : tie.After-fatal-of → IsoChannelState
+read c =
+    whole (c .before .before .before .before .before .config-at .result) (c .before .before .before .head-at .result) (c .fatal-of .result)
     (sessionOf (c .before .before .before .before .before .before .before .before .before .before .args .bytes .now) .requests)
     (sessionOf (c .before .before .before .before .before .before .before .before .before .before .args .bytes .now) .plans)
-    ≡ sessionOf (c .before .before .before .before .before .before .before .before .before .before .args .bytes .now)
+
+read-is : (c : tie.After-fatal-of) → read c ≡ sessionOf (c .before .before .before .before .before .before .before .before .before .before .args .bytes .now)
 read-is c =
     parts-read (c .before .before .before .before .before .before .before .before .before .before .args .bytes .now)
     (c .before .before .before .before .before .config-at .ensures) (c .before .before .before .head-at .ensures) (c .before .tagged-at .ensures)
     (c .fatal-of .ensures)
 
-walked :
+asked :
     (c : tie.After-scan-of)
-    → Scanned (whole (c .before .before .before .before .before .before .before .config-at .result) (c .before .before .before .before .before .head-at .result)
-    (c .before .before .fatal-of .result)
-    (sessionOf (c .before .before .before .before .before .before .before .before .before .before .before .before .args .bytes .now) .requests)
-    (sessionOf (c .before .before .before .before .before .before .before .before .before .before .before .before .args .bytes .now) .plans))
-    (c .scan-of .result)
-walked c = subst⁻¹ (λ (s : IsoChannelState). Scanned s (c .scan-of .result)) (read-is (c .before .before)) (c .scan-of .ensures)
+    → Asked (read (c .before .before .before))
+    (c .before .before .before .before .before .before .before .before .before .before .before .before .before .args .transfer)
+    (c .before .before .before .before .before .before .before .before .before .before .before .before .before .args .lengths .now)
+    (c .before .before .before .before .before .before .before .before .before .before .before .before .before .args .ring .now) (c .scan-of .result)
+asked c =
+    let a = c .before .before .before .before .before .before .before .before .before .before .before .before .before .args in
+    subst⁻¹ (λ (s : IsoChannelState). Asked s (a .transfer) (a .lengths .now) (a .ring .now) (c .scan-of .result)) (read-is (c .before .before .before))
+    (c .scan-of .ensures)
 
 parted :
     (c : tie.After-submit-parts)
-    → Parted (sessionOf (c .before .before .before .before .before .before .before .before .before .before .before .before .before .before .args .bytes .now))
-    (c .before .before .before .before .before .before .before .before .before .before .before .before .before .before .args .transfer)
-    (c .before .before .before .before .before .before .before .before .before .before .before .before .before .before .args .lengths .now)
-    (c .before .before .before .before .before .before .before .before .before .before .before .before .before .before .args .ring .now)
+    → Parted (sessionOf (c .before .before .before .before .before .before .before .before .before .before .before .before .before .before .before .args .bytes .now))
+    (c .before .before .before .before .before .before .before .before .before .before .before .before .before .before .before .args .transfer)
+    (c .before .before .before .before .before .before .before .before .before .before .before .before .before .before .before .args .lengths .now)
+    (c .before .before .before .before .before .before .before .before .before .before .before .before .before .before .before .args .ring .now)
     (c .submit-parts .result)
 parted c =
-    let xs = c .before .before .before .before .before .before .before .before .before .before .before .before .before .before .args .bytes .now in
-    subst (λ (s : IsoChannelState).
-    Parted s (c .before .before .before .before .before .before .before .before .before .before .before .before .before .before .args .transfer)
-    (c .before .before .before .before .before .before .before .before .before .before .before .before .before .before .args .lengths .now)
-    (c .before .before .before .before .before .before .before .before .before .before .before .before .before .before .args .ring .now)
-    (c .submit-parts .result)) (read-is (c .before .before .before .before))
-    (c .submit-parts .ensures (sessionOf xs .requests) (sessionOf xs .plans) (walked (c .before .before)) .0)
+    let a = c .before .before .before .before .before .before .before .before .before .before .before .before .before .before .before .args in
+    let s = sessionOf (a .bytes .now) in
+    subst (λ (s : IsoChannelState). Parted s (a .transfer) (a .lengths .now) (a .ring .now) (c .submit-parts .result)) (read-is (c .before .before .before .before .before))
+    (c .submit-parts .ensures (s .requests) (s .plans) (asked (c .before .before)) .0)
 
 config-at-requires : tie.Need-config-at-requires
 config-at-requires c κs = long (c .before .before .before .before)
@@ -72,7 +72,10 @@ fatal-of-requires : tie.Need-fatal-of-requires
 fatal-of-requires c κs = search needs
 
 scan-of-requires : tie.Need-scan-of-requires
-scan-of-requires c κs = c .before .before .before .before .before .before .before .before .before .before .before .pre
+scan-of-requires c κs =
+    let pre = c .before .before .before .before .before .before .before .before .before .before .before .before .pre in
+    let is = read-is (c .before .before) in
+    (pre .0, pre .1, ap (λ (s : IsoChannelState). s .cfg) is, ap (λ (s : IsoChannelState). s .head) is)
 
 submit-parts-requires : tie.Need-submit-parts-requires
 submit-parts-requires c κs = search needs
@@ -80,8 +83,8 @@ submit-parts-requires c κs = search needs
 put-added-requires : tie.Need-put-added-requires
 put-added-requires c κs =
     let p = parted (c .before .before .before) in (
-      c .before .before .before .before .before .before .before .before .before .before .before .before .before .before .before .before .before .pre .0,
-      ap (λ (s : IsoChannelState). s .head) (read-is (c .before .before .before .before .before .before .before)),
+      c .before .before .before .before .before .before .before .before .before .before .before .before .before .before .before .before .before .before .pre .0,
+      ap (λ (s : IsoChannelState). s .head) (read-is (c .before .before .before .before .before .before .before .before)),
       p .some-slots,
       p .fitting,
       p .as-many,
@@ -91,8 +94,7 @@ put-head-requires : tie.Need-put-head-requires
 put-head-requires c κs =
     omega (
       arith,
-      long
-          (c .before .before .before .before .before .before .before .before .before .before .before .before .before .before .before .before .before .before .before .before .before .before),
+      long (c .before .before .before .before .before .before .before .before .before .before .before .before .before .before .before .before .before .before .before .before .before .before .before),
       c .before .before .before .before .put-added .kept .0,
     )
 
@@ -107,31 +109,18 @@ same-length-2 c = search needs
 
 returns : tie.Need-returns
 returns c =
-    let xs =
-    c .before .before .before .before .before .before .before .before .before .before .before .before .before .before .before .before .before .before .before .before .before .before .before .before .before .before .before .args .bytes .now in
-    let L =
-    c .before .before .before .before .before .before .before .before .before .before .before .before .before .before .before .before .before .before .before .before .before .before .before .before .before .before .before .args .lengths .now in
-    let r = c .before .before .before .before .before .before .before .before .before .before .before .before .before .submit-parts .result in
+    let a = c .before .before .before .before .before .before .before .before .before .before .before .before .before .before .before .before .before .before .before .before .before .before .before .before .before .before .before .before .args in
+    let s = sessionOf (a .bytes .now) in
+    let r = c .before .before .before .before .before .before .before .before .before .before .before .before .before .submit-parts in
     let p = parted (c .before .before .before .before .before .before .before .before .before .before .before .before .before) in (
       c .submit-port .ensures ∙ ap submittedPort (p .joins),
-      numbers-put xs (octets
-          (c .before .before .before .before .before .before .before .before .before .before .before .before .before .before .before .before .before .before .before .before .before .before .before .before .before .before))
-          (c .before .before .before .before .before .before .before .before .before .before .before .before .before .before .before .before .before .before .before .before .before .before .before .before .before .before .before .pre .0)
-          L r
-          (c .before .before .before .before .before .before .before .before .before .before .before .before .before .before .before .before .before .before .before .before .before .before .before .before .before .before .before .args .transfer)
-          (c .before .before .before .before .before .before .before .before .before .before .before .before .before .before .before .before .before .before .before .before .before .before .before .before .before .before .before .args .ring .now)
-          (c .before .before .before .before .before .before .before .before .before .put-added .ensures) (c .before .before .before .before .put-head .ensures)
-          (p .joins),
-      c .before .before .before .before .before .before .before .before .before .before .before .before .before .submit-parts .ensures (sessionOf xs .requests)
-          (sessionOf xs .plans)
-          (walked (c .before .before .before .before .before .before .before .before .before .before .before .before .before .before .before)) .1
-          ∙ ap (λ (s : IsoChannelState).
-          submittedRing s
-          (c .before .before .before .before .before .before .before .before .before .before .before .before .before .before .before .before .before .before .before .before .before .before .before .before .before .before .before .args .transfer)
-          L
-          (c .before .before .before .before .before .before .before .before .before .before .before .before .before .before .before .before .before .before .before .before .before .before .before .before .before .before .before .args .ring .now))
-          (read-is
-          (c .before .before .before .before .before .before .before .before .before .before .before .before .before .before .before .before .before)),
+      numbers-put (a .bytes .now)
+          (octets (c .before .before .before .before .before .before .before .before .before .before .before .before .before .before .before .before .before .before .before .before .before .before .before .before .before .before .before))
+          (c .before .before .before .before .before .before .before .before .before .before .before .before .before .before .before .before .before .before .before .before .before .before .before .before .before .before .before .before .pre .0)
+          (a .lengths .now) (r .result) (a .transfer) (a .ring .now) (c .before .before .before .before .before .before .before .before .before .put-added .ensures) (c .before .before .before .before .put-head .ensures) (p .joins),
+      r .ensures (s .requests) (s .plans) (asked (c .before .before .before .before .before .before .before .before .before .before .before .before .before .before .before)) .1
+          ∙ ap (λ (s : IsoChannelState). submittedRing s (a .transfer) (a .lengths .now) (a .ring .now))
+          (read-is (c .before .before .before .before .before .before .before .before .before .before .before .before .before .before .before .before .before .before)),
     )
 
 pub submit-at-spec : {M : Type 1} → statement M

@@ -19,13 +19,14 @@ clash-requires c κs = search needs
 returns : tie.Need-returns
 returns c = λ fatal requests plans w.
     let a = c .before .before .before .before .before .before .before .args in
+    let insert = c .before .before .before .before .insert-of in
     let s = whole (a .cfg) (a .head) fatal requests plans in
     record {
       bad = w .bad;
       found = λ good.
           let walked = w .found good in
-          found-at s (a .transfer) (a .lengths .now) (a .ring .now) _ (walked .all) (walked .pending) (walked .tail) (c .before .before .before .before .insert-of .ensures) (λ few.
-          c .clash .ensures ∙ clash-marked (a .cfg) (a .t4 .held) (pendingPlans s) (walked .held) (c .before .before .before .before .insert-of .result) (length (a .lengths .now)));
+          found-at s (a .transfer) (a .lengths .now) (a .ring .now) _ (walked .all) (walked .pending) (walked .tail) (insert .ensures) (λ few.
+          c .clash .ensures ∙ clash-marked (a .cfg) (a .t4 .held) (pendingPlans s) (walked .held) (insert .result) (length (a .lengths .now)));
     }
 
 -- too many packets for the clash to be asked

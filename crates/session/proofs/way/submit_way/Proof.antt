@@ -20,6 +20,10 @@ use Rattle.session.proofs.way.submit_way.Tie as tie
 abbrev of : (c : tie.Start) → List IsoRequest → List IsoPacketPlan → IsoChannelState
 of c requests plans = whole (c .args .cfg) (c .args .head) (c .args .fatal) requests plans
 
+-- what was asked is of this session
+abbrev Known : (c : tie.Start) → List IsoRequest → List IsoPacketPlan → Type 0
+Known c requests plans = let a = c .args in Asked (of c requests plans) (a .transfer) (a .lengths .now) (a .ring .now) (a .scan)
+
 -- no test of the first ten held, so the packets are few, and there is room for the request and a ring for them
 entry :
     (c : tie.Else1)
@@ -29,11 +33,13 @@ entry c = c .before .entry-refusal .ensures .1 (c .if1 .left)
 
 none :
     (c : tie.Else1) (requests : List IsoRequest) (plans : List IsoPacketPlan)
-    → Asked (of (c .before .before .before .before) requests plans) (c .before .before .before .before .args .transfer) (c .before .before .before .before .args .lengths .now) (c .before .before .before .before .args .ring .now) (c .before .before .before .before .args .scan)
+    → Known (c .before .before .before .before) requests plans
     → entryRefusal (of (c .before .before .before .before) requests plans) (c .before .before .before .before .args .transfer)
     (length (c .before .before .before .before .args .lengths .now)) (length (c .before .before .before .before .args .ring .now))
     ≡ 0
-none c requests plans w = sym (c .before .entry-refusal .ensures .0 requests plans (c .before .before .before .before .args .lengths .now) (c .before .before .before .before .args .ring .now) w) ∙ c .if1 .left
+none c requests plans w =
+    let a = c .before .before .before .before .args in
+    sym (c .before .entry-refusal .ensures .0 requests plans (a .lengths .now) (a .ring .now) w) ∙ c .if1 .left
 
 long-is :
     (c : tie.After-first-long) (requests : List IsoRequest) (plans : List IsoPacketPlan)
@@ -45,8 +51,7 @@ long-is c requests plans =
 
 spend-is :
     (c : tie.After-spend-refusal) (requests : List IsoRequest) (plans : List IsoPacketPlan)
-    → Asked (of (c .before .before .before .before .before .before .before .before) requests plans) (c .before .before .before .before .before .before .before .before .args .transfer) (c .before .before .before .before .before .before .before .before .args .lengths .now) (c .before .before .before .before .before .before .before .before .args .ring .now)
-    (c .before .before .before .before .before .before .before .before .args .scan)
+    → Known (c .before .before .before .before .before .before .before .before) requests plans
     → c .spend-refusal .result
     ≡ spendRefusal (of (c .before .before .before .before .before .before .before .before) requests plans)
     (c .before .before .before .before .before .before .before .before .args .transfer)
@@ -70,8 +75,8 @@ returns c = (
       let s = of (c .before .before .before .before) requests plans in
       let n = length (a .lengths .now) in
       refuse-way (c .before .entry-refusal .result) (entryRefusal s (a .transfer) n (length (a .ring .now))) (tooLong s (a .lengths .now)) n
-      (spendRefusal s (a .transfer) (a .lengths .now) (a .ring .now)) (gateWay s (a .transfer) n) (c .before .entry-refusal .ensures .0 requests plans (a .lengths .now) (a .ring .now) w)
-      (c .if1 .taken),
+      (spendRefusal s (a .transfer) (a .lengths .now) (a .ring .now)) (gateWay s (a .transfer) n)
+      (c .before .entry-refusal .ensures .0 requests plans (a .lengths .now) (a .ring .now) w) (c .if1 .taken),
   λ g. absurd g,
 )
 

@@ -37,18 +37,23 @@ long-plans c = sym (length-map (c .args .t1 .plans) _) ∙ c .good .0 .1 .1 .1 .
 -- what was asked is of the session
 answered :
     (c : tie.After-asked Inv-loop μ-loop)
-    → Asked (c .before .before .before .before .before .before .before .args .t1) (c .before .before .before .before .before .before .before .args .transfer) (c .before .before .before .before .before .before .before .args .lengths .now) (c .before .before .before .before .before .before .before .args .ring .now) (c .asked .result)
-answered c = c .asked .ensures (c .before .before .before .before .before .before .before .args .t1 .fatal) (c .before .before .before .before .before .before .before .args .t1 .requests) (c .before .before .before .before .before .before .before .args .t1 .plans) (c .before .before .scan .ensures)
+    → Asked (c .before .before .before .before .before .before .before .args .t1) (c .before .before .before .before .before .before .before .args .transfer)
+    (c .before .before .before .before .before .before .before .args .lengths .now)
+    (c .before .before .before .before .before .before .before .args .ring .now) (c .asked .result)
+answered c =
+    let s = c .before .before .before .before .before .before .before .args .t1 in
+    c .asked .ensures (s .fatal) (s .requests) (s .plans) (c .before .before .scan .ensures)
 
 -- the parts are the submission's
 parted :
     (c : tie.After-submit-parts Inv-loop μ-loop)
-    → Parted (c .before .before .before .before .before .before .before .before .before .args .t1) (c .before .before .before .before .before .before .before .before .before .args .transfer)
+    → Parted (c .before .before .before .before .before .before .before .before .before .args .t1)
+    (c .before .before .before .before .before .before .before .before .before .args .transfer)
     (c .before .before .before .before .before .before .before .before .before .args .lengths .now)
     (c .before .before .before .before .before .before .before .before .before .args .ring .now) (c .submit-parts .result)
 parted c =
-    c .submit-parts .ensures (c .before .before .before .before .before .before .before .before .before .args .t1 .requests)
-    (c .before .before .before .before .before .before .before .before .before .args .t1 .plans) (answered (c .before .before)) .0
+    let s = c .before .before .before .before .before .before .before .before .before .args .t1 in
+    c .submit-parts .ensures (s .requests) (s .plans) (answered (c .before .before)) .0
 
 -- where packets are added, they fit
 fits :
