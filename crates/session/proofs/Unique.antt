@@ -71,9 +71,6 @@ way-of-unique κs a x y u v = equal refl
 pub is-done-unique : Unique 0 reclaim.is_done.Kinds.ps reclaim.is_done.Kinds.r reclaim.is_done.Reads.Post
 is-done-unique κs a x y u v = equal refl
 
-pub result-word-unique : Unique 0 reclaim.result_word.Kinds.ps reclaim.result_word.Kinds.r reclaim.result_word.Reads.Post
-result-word-unique κs a x y u v = equal refl
-
 pub handed-answer-unique : Unique 0 reclaim.handed_answer.Kinds.ps reclaim.handed_answer.Kinds.r reclaim.handed_answer.Reads.Post
 handed-answer-unique κs a x y u v = equal refl
 

@@ -27,7 +27,6 @@ pub use place::insert_of;
 pub use poll::way_of;
 pub use reclaim::handed_answer;
 pub use reclaim::is_done;
-pub use reclaim::result_word;
 pub use record::has_reason;
 pub use record::is_bad_config;
 pub use record::is_bad_plan;

@@ -45,7 +45,7 @@ fn error_bit(status: TransferStatus) -> u32
 }
 
 // One packet's result: the length moved, the length asked for and whether it failed.
-pub fn result_word(plan: IsoPacketPlan) -> u64
+fn result_word(plan: IsoPacketPlan) -> u64
     ensures { λ r. ⌜ r ≡ resultWord plan ⌝ }
 {
     let status = plan.status;
