@@ -4,9 +4,10 @@
 ghost use mathlib.Core.Path.{_≡_};
 ghost use mathlib.Core.Bool.{true, false};
 ghost use Prim.Native.Nat.{_+_, _-_, _*_, _/_, _%_, _≤_};
+ghost use lib.Dec.{ltb};
 ghost use lib.ListN.{length, drop};
 ghost use lib.Seq.{slice};
-ghost use Rattle.session.specs.Session.{packetsOf};
+ghost use Rattle.session.specs.Session.{packetsOf, room};
 ghost use Rattle.port.specs.Layout.{anyOf};
 ghost use Rattle.port.specs.Places.{requestsOf};
 ghost use Rattle.port.specs.Scan.{isBadRequestEntry, isBadPlanEntry, hasPlainNames, hasPlainLimits, PlainFront, Sounded};
@@ -22,6 +23,7 @@ use crate::scan::bad_sums;
 use crate::scan::good_sums;
 use ring::iso_max_xfer_size;
 use ring::iso_ring_size;
+use session::IsoConfig;
 use session::IsoFatal;
 use session::is_bad_state;
 use session::is_over_room;
@@ -102,6 +104,29 @@ fn are_unsettled(bytes: &[u8], from: usize, to: usize, limit: u16, slots: u16) -
     (words < 16_777_216 * slots as u64) & (words / 256 % 65_536 <= limit as u64)
 }
 
+// The packets in flight, whose plans are those from `from` to `to`: there is room for them, and none is settled. Of none there is nothing to ask.
+fn are_plain_packets(
+    bytes: &[u8],
+    cfg: IsoConfig,
+    from: usize,
+    to: usize,
+    limit: u16,
+    slots: u16,
+) -> bool
+    requires { ⌜ (8488 ≤ length (now bytes)) × (from ≤ to) × (to ≤ 1024) ⌝ }
+    ensures { λ r. ⌜ (r ≡ true
+        → (ltb (room cfg) (to - from) ≡ false)
+        × (anyOf (isBadPlanEntry limit slots) 7 (to - from) (drop (1320 + 7 * from) (now (bytes .entry))) ≡ false)) ⌝ }
+{
+    if from == to {
+        return true;
+    }
+    if is_over_room(cfg, (to - from) as u64) {
+        return false;
+    }
+    are_unsettled(bytes, from, to, limit, slots)
+}
+
 pub(crate) fn plain_sums(bytes: &[u8]) -> RequestSums
     requires { ⌜ 8488 ≤ length (now bytes) ⌝ }
     ensures { λ r. ⌜ (r .bad ≡ false → Sounded (now (bytes .entry)) r) ⌝ }
@@ -122,14 +147,14 @@ pub(crate) fn plain_sums(bytes: &[u8]) -> RequestSums
     let used = plain_requests(bytes, head.count);
     let before = packets_before(bytes, head.done);
     let pending = used.packets - before;
-    if used.bad | ((used.packets > 1_024) | is_over_room(cfg, pending as u64)) {
+    if used.bad | (used.packets > 1_024) {
         return bad_sums();
     }
     let limit = iso_max_xfer_size(speed);
     if any_bad_plan_entry(bytes, before as u32, limit, slots) {
         return bad_sums();
     }
-    if are_unsettled(bytes, before, used.packets, limit, slots) {
+    if are_plain_packets(bytes, cfg, before, used.packets, limit, slots) {
         return good_sums(used.packets as u32, pending as u32);
     }
     bad_sums()

@@ -154,7 +154,7 @@ second-true true e = refl
 second-true false e = e
 
 -- entries of which none is there
-no-entry : (bad : List ℕ → Bool) (w n : ℕ) (xs : List ℕ) → n ≡ 0 → anyOf bad w n xs ≡ false
+pub no-entry : (bad : List ℕ → Bool) (w n : ℕ) (xs : List ℕ) → n ≡ 0 → anyOf bad w n xs ≡ false
 unfolding anyOf
 no-entry bad w n xs e = ap (λ (k : ℕ). anyOf bad w k xs) e
 

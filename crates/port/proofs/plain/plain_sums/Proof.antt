@@ -7,7 +7,7 @@ use lib.Dec.{ltb}
 use lib.ListN.{drop}
 use lib.Seq.{slice}
 use borrow.Author.Needs.{needs}
-use borrow.Author.Tests.{le-ltb, not-false}
+use borrow.Author.Tests.{ltb-false, le-ltb, not-false}
 use Rattle.words.proofs.Laws.Tests.{neither}
 use Rattle.ring.specs.RingSums.{packetLimit}
 use Rattle.session.specs.declared.types.IsoConfig.{IsoConfig}
@@ -20,7 +20,7 @@ use Rattle.port.specs.Layout.{anyOf, sessionOf}
 use Rattle.port.specs.Scan.{isBadRequestEntry, isBadPlanEntry, isUnsound, PlainFront}
 use Rattle.port.proofs.Laws.Placed.{config-there, head-there, requests-many}
 use Rattle.port.proofs.Laws.Scans.{never}
-use Rattle.port.proofs.Laws.Sounds.{isBadNumbers, numbers-test, sums-test, sums-few, counts, by-plans, idle-all, idle-pending, idle-good, good-sounded}
+use Rattle.port.proofs.Laws.Sounds.{isBadNumbers, numbers-test, sums-test, counts, by-plans, idle-all, idle-pending, idle-good, good-sounded}
 use Rattle.port.proofs.Laws.Tables.{any-split}
 use Rattle.port.proofs.plain.plain_sums.Statement.{statement}
 use Rattle.port.proofs.plain.plain_sums.Tie as tie
@@ -74,40 +74,42 @@ pending-is :
     → c .before .plain-requests .result .packets - c .packets-before .result ≡ pendingPackets (sessionOf (c .before .before .before .before .before .before .before .before .before .before .before .before .before .args .bytes .now))
 pending-is c = omega (arith, split c)
 
-requests : (c : tie.Else4) → let xs = c .before .before .before .before .before .before .before .before .before .before .before .before .before .before .before .before .before .before .args .bytes .now in anyOf isBadRequestEntry 20 (sessionOf xs .head .count) (drop 40 xs) ≡ false
+requests : (c : tie.Else4) → let xs = c .before .before .before .before .before .before .before .before .before .before .before .before .before .before .before .before .before .args .bytes .now in anyOf isBadRequestEntry 20 (sessionOf xs .head .count) (drop 40 xs) ≡ false
 requests c =
-    let xs = c .before .before .before .before .before .before .before .before .before .before .before .before .before .before .before .before .before .before .args .bytes .now in
-    let plain = neither (c .before .before .before .before .before .before .plain-requests .result .bad) _ (c .if4 .left) .0 in
-    sym (ap (λ (h : IsoHead). anyOf isBadRequestEntry 20 (h .count) (drop 40 xs)) (head-is (c .before .before .before .before .before .before .before .before .before .before .before .before .before))) ∙ c .before .before .before .before .before .before .plain-requests .ensures .0 plain
+    let xs = c .before .before .before .before .before .before .before .before .before .before .before .before .before .before .before .before .before .args .bytes .now in
+    let plain = neither (c .before .before .before .before .before .plain-requests .result .bad) _ (c .if4 .left) .0 in
+    sym (ap (λ (h : IsoHead). anyOf isBadRequestEntry 20 (h .count) (drop 40 xs)) (head-is (c .before .before .before .before .before .before .before .before .before .before .before .before))) ∙ c .before .before .before .before .before .plain-requests .ensures .0 plain
 
-sums : (c : tie.Else4) → isBadSums (sessionOf (c .before .before .before .before .before .before .before .before .before .before .before .before .before .before .before .before .before .before .args .bytes .now)) ≡ false
+few : (c : tie.Else4) → c .before .before .before .before .before .plain-requests .result .packets ≤ 1024
+few c =
+    ltb-false 1024 (c .before .before .before .before .before .plain-requests .result .packets)
+    (neither (c .before .before .before .before .before .plain-requests .result .bad) (ltb 1024 (c .before .before .before .before .before .plain-requests .result .packets)) (c .if4 .left) .1)
+
+sums : (c : tie.Then6) → isBadSums (sessionOf (c .before .before .before .before .before .before .before .before .before .before .before .before .before .before .before .before .before .before .before .before .before .before .args .bytes .now)) ≡ false
 sums c =
     sym
-    (sums-test (sessionOf (c .before .before .before .before .before .before .before .before .before .before .before .before .before .before .before .before .before .before .args .bytes .now)) (config-is (c .before .before .before .before .before .before .before .before .before .before .before .before .before .before)) (all-is (c .before .before .before .before .before .before)) (pending-is (c .before .before .before .before .before)) (c .before .before .is-over-room .ensures))
-    ∙ neither (c .before .before .before .before .before .before .plain-requests .result .bad) _ (c .if4 .left) .1
-
-few : (c : tie.Else4) → c .before .before .before .before .before .before .plain-requests .result .packets ≤ 1024
-few c = subst⁻¹ (λ (n : ℕ). n ≤ 1024) (all-is (c .before .before .before .before .before .before)) (sums-few (sessionOf (c .before .before .before .before .before .before .before .before .before .before .before .before .before .before .before .before .before .before .args .bytes .now)) (sums c))
+    (sums-test (sessionOf (c .before .before .before .before .before .before .before .before .before .before .before .before .before .before .before .before .before .before .before .before .before .before .args .bytes .now)) (config-is (c .before .before .before .before .before .before .before .before .before .before .before .before .before .before .before .before .before .before)) (all-is (c .before .before .before .before .before .before .before .before .before .before)) (pending-is (c .before .before .before .before .before .before .before .before .before)) refl)
+    ∙ none (le-ltb 1024 (c .before .before .before .before .before .before .before .before .before .before .plain-requests .result .packets) (few (c .before .before .before .before .before))) (c .before .are-plain-packets .ensures (c .if6 .taken) .0)
 
 -- the plans, of the completed requests and of the pending ones
-good : (c : tie.Then6) → isUnsound (c .before .before .before .before .before .before .before .before .before .before .before .before .before .before .before .before .before .before .before .before .before .before .before .args .bytes .now) ≡ false
+good : (c : tie.Then6) → isUnsound (c .before .before .before .before .before .before .before .before .before .before .before .before .before .before .before .before .before .before .before .before .before .before .args .bytes .now) ≡ false
 good c =
-    let xs = c .before .before .before .before .before .before .before .before .before .before .before .before .before .before .before .before .before .before .before .before .before .before .before .args .bytes .now in
+    let xs = c .before .before .before .before .before .before .before .before .before .before .before .before .before .before .before .before .before .before .before .before .before .before .args .bytes .now in
     let s = sessionOf xs in
-    let limit = c .before .before .before .before .iso-max-xfer-size .ensures ∙ ap (λ (k : IsoConfig). packetLimit (k .speed)) (config-is (c .before .before .before .before .before .before .before .before .before .before .before .before .before .before .before .before .before .before .before)) in
-    let size = c .before .before .before .before .before .before .before .before .before .before .before .before .before .before .before .before .before .iso-ring-size .ensures ∙ ap slots (config-is (c .before .before .before .before .before .before .before .before .before .before .before .before .before .before .before .before .before .before .before)) in
-    let before = c .before .before .before .before .before .before .before .before .before .before .packets-before .result in
-    let all = c .before .before .before .before .before .before .before .before .before .before .before .plain-requests .result .packets in
-    let bad = isBadPlanEntry (c .before .before .before .before .iso-max-xfer-size .result) (c .before .before .before .before .before .before .before .before .before .before .before .before .before .before .before .before .before .iso-ring-size .result) in
-    let whole : before + (all - before) ≡ all = omega (arith, split (c .before .before .before .before .before .before .before .before .before .before)) in
+    let limit = c .before .before .before .before .iso-max-xfer-size .ensures ∙ ap (λ (k : IsoConfig). packetLimit (k .speed)) (config-is (c .before .before .before .before .before .before .before .before .before .before .before .before .before .before .before .before .before .before)) in
+    let size = c .before .before .before .before .before .before .before .before .before .before .before .before .before .before .before .before .iso-ring-size .ensures ∙ ap slots (config-is (c .before .before .before .before .before .before .before .before .before .before .before .before .before .before .before .before .before .before)) in
+    let before = c .before .before .before .before .before .before .before .before .before .packets-before .result in
+    let all = c .before .before .before .before .before .before .before .before .before .before .plain-requests .result .packets in
+    let bad = isBadPlanEntry (c .before .before .before .before .iso-max-xfer-size .result) (c .before .before .before .before .before .before .before .before .before .before .before .before .before .before .before .before .iso-ring-size .result) in
+    let whole : before + (all - before) ≡ all = omega (arith, split (c .before .before .before .before .before .before .before .before .before)) in
     let clear : anyOf bad 7 all (drop 1320 xs) ≡ false =
     sym (ap (λ (n : ℕ). anyOf bad 7 n (drop 1320 xs)) whole)
     ∙ any-split bad 7 before (all - before) 1320 xs
-    ∙ none (sym (c .before .before .before .any-bad-plan-entry .ensures) ∙ c .before .before .if5 .left) (c .before .are-unsettled .ensures (c .if6 .taken)) in
-    by-plans xs (numbers (c .before .before .before .before .before .before .before .before .before .before .before .before .before .before)) (front (c .before .before .before .before .before .before .before .before .before .before .before .before .before .before .before .before .before .before .before .before) .before) (requests (c .before .before .before .before .before)) (sums (c .before .before .before .before .before))
+    ∙ none (sym (c .before .before .before .any-bad-plan-entry .ensures) ∙ c .before .before .if5 .left) (c .before .are-plain-packets .ensures (c .if6 .taken) .1) in
+    by-plans xs (numbers (c .before .before .before .before .before .before .before .before .before .before .before .before .before)) (front (c .before .before .before .before .before .before .before .before .before .before .before .before .before .before .before .before .before .before .before) .before) (requests (c .before .before .before .before .before)) (sums c)
     ∙ sym
     (ap₂ (λ (l z : ℕ). anyOf (isBadPlanEntry l z) 7 all (drop 1320 xs)) limit size
-    ∙ ap (λ (n : ℕ). anyOf (isBadPlanEntry (packetLimit (s .cfg .speed)) (slots (s .cfg))) 7 n (drop 1320 xs)) (all-is (c .before .before .before .before .before .before .before .before .before .before .before)))
+    ∙ ap (λ (n : ℕ). anyOf (isBadPlanEntry (packetLimit (s .cfg .speed)) (slots (s .cfg))) 7 n (drop 1320 xs)) (all-is (c .before .before .before .before .before .before .before .before .before .before)))
     ∙ clear
 
 is-plain-front-requires : tie.Need-is-plain-front-requires
@@ -157,9 +159,6 @@ packets-before-requires c κs = (c .before .before .before .before .before .befo
 sub-pending : tie.Need-sub-pending
 sub-pending c = omega (arith, split (c .before))
 
-is-over-room-requires : tie.Need-is-over-room-requires
-is-over-room-requires c κs = search needs
-
 bad-sums-requires-3 : tie.Need-bad-sums-requires-3
 bad-sums-requires-3 c κs = search needs
 
@@ -170,10 +169,10 @@ iso-max-xfer-size-requires : tie.Need-iso-max-xfer-size-requires
 iso-max-xfer-size-requires c κs = search needs
 
 cast-any-bad-plan-entry : tie.Need-cast-any-bad-plan-entry
-cast-any-bad-plan-entry c = omega (arith, split (c .before .before .before .before .before .before), few (c .before))
+cast-any-bad-plan-entry c = omega (arith, split (c .before .before .before .before .before), few (c .before))
 
 any-bad-plan-entry-requires : tie.Need-any-bad-plan-entry-requires
-any-bad-plan-entry-requires c κs = (c .before .before .before .before .before .before .before .before .before .before .before .before .before .before .before .before .before .before .before .pre, omega (arith, split (c .before .before .before .before .before .before), few (c .before)))
+any-bad-plan-entry-requires c κs = (c .before .before .before .before .before .before .before .before .before .before .before .before .before .before .before .before .before .before .pre, omega (arith, split (c .before .before .before .before .before), few (c .before)))
 
 bad-sums-requires-4 : tie.Need-bad-sums-requires-4
 bad-sums-requires-4 c κs = search needs
@@ -181,8 +180,8 @@ bad-sums-requires-4 c κs = search needs
 returns-5 : tie.Need-returns-5
 returns-5 c = λ e. absurd (never (sym (c .bad-sums4 .ensures .0) ∙ e))
 
-are-unsettled-requires : tie.Need-are-unsettled-requires
-are-unsettled-requires c κs = (c .before .before .before .before .before .before .before .before .before .before .before .before .before .before .before .before .before .before .before .before .before .pre, omega (arith, split (c .before .before .before .before .before .before .before .before)), few (c .before .before .before))
+are-plain-packets-requires : tie.Need-are-plain-packets-requires
+are-plain-packets-requires c κs = (c .before .before .before .before .before .before .before .before .before .before .before .before .before .before .before .before .before .before .before .before .pre, omega (arith, split (c .before .before .before .before .before .before .before)), few (c .before .before .before))
 
 cast-good-sums : tie.Need-cast-good-sums
 cast-good-sums c = omega (arith, few (c .before .before .before .before .before .before))
@@ -196,7 +195,7 @@ good-sums-requires-2 c κs = search needs
 returns-6 : tie.Need-returns-6
 returns-6 c =
     λ e.
-    good-sounded (c .before .before .before .before .before .before .before .before .before .before .before .before .before .before .before .before .before .before .before .before .before .before .before .before .before .args .bytes .now) (c .good-sums2 .result) (c .good-sums2 .ensures) (all-is (c .before .before .before .before .before .before .before .before .before .before .before .before .before)) (pending-is (c .before .before .before .before .before .before .before .before .before .before .before .before)) (good (c .before .before))
+    good-sounded (c .before .before .before .before .before .before .before .before .before .before .before .before .before .before .before .before .before .before .before .before .before .before .before .before .args .bytes .now) (c .good-sums2 .result) (c .good-sums2 .ensures) (all-is (c .before .before .before .before .before .before .before .before .before .before .before .before)) (pending-is (c .before .before .before .before .before .before .before .before .before .before .before)) (good (c .before .before))
 
 bad-sums-requires-5 : tie.Need-bad-sums-requires-5
 bad-sums-requires-5 c κs = search needs
@@ -222,7 +221,6 @@ plain-sums-spec =
     plain-requests-requires
     packets-before-requires
     sub-pending
-    is-over-room-requires
     bad-sums-requires-3
     returns-4
     iso-max-xfer-size-requires
@@ -230,7 +228,7 @@ plain-sums-spec =
     any-bad-plan-entry-requires
     bad-sums-requires-4
     returns-5
-    are-unsettled-requires
+    are-plain-packets-requires
     cast-good-sums
     cast-good-sums-2
     good-sums-requires-2
