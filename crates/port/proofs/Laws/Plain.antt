@@ -1,24 +1,23 @@
 -- What stands before the tables in the common case, read as three numbers of eight bytes: each test of one is a test of its bytes.
-use mathlib.Core.Path.{_≡_, refl, _∙_, sym, ap, ap₂}
-use mathlib.Core.Bool.{Bool, true, false, _||_, _&&_}
+use mathlib.Core.Path.{_≡_, refl, _∙_, sym, ap}
+use mathlib.Core.Bool.{true}
 use mathlib.Core.List.{List}
 use Prim.Native.Nat.{ℕ, _+_, _*_, _/_, _%_, _≤_, _<_}
 use native.Mathlib.Nat.{div-div-eq-div-mul}
 use native.Mathlib.Omega.{arith}
-use lib.Dec.{eqb, ltb}
+use lib.Dec.{eqb}
 use lib.ListN.{getD, drop}
 use lib.Seq.{getD-drop, drop-drop}
-use borrow.Author.Tests.{eqb-true, le-ltb, eq-eqb}
+use borrow.Author.Tests.{eqb-true, le-ltb}
 use Rattle.session.proofs.Laws.Tests.{none}
 use Rattle.session.specs.declared.types.IsoFatal.the-variants.{Nothing}
-use Rattle.session.specs.Record.{isBadConfig}
 use Rattle.port.specs.Bytes.{byteOf, u16Of, u32Of, u64Of}
 use Rattle.port.specs.Tags.{tagged, taggedOf, fatalOf, isBadTagged}
-use Rattle.port.specs.Layout.{configOf, headOf, isBadMark, isBadHead, sessionOf}
+use Rattle.port.specs.Layout.{configOf, headOf, sessionOf}
 use Rattle.port.specs.Scan.{hasPlainNames, hasPlainLimits, PlainFront}
 use Rattle.port.proofs.Laws.Entries.{pair, ends-here, no-tag}
 use Rattle.port.proofs.Laws.Head.{are, bad-mark-at, bad-head-at}
-use Rattle.port.proofs.Laws.Kept.{Octets, octets-drop, both, byte-small, u16-small}
+use Rattle.port.proofs.Laws.Kept.{Octets, octets-drop, both, byte-small}
 
 -- the number of eight bytes, byte by byte
 by-bytes :

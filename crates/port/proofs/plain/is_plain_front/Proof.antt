@@ -1,6 +1,5 @@
 -- Each byte is below 256, so that a test of a number of eight is one of each.
 use native.Mathlib.Omega.{arith}
-use lib.Dec.{leb}
 use mathlib.Core.Path.{_∙_, sym, ap}
 use borrow.Author.Needs.{needs}
 use borrow.Author.Tests.{leb-true}

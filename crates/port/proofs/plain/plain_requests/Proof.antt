@@ -1,7 +1,6 @@
 -- The invariant: what is put together is below none of the numbers passed; where it is small, a bad entry is among those still to be looked at
 -- exactly if one is in use. The sum so far and the packets of the others are the packets of all. The measure is how many are left.
 use mathlib.Core.Path.{_≡_, refl, _∙_, sym, ap}
-use mathlib.Core.Bool.{false}
 use Prim.Native.Nat.{ℕ, _+_, _-_, _*_, _≤_}
 use native.Mathlib.Nat.{zero-add}
 use native.Mathlib.Omega.{arith}
