@@ -127,6 +127,7 @@ fn are_plain_packets(
     are_unsettled(bytes, from, to, limit, slots)
 }
 
+// The packets of a plain session. Completed plans have moved bytes of their own and are looked at one by one.
 pub(crate) fn plain_sums(bytes: &[u8]) -> RequestSums
     requires { ⌜ 8488 ≤ length (now bytes) ⌝ }
     ensures { λ r. ⌜ (r .bad ≡ false → Sounded (now (bytes .entry)) r) ⌝ }

@@ -94,7 +94,7 @@ fn requests_checked(bytes: &[u8], n: u16) -> Used
     }
 }
 
-// Whether a plan in use is bad by either check.
+// Whether one of the first plans, `all` of them, is bad by either check.
 pub(crate) fn any_bad_plan_entry(bytes: &[u8], all: u32, limit: u16, slots: u16) -> bool
     requires { ⌜ (8488 ≤ length (now bytes)) × (all ≤ 1024) ⌝ }
     ensures { λ r. ⌜ r ≡ anyOf (isBadPlanEntry limit slots) 7 all (drop 1320 (now (bytes .entry))) ⌝ }

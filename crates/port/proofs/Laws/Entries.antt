@@ -146,7 +146,27 @@ pub pair : (ys : List ℕ) → u16Of ys ≡ byteOf ys + 256 * byteOf (drop 1 ys)
 unfolding u16Of byteOf
 pair ys = ap (λ (n : ℕ). getD ys 0 0 + 256 * n) (sym (getD-drop 1 ys 0 0))
 
--- the number of eight bytes by the fields of a plan, which are the last seven of them
+-- the number of eight bytes, byte by byte
+pub by-bytes :
+    (ys : List ℕ)
+    → u64Of ys
+    ≡ byteOf ys
+    + 256 * byteOf (drop 1 ys)
+    + 65536 * byteOf (drop 2 ys)
+    + 16777216 * byteOf (drop 3 ys)
+    + 4294967296 * byteOf (drop 4 ys)
+    + 1099511627776 * byteOf (drop 5 ys)
+    + 281474976710656 * byteOf (drop 6 ys)
+    + 72057594037927936 * byteOf (drop 7 ys)
+unfolding u64Of u32Of u16Of byteOf
+by-bytes ys =
+    let at : (k i : ℕ) → getD (drop k ys) i 0 ≡ getD ys (k + i) 0 = λ k i. getD-drop k ys i 0 in
+    let six : drop 2 (drop 4 ys) ≡ drop 6 ys = drop-drop 2 4 ys in
+    let low = ap (λ (l : List ℕ). getD l 0 0) six in
+    let high = ap (λ (l : List ℕ). getD l 1 0) six in
+    omega (arith, low, high, at 1 0, at 2 0, at 2 1, at 3 0, at 4 0, at 4 1, at 5 0, at 6 0, at 6 1, at 7 0)
+
+-- the same by the fields of a plan, which are the last seven of them
 pub by-plan :
     (ys : List ℕ)
     → u64Of ys
@@ -155,14 +175,9 @@ pub by-plan :
     + 16777216 * u16Of (drop 3 ys)
     + 1099511627776 * u16Of (drop 5 ys)
     + 72057594037927936 * byteOf (drop 7 ys)
-unfolding u64Of u32Of u16Of byteOf
 by-plan ys =
-    let at : (k i : ℕ) → getD (drop k ys) i 0 ≡ getD ys (k + i) 0 = λ k i. getD-drop k ys i 0 in
-    let six : drop 2 (drop 4 ys) ≡ drop 6 ys = drop-drop 2 4 ys in
-    let low = ap (λ (l : List ℕ). getD l 0 0) six in
-    let high = ap (λ (l : List ℕ). getD l 1 0) six in
-    omega
-    (arith, low, high, at 1 0, at 1 1, at 2 0, at 2 1, at 3 0, at 3 1, at 4 0, at 4 1, at 5 0, at 5 1, at 6 0, at 6 1, at 7 0)
+    let on : (k : ℕ) → byteOf (drop 1 (drop k ys)) ≡ byteOf (drop (k + 1) ys) = λ k. ap byteOf (drop-drop 1 k ys) in
+    omega (arith, by-bytes ys, pair (drop 1 ys), on 1, pair (drop 3 ys), on 3, pair (drop 5 ys), on 5)
 
 -- where the number ends with its first two bytes, the six behind them are the tag 0 without fault and word
 module _ (ys : List ℕ) (h : u64Of ys < 65536) where

@@ -1,13 +1,13 @@
 -- What stands before the tables in the common case, read as three numbers of eight bytes: each test of one is a test of its bytes.
-use mathlib.Core.Path.{_≡_, refl, _∙_, sym, ap}
+use mathlib.Core.Path.{_≡_, refl, _∙_, sym, ap, subst}
 use mathlib.Core.Bool.{true}
 use mathlib.Core.List.{List}
 use Prim.Native.Nat.{ℕ, _+_, _*_, _/_, _%_, _≤_, _<_}
-use native.Mathlib.Nat.{div-div-eq-div-mul}
+use native.Mathlib.Nat.{one-mul, mul-comm, mul-assoc, div-div-eq-div-mul, add-mul-div-left, div-lt-iff-lt-mul, mod-eq-of-lt, add-mul-mod-self-left}
 use native.Mathlib.Omega.{arith}
 use lib.Dec.{eqb}
-use lib.ListN.{getD, drop}
-use lib.Seq.{getD-drop, drop-drop}
+use lib.ListN.{drop}
+use lib.Seq.{drop-drop}
 use borrow.Author.Tests.{eqb-true, le-ltb}
 use Rattle.session.proofs.Laws.Tests.{none}
 use Rattle.session.specs.declared.types.IsoFatal.the-variants.{Nothing}
@@ -15,43 +15,23 @@ use Rattle.port.specs.Bytes.{byteOf, u16Of, u32Of, u64Of}
 use Rattle.port.specs.Tags.{tagged, taggedOf, fatalOf, isBadTagged}
 use Rattle.port.specs.Layout.{configOf, headOf, sessionOf}
 use Rattle.port.specs.Scan.{hasPlainNames, hasPlainLimits, PlainFront}
-use Rattle.port.proofs.Laws.Entries.{pair, ends-here, no-tag}
+use Rattle.port.proofs.Laws.Entries.{pair, by-bytes, ends-here, no-tag}
 use Rattle.port.proofs.Laws.Head.{are, bad-mark-at, bad-head-at}
 use Rattle.port.proofs.Laws.Kept.{Octets, octets-drop, both, byte-small}
 
--- the number of eight bytes, byte by byte
-by-bytes :
-    (ys : List ℕ)
-    → u64Of ys
-    ≡ byteOf ys
-    + 256 * byteOf (drop 1 ys)
-    + 65536 * byteOf (drop 2 ys)
-    + 16777216 * byteOf (drop 3 ys)
-    + 4294967296 * byteOf (drop 4 ys)
-    + 1099511627776 * byteOf (drop 5 ys)
-    + 281474976710656 * byteOf (drop 6 ys)
-    + 72057594037927936 * byteOf (drop 7 ys)
-unfolding u64Of u32Of u16Of byteOf
-by-bytes ys =
-    let at : (k i : ℕ) → getD (drop k ys) i 0 ≡ getD ys (k + i) 0 = λ k i. getD-drop k ys i 0 in
-    let six : drop 2 (drop 4 ys) ≡ drop 6 ys = drop-drop 2 4 ys in
-    let low = ap (λ (l : List ℕ). getD l 0 0) six in
-    let high = ap (λ (l : List ℕ). getD l 1 0) six in
-    omega (arith, low, high, at 1 0, at 2 0, at 2 1, at 3 0, at 4 0, at 4 1, at 5 0, at 6 0, at 6 1, at 7 0)
-
--- the lowest byte of a number: where its bits from one on are 0, the byte is below that one's value
-module _ (q x high : ℕ) (few : x < 256) (e : q ≡ x + 256 * high) where
-  under-2 : q / 2 % 128 ≡ 0 → x ≤ 1
-  under-2 t = omega arith
-
-  under-4 : q / 4 % 64 ≡ 0 → x ≤ 3
-  under-4 t = omega arith
-
-  under-16 : q / 16 % 16 ≡ 0 → x ≤ 15
-  under-16 t = omega arith
-
-  under-128 : q / 128 % 2 ≡ 0 → x ≤ 127
-  under-128 t = omega arith
+-- a byte in a number, at k: where its bits from t on are 0, the byte is below t
+under : (t u k n x high : ℕ) → 0 < t → t * u ≡ 256 → x < 256 → n / k ≡ x + 256 * high → n / (k * t) % u ≡ 0 → x < t
+under t u k n x high some whole few e zeros =
+    let spread : 256 * high ≡ t * (u * high) = ap (λ (m : ℕ). m * high) (sym whole) ∙ mul-assoc t u high in
+    let quotient : n / (k * t) ≡ x / t + u * high =
+    sym (div-div-eq-div-mul n k t)
+    ∙ ap (λ (m : ℕ). m / t) (e ∙ ap (λ (m : ℕ). x + m) spread)
+    ∙ add-mul-div-left x (u * high) some in
+    let below : x / t < u = div-lt-iff-lt-mul some .1 (subst (λ (m : ℕ). x < m) (sym whole ∙ mul-comm t u) few) in
+    let upper : x / t ≡ 0 =
+    sym (mod-eq-of-lt below) ∙ sym (add-mul-mod-self-left (x / t) u high) ∙ sym (ap (λ (m : ℕ). m % u) quotient) ∙ zeros in
+    let least : x / t < 1 = omega (arith, upper) in
+    subst (λ (m : ℕ). x < m) (one-mul t) (div-lt-iff-lt-mul some .0 least)
 
 -- digits below 256: tests of the number made of them
 module _ (a b c d e f g h : ℕ) (la : a < 256) (lb : b < 256) (lc : c < 256) (ld : d < 256) (le : e < 256) (lf : f < 256) (lg : g < 256) (lh : h < 256) where
@@ -74,8 +54,8 @@ module _ (a b c d e f g h : ℕ) (la : a < 256) (lb : b < 256) (lc : c < 256) (l
         omega arith,
         omega arith,
         omega arith,
-        under-2 (number / 1099511627776) f (g + 256 * h) lf sixth (ap (λ (m : ℕ). m % 128) (div-div-eq-div-mul number 1099511627776 2) ∙ speed),
-        under-2 (number / 281474976710656) g h lg seventh (ap (λ (m : ℕ). m % 128) (div-div-eq-div-mul number 281474976710656 2) ∙ direction),
+        omega (arith, under 2 128 1099511627776 number f (g + 256 * h) (omega arith) refl lf sixth speed),
+        omega (arith, under 2 128 281474976710656 number g h (omega arith) refl lg seventh direction),
         omega arith,
       )
 
@@ -94,9 +74,9 @@ module _ (a b c d e f g h : ℕ) (la : a < 256) (lb : b < 256) (lc : c < 256) (l
       let sixth : number / 1099511627776 ≡ f + 256 * (g + 256 * h) = omega arith in
       let seventh : number / 281474976710656 ≡ g + 256 * h = omega arith in (
         omega arith,
-        under-16 (number / 4294967296) e (f + 256 * (g + 256 * h)) le fifth (ap (λ (m : ℕ). m % 16) (div-div-eq-div-mul number 4294967296 16) ∙ endpoint),
-        under-128 (number / 1099511627776) f (g + 256 * h) lf sixth (ap (λ (m : ℕ). m % 2) (div-div-eq-div-mul number 1099511627776 128) ∙ device),
-        under-4 (number / 281474976710656) g h lg seventh (ap (λ (m : ℕ). m % 64) (div-div-eq-div-mul number 281474976710656 4) ∙ mult),
+        omega (arith, under 16 16 4294967296 number e (f + 256 * (g + 256 * h)) (omega arith) refl le fifth endpoint),
+        omega (arith, under 128 2 1099511627776 number f (g + 256 * h) (omega arith) refl lf sixth device),
+        omega (arith, under 4 64 281474976710656 number g h (omega arith) refl lg seventh mult),
         omega arith,
       )
 
