@@ -37,79 +37,111 @@ head-is c = c .head-at .ensures ∙ head-there (c .before .before .before .befor
 -- the configuration, the counts and the state
 numbers : (c : tie.Else2) → isBadNumbers (sessionOf (c .before .before .before .before .before .before .before .before .before .args .bytes .now)) ≡ false
 numbers c =
-    let xs = c .before .before .before .before .before .before .before .before .before .args .bytes .now in
     let plain = front (c .before .before .before .before .before .before) in
     let config = config-is (c .before .before .before .before .before) in
     let head = head-is (c .before .before .before .before) in
     let h = c .before .before .before .before .head-at .result in
-    let two = neither (ltb (h .count) (h .done)) (c .before .is-bad-state .result) (c .if2 .left) in
+    let state = c .before .is-bad-state in
+    let two = neither (ltb (h .count) (h .done)) (state .result) (c .if2 .left) in
     let few : h .count ≤ 64 = subst⁻¹ (λ (k : IsoHead). k .count ≤ 64) head (plain .few) in
     let tests = none (ap isBadConfig config ∙ plain .config) (none (none (two .0) (le-ltb 64 (h .count) few)) (two .1)) in
-    numbers-test (sessionOf xs) config head (sym (plain .lasting)) (c .before .before .before .iso-ring-size .ensures ∙ ap slots config) refl (c .before .is-bad-state .ensures) tests
+    let size = c .before .before .before .iso-ring-size .ensures ∙ ap slots config in
+    numbers-test (sessionOf (c .before .before .before .before .before .before .before .before .before .args .bytes .now)) config head (sym (plain .lasting)) size refl (state .ensures) tests
 
-in-range : (c : tie.Else2) → let head = c .before .before .before .before .head-at .result in (head .done ≤ head .count) × (head .count ≤ 64)
+in-range :
+    (c : tie.Else2)
+    → let head = c .before .before .before .before .head-at .result in
+    (head .done ≤ head .count) × (head .count ≤ 64)
 in-range c =
-    subst⁻¹ (λ (h : IsoHead). (h .done ≤ h .count) × (h .count ≤ 64)) (head-is (c .before .before .before .before)) (counts (c .before .before .before .before .before .before .before .before .before .args .bytes .now) (numbers c))
+    let xs = c .before .before .before .before .before .before .before .before .before .args .bytes .now in
+    let head = head-is (c .before .before .before .before) in
+    subst⁻¹ (λ (h : IsoHead). (h .done ≤ h .count) × (h .count ≤ 64)) head (counts xs (numbers c))
 
 -- the requests, and their packets
-all-is : (c : tie.After-plain-requests) → c .plain-requests .result .packets ≡ allPackets (sessionOf (c .before .before .before .before .before .before .before .before .before .before .before .before .args .bytes .now))
+all-is :
+    (c : tie.After-plain-requests)
+    → let xs = c .before .before .before .before .before .before .before .before .before .before .before .before .args .bytes .now in
+    c .plain-requests .result .packets ≡ allPackets (sessionOf xs)
 all-is c =
     let xs = c .before .before .before .before .before .before .before .before .before .before .before .before .args .bytes .now in
-    c .plain-requests .ensures .1 ∙ ap (λ (h : IsoHead). packetsOf (slice 0 (h .count) (sessionOf xs .requests))) (head-is (c .before .before .before .before .before .before .before))
+    let head = head-is (c .before .before .before .before .before .before .before) in
+    c .plain-requests .ensures .1 ∙ ap (λ (h : IsoHead). packetsOf (slice 0 (h .count) (sessionOf xs .requests))) head
 
 split :
     (c : tie.After-packets-before)
-    → c .before .plain-requests .result .packets ≡ c .packets-before .result + pendingPackets (sessionOf (c .before .before .before .before .before .before .before .before .before .before .before .before .before .args .bytes .now))
+    → let xs = c .before .before .before .before .before .before .before .before .before .before .before .before .before .args .bytes .now in
+    c .before .plain-requests .result .packets ≡ c .packets-before .result + pendingPackets (sessionOf xs)
 split c =
     let xs = c .before .before .before .before .before .before .before .before .before .before .before .before .before .args .bytes .now in
     let s = sessionOf xs in
     let within = counts xs (numbers (c .before .before .before .before)) in
-    let done = c .packets-before .ensures ∙ ap (λ (h : IsoHead). packetsOf (slice 0 (h .done) (s .requests))) (head-is (c .before .before .before .before .before .before .before .before)) in
+    let head = head-is (c .before .before .before .before .before .before .before .before) in
+    let done = c .packets-before .ensures ∙ ap (λ (h : IsoHead). packetsOf (slice 0 (h .done) (s .requests))) head in
     all-is (c .before)
     ∙ packets-split (s .head .done) (s .head .count) (s .requests) (within .0) (omega (arith, within .1, requests-many xs))
     ∙ ap (λ (n : ℕ). n + pendingPackets s) (sym done)
 
 pending-is :
     (c : tie.After-packets-before)
-    → c .before .plain-requests .result .packets - c .packets-before .result ≡ pendingPackets (sessionOf (c .before .before .before .before .before .before .before .before .before .before .before .before .before .args .bytes .now))
+    → let xs = c .before .before .before .before .before .before .before .before .before .before .before .before .before .args .bytes .now in
+    c .before .plain-requests .result .packets - c .packets-before .result ≡ pendingPackets (sessionOf xs)
 pending-is c = omega (arith, split c)
 
-requests : (c : tie.Else4) → let xs = c .before .before .before .before .before .before .before .before .before .before .before .before .before .before .before .before .before .args .bytes .now in anyOf isBadRequestEntry 20 (sessionOf xs .head .count) (drop 40 xs) ≡ false
+requests :
+    (c : tie.Else4)
+    → let xs = c .before .before .before .before .before .before .before .before .before .before .before .before .before .before .before .before .before .args .bytes .now in
+    anyOf isBadRequestEntry 20 (sessionOf xs .head .count) (drop 40 xs) ≡ false
 requests c =
     let xs = c .before .before .before .before .before .before .before .before .before .before .before .before .before .before .before .before .before .args .bytes .now in
-    let plain = neither (c .before .before .before .before .before .plain-requests .result .bad) _ (c .if4 .left) .0 in
-    sym (ap (λ (h : IsoHead). anyOf isBadRequestEntry 20 (h .count) (drop 40 xs)) (head-is (c .before .before .before .before .before .before .before .before .before .before .before .before))) ∙ c .before .before .before .before .before .plain-requests .ensures .0 plain
+    let used = c .before .before .before .before .before .plain-requests in
+    let plain = neither (used .result .bad) _ (c .if4 .left) .0 in
+    let head = head-is (c .before .before .before .before .before .before .before .before .before .before .before .before) in
+    sym (ap (λ (h : IsoHead). anyOf isBadRequestEntry 20 (h .count) (drop 40 xs)) head) ∙ used .ensures .0 plain
 
 few : (c : tie.Else4) → c .before .before .before .before .before .plain-requests .result .packets ≤ 1024
 few c =
-    ltb-false 1024 (c .before .before .before .before .before .plain-requests .result .packets)
-    (neither (c .before .before .before .before .before .plain-requests .result .bad) (ltb 1024 (c .before .before .before .before .before .plain-requests .result .packets)) (c .if4 .left) .1)
+    let used = c .before .before .before .before .before .plain-requests .result in
+    ltb-false 1024 (used .packets) (neither (used .bad) (ltb 1024 (used .packets)) (c .if4 .left) .1)
 
 sums : (c : tie.Then6) → isBadSums (sessionOf (c .before .before .before .before .before .before .before .before .before .before .before .before .before .before .before .before .before .before .before .before .before .before .args .bytes .now)) ≡ false
 sums c =
-    sym
-    (sums-test (sessionOf (c .before .before .before .before .before .before .before .before .before .before .before .before .before .before .before .before .before .before .before .before .before .before .args .bytes .now)) (config-is (c .before .before .before .before .before .before .before .before .before .before .before .before .before .before .before .before .before .before)) (all-is (c .before .before .before .before .before .before .before .before .before .before)) (pending-is (c .before .before .before .before .before .before .before .before .before)) refl)
-    ∙ none (le-ltb 1024 (c .before .before .before .before .before .before .before .before .before .before .plain-requests .result .packets) (few (c .before .before .before .before .before))) (c .before .are-plain-packets .ensures (c .if6 .taken) .0)
+    let xs = c .before .before .before .before .before .before .before .before .before .before .before .before .before .before .before .before .before .before .before .before .before .before .args .bytes .now in
+    let config = config-is (c .before .before .before .before .before .before .before .before .before .before .before .before .before .before .before .before .before .before) in
+    let all = all-is (c .before .before .before .before .before .before .before .before .before .before) in
+    let pending = pending-is (c .before .before .before .before .before .before .before .before .before) in
+    let within = few (c .before .before .before .before .before) in
+    let fits = c .before .are-plain-packets .ensures (c .if6 .taken) .0 in
+    sym (sums-test (sessionOf xs) config all pending refl) ∙ none (le-ltb 1024 (c .before .before .before .before .before .before .before .before .before .before .plain-requests .result .packets) within) fits
 
 -- the plans, of the completed requests and of the pending ones
 good : (c : tie.Then6) → isUnsound (c .before .before .before .before .before .before .before .before .before .before .before .before .before .before .before .before .before .before .before .before .before .before .args .bytes .now) ≡ false
 good c =
     let xs = c .before .before .before .before .before .before .before .before .before .before .before .before .before .before .before .before .before .before .before .before .before .before .args .bytes .now in
     let s = sessionOf xs in
-    let limit = c .before .before .before .before .iso-max-xfer-size .ensures ∙ ap (λ (k : IsoConfig). packetLimit (k .speed)) (config-is (c .before .before .before .before .before .before .before .before .before .before .before .before .before .before .before .before .before .before)) in
-    let size = c .before .before .before .before .before .before .before .before .before .before .before .before .before .before .before .before .iso-ring-size .ensures ∙ ap slots (config-is (c .before .before .before .before .before .before .before .before .before .before .before .before .before .before .before .before .before .before)) in
+    let config = config-is (c .before .before .before .before .before .before .before .before .before .before .before .before .before .before .before .before .before .before) in
+    let limit = c .before .before .before .before .iso-max-xfer-size in
+    let size = c .before .before .before .before .before .before .before .before .before .before .before .before .before .before .before .before .iso-ring-size in
     let before = c .before .before .before .before .before .before .before .before .before .packets-before .result in
     let all = c .before .before .before .before .before .before .before .before .before .before .plain-requests .result .packets in
-    let bad = isBadPlanEntry (c .before .before .before .before .iso-max-xfer-size .result) (c .before .before .before .before .before .before .before .before .before .before .before .before .before .before .before .before .iso-ring-size .result) in
-    let whole : before + (all - before) ≡ all = omega (arith, split (c .before .before .before .before .before .before .before .before .before)) in
+    let parts = split (c .before .before .before .before .before .before .before .before .before) in
+    let bad = isBadPlanEntry (limit .result) (size .result) in
+    let whole : before + (all - before) ≡ all = omega (arith, parts) in
+    let completed = sym (c .before .before .before .any-bad-plan-entry .ensures) ∙ c .before .before .if5 .left in
+    let pending = c .before .are-plain-packets .ensures (c .if6 .taken) .1 in
     let clear : anyOf bad 7 all (drop 1320 xs) ≡ false =
     sym (ap (λ (n : ℕ). anyOf bad 7 n (drop 1320 xs)) whole)
     ∙ any-split bad 7 before (all - before) 1320 xs
-    ∙ none (sym (c .before .before .before .any-bad-plan-entry .ensures) ∙ c .before .before .if5 .left) (c .before .are-plain-packets .ensures (c .if6 .taken) .1) in
-    by-plans xs (numbers (c .before .before .before .before .before .before .before .before .before .before .before .before .before)) (front (c .before .before .before .before .before .before .before .before .before .before .before .before .before .before .before .before .before .before .before) .before) (requests (c .before .before .before .before .before)) (sums c)
+    ∙ none completed pending in
+    let limit-is = limit .ensures ∙ ap (λ (k : IsoConfig). packetLimit (k .speed)) config in
+    let size-is = size .ensures ∙ ap slots config in
+    let numbers-good = numbers (c .before .before .before .before .before .before .before .before .before .before .before .before .before) in
+    let front-good = front (c .before .before .before .before .before .before .before .before .before .before .before .before .before .before .before .before .before .before .before) .before in
+    let requests-good = requests (c .before .before .before .before .before) in
+    let count = all-is (c .before .before .before .before .before .before .before .before .before .before) in
+    by-plans xs numbers-good front-good requests-good (sums c)
     ∙ sym
-    (ap₂ (λ (l z : ℕ). anyOf (isBadPlanEntry l z) 7 all (drop 1320 xs)) limit size
-    ∙ ap (λ (n : ℕ). anyOf (isBadPlanEntry (packetLimit (s .cfg .speed)) (slots (s .cfg))) 7 n (drop 1320 xs)) (all-is (c .before .before .before .before .before .before .before .before .before .before)))
+    (ap₂ (λ (l z : ℕ). anyOf (isBadPlanEntry l z) 7 all (drop 1320 xs)) limit-is size-is
+    ∙ ap (λ (n : ℕ). anyOf (isBadPlanEntry (packetLimit (s .cfg .speed)) (slots (s .cfg))) 7 n (drop 1320 xs)) count)
     ∙ clear
 
 is-plain-front-requires : tie.Need-is-plain-front-requires
@@ -145,10 +177,13 @@ good-sums-requires c κs = search needs
 returns-3 : tie.Need-returns-3
 returns-3 c =
     let xs = c .before .before .before .before .before .before .before .before .before .before .before .before .args .bytes .now in
-    let idle = sym (ap (λ (h : IsoHead). h .count) (head-is (c .before .before .before .before .before .before .before))) ∙ c .before .if3 .taken in
+    let head = head-is (c .before .before .before .before .before .before .before) in
+    let idle = sym (ap (λ (h : IsoHead). h .count) head) ∙ c .before .if3 .taken in
+    let numbers-good = numbers (c .before .before .before) in
+    let front-good = front (c .before .before .before .before .before .before .before .before .before) .before in
+    let sums = c .good-sums in
     λ e.
-    good-sounded xs (c .good-sums .result) (c .good-sums .ensures) (idle-all xs idle) (idle-pending xs idle)
-    (idle-good xs idle (numbers (c .before .before .before)) (front (c .before .before .before .before .before .before .before .before .before) .before))
+    good-sounded xs (sums .result) (sums .ensures) (idle-all xs idle) (idle-pending xs idle) (idle-good xs idle numbers-good front-good)
 
 plain-requests-requires : tie.Need-plain-requests-requires
 plain-requests-requires c κs = (c .before .before .before .before .before .before .before .before .before .before .before .pre, in-range (c .before .before) .1)
@@ -169,10 +204,16 @@ iso-max-xfer-size-requires : tie.Need-iso-max-xfer-size-requires
 iso-max-xfer-size-requires c κs = search needs
 
 cast-any-bad-plan-entry : tie.Need-cast-any-bad-plan-entry
-cast-any-bad-plan-entry c = omega (arith, split (c .before .before .before .before .before), few (c .before))
+cast-any-bad-plan-entry c =
+    let parts = split (c .before .before .before .before .before) in
+    let within = few (c .before) in
+    omega (arith, parts, within)
 
 any-bad-plan-entry-requires : tie.Need-any-bad-plan-entry-requires
-any-bad-plan-entry-requires c κs = (c .before .before .before .before .before .before .before .before .before .before .before .before .before .before .before .before .before .before .pre, omega (arith, split (c .before .before .before .before .before), few (c .before)))
+any-bad-plan-entry-requires c κs =
+    let parts = split (c .before .before .before .before .before) in
+    let within = few (c .before) in
+    (c .before .before .before .before .before .before .before .before .before .before .before .before .before .before .before .before .before .before .pre, omega (arith, parts, within))
 
 bad-sums-requires-4 : tie.Need-bad-sums-requires-4
 bad-sums-requires-4 c κs = search needs
@@ -181,7 +222,10 @@ returns-5 : tie.Need-returns-5
 returns-5 c = λ e. absurd (never (sym (c .bad-sums4 .ensures .0) ∙ e))
 
 are-plain-packets-requires : tie.Need-are-plain-packets-requires
-are-plain-packets-requires c κs = (c .before .before .before .before .before .before .before .before .before .before .before .before .before .before .before .before .before .before .before .before .pre, omega (arith, split (c .before .before .before .before .before .before .before)), few (c .before .before .before))
+are-plain-packets-requires c κs =
+    let parts = split (c .before .before .before .before .before .before .before) in
+    let within = few (c .before .before .before) in
+    (c .before .before .before .before .before .before .before .before .before .before .before .before .before .before .before .before .before .before .before .before .pre, omega (arith, parts), within)
 
 cast-good-sums : tie.Need-cast-good-sums
 cast-good-sums c = omega (arith, few (c .before .before .before .before .before .before))
@@ -194,8 +238,12 @@ good-sums-requires-2 c κs = search needs
 
 returns-6 : tie.Need-returns-6
 returns-6 c =
-    λ e.
-    good-sounded (c .before .before .before .before .before .before .before .before .before .before .before .before .before .before .before .before .before .before .before .before .before .before .before .before .args .bytes .now) (c .good-sums2 .result) (c .good-sums2 .ensures) (all-is (c .before .before .before .before .before .before .before .before .before .before .before .before)) (pending-is (c .before .before .before .before .before .before .before .before .before .before .before)) (good (c .before .before))
+    let xs = c .before .before .before .before .before .before .before .before .before .before .before .before .before .before .before .before .before .before .before .before .before .before .before .before .args .bytes .now in
+    let all = all-is (c .before .before .before .before .before .before .before .before .before .before .before .before) in
+    let pending = pending-is (c .before .before .before .before .before .before .before .before .before .before .before) in
+    let passed = good (c .before .before) in
+    let sums = c .good-sums2 in
+    λ e. good-sounded xs (sums .result) (sums .ensures) all pending passed
 
 bad-sums-requires-5 : tie.Need-bad-sums-requires-5
 bad-sums-requires-5 c κs = search needs
