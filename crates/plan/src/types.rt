@@ -65,15 +65,16 @@ pub enum Dwc2StageRole {
 }
 
 // One programming of a channel: `descs` descriptors from number `desc_base` of the caller's array on, for `len` bytes from
-// `dma_addr` on. Every descriptor but the last takes the chunk of the packet size that `hcchar` holds.
+// `dma_addr` on. Every descriptor but the last takes the chunk of the packet size that `hcchar` holds. The role is one byte wide and
+// stands last: in front, the rest of a stage would be copied from its second byte on, by loads that wait for the stores they cross.
 pub struct Dwc2TransferStage {
-    pub role: Dwc2StageRole,
     pub hcchar: u32,
     pub hctsiz: u32,
     pub dma_addr: u32,
     pub desc_base: u32,
     pub descs: u32,
     pub len: u32,
+    pub role: Dwc2StageRole,
 }
 
 // The answer of a planning call; Numbers.antt in specs/ has document 01's number for each.
