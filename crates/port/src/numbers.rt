@@ -1,6 +1,6 @@
 // Numbers in a run of bytes, little-endian, at an offset.
 ghost use mathlib.Core.Path.{_≡_};
-ghost use Prim.Native.Nat.{_+_, _≤_};
+ghost use Prim.Native.Nat.{_+_, _*_, _≤_};
 ghost use mathlib.Core.List.{[], _∷_};
 ghost use lib.ListN.{length, drop};
 ghost use lib.Seq.{slice, sets};
@@ -80,23 +80,49 @@ pub(crate) fn put_three(bytes: &mut [u8], at: usize, x: u8, y: u8, z: u8)
     bytes[at + 2] = z;
 }
 
-// The `n` bytes from `from` on move down to `into`, sixteen at a time; each is read before it is written over.
-pub(crate) fn move_down(bytes: &mut [u8], into: usize, from: usize, n: usize)
+// The `n` bytes from `from` on move down to `into`, one at a time.
+fn move_bytes(bytes: &mut [u8], into: usize, from: usize, n: usize)
     requires { ⌜ (into ≤ from) × (from + n ≤ length (now bytes)) ⌝ }
     ensures { λ _. ⌜ now (bytes .exit) ≡ sets (now (bytes .entry)) into (slice from (from + n) (now (bytes .entry))) ⌝ }
 {
     let mut k: usize = 0;
-    let mut turns = n / 16;
-    while turns > 0 {
+    while k < n {
+        bytes[into + k] = bytes[from + k];
+        k += 1;
+    }
+}
+
+// Sixteen bytes a turn, each read before it is written over.
+fn move_sixteens(bytes: &mut [u8], into: usize, from: usize, turns: usize)
+    requires { ⌜ (into ≤ from) × (from + 16 * turns ≤ length (now bytes)) ⌝ }
+    ensures { λ _. ⌜ now (bytes .exit) ≡ sets (now (bytes .entry)) into (slice from (from + 16 * turns) (now (bytes .entry))) ⌝ }
+{
+    let mut k: usize = 0;
+    let mut left = turns;
+    while left > 0 {
         let a = u64_at(bytes, from + k);
         let b = u64_at(bytes, from + k + 8);
         put_u64(bytes, into + k, a);
         put_u64(bytes, into + k + 8, b);
         k += 16;
-        turns -= 1;
+        left -= 1;
     }
-    while k < n {
-        bytes[into + k] = bytes[from + k];
-        k += 1;
+}
+
+// The `n` bytes from `from` on move down to `into`. The last sixteen are read first and written last, over some that stand there already, so
+// that none are left to be moved one by one.
+pub(crate) fn move_down(bytes: &mut [u8], into: usize, from: usize, n: usize)
+    requires { ⌜ (into ≤ from) × (from + n ≤ length (now bytes)) ⌝ }
+    ensures { λ _. ⌜ now (bytes .exit) ≡ sets (now (bytes .entry)) into (slice from (from + n) (now (bytes .entry))) ⌝ }
+{
+    if n < 16 {
+        move_bytes(bytes, into, from, n);
+        return;
     }
+    let before = n - 16;
+    let a = u64_at(bytes, from + before);
+    let b = u64_at(bytes, from + before + 8);
+    move_sixteens(bytes, into, from, (n - 1) / 16);
+    put_u64(bytes, into + before, a);
+    put_u64(bytes, into + before + 8, b);
 }

@@ -2,11 +2,11 @@
 -- itself.
 use mathlib.Core.Path.{_≡_, refl, _∙_, sym, ap, ap₂}
 use mathlib.Core.List.{List, [], _∷_, _++_}
-use Prim.Native.Nat.{ℕ, zero, suc, _+_, _≤_}
+use Prim.Native.Nat.{ℕ, zero, suc, _+_, _-_, _≤_}
 use native.Mathlib.Nat.{add-zero}
 use native.Mathlib.Omega.{arith}
 use lib.ListN.{length, getD, take, drop, set, length-append, take-append-drop, drop-of-length-le}
-use lib.Seq.{slice, sets, sets-eq, drop-at, drop-cons, take-add, take-set-le, drop-set-lt, drop-set-add, length-slice, length-take-le}
+use lib.Seq.{slice, sets, sets-eq, length-sets, drop-at, drop-cons, take-add, take-set-le, drop-set-lt, drop-set-add, length-slice, length-take-le}
 use Rattle.session.proofs.Laws.Lists.{slice-next, slice-past, slice-split, slice-after-set}
 
 module _ {A : Type 0} where
@@ -115,6 +115,32 @@ module _ {A : Type 0} where
       sym (ap (sets l (into + k)) (slice-past (from + k) (from + n) l (omega arith)))
       ∙ e
       ∙ ap₂ (λ (i f : ℕ). sets first i (slice f (from + n) first)) (add-zero into) (add-zero from)
+
+  -- a run over one that it covers
+  sets-over : (l : List A) (i : ℕ) (ys zs : List A) → length ys ≤ length zs → i + length zs ≤ length l → sets (sets l i ys) i zs ≡ sets l i zs
+  sets-over l i ys zs h k =
+      sets-eq zs (sets l i ys) i (omega (arith, length-sets l i ys))
+      ∙ ap₂ (λ (a b : List A). a ++ zs ++ b) (take-sets i l i ys (omega arith)) (drop-sets (i + length zs) l i ys (omega arith))
+      ∙ sym (sets-eq zs l i k)
+
+  -- `b` of the `n` are moved; then those from the `a`th on, read before, are stored over some that stand there already
+  pub moved-over :
+      (into from n a b : ℕ) (l : List A) → a ≤ b → b ≤ n → into ≤ from → from + n ≤ length l
+      → sets (sets l into (slice from (from + b) l)) (into + a) (slice (from + a) (from + n) l) ≡ sets l into (slice from (from + n) l)
+  moved-over into from n a b l h k down fits =
+      let first : List A = slice from (from + a) l in
+      let some : List A = slice (from + a) (from + b) l in
+      let rest : List A = slice (from + a) (from + n) l in
+      let many : length first ≡ a = length-slice from (from + a) l (omega arith) ∙ omega arith in
+      let few : length some ≡ b - a = length-slice (from + a) (from + b) l (omega arith) ∙ omega arith in
+      let all : length rest ≡ n - a = length-slice (from + a) (from + n) l (omega arith) ∙ omega arith in
+      let on : into + a ≡ into + length first = omega (arith, many) in
+      ap (λ (m : List A). sets (sets l into m) (into + a) rest) (slice-split from (from + a) (from + b) l (omega arith) (omega arith) (omega arith))
+      ∙ ap (λ (m : List A). sets m (into + a) rest) (sym (sets-append first l into some))
+      ∙ ap (λ (i : ℕ). sets (sets (sets l into first) (into + length first) some) i rest) on
+      ∙ sets-over (sets l into first) (into + length first) some rest (omega (arith, few, all)) (omega (arith, many, all, length-sets l into first))
+      ∙ sets-append first l into rest
+      ∙ ap (sets l into) (sym (slice-split from (from + a) (from + n) l (omega arith) (omega arith) fits))
 
 -- n entries from i on, each read at its place, are the rest from there
 abbrev places : List ℕ → ℕ → ℕ → List ℕ
