@@ -7,7 +7,7 @@ ghost use lib.ListN.{length, getD, drop};
 ghost use lib.Seq.{slice, sets};
 ghost use Rattle.session.specs.Session.{blankRequest, ringWords, allPackets};
 ghost use Rattle.session.specs.Record.{isBadRecord};
-ghost use Rattle.session.specs.Reclaim.{resultWord, looked, lookedRing, plansBegin, plansEnd, closedUp, oneLess, removed, handedAnswer, handedResults, reclaimReply, lookedAgain, lookedResults, reclaimed, reclaimedRing, reclaimedResults};
+ghost use Rattle.session.specs.Reclaim.{resultWord, lookedAt, lookedRingAt, plansBegin, plansEnd, closedUp, oneLess, removed, handedAnswer, handedResults, reclaimReply, lookedAgainAt, lookedResultsAt, reclaimed, reclaimedRing, reclaimedResults};
 ghost use Rattle.port.specs.Layout.{planOf, isBadPlanBytes, layoutNumber, sessionOf, requestsIn, plansIn};
 ghost use Rattle.port.specs.Calls.{reclaimedPort};
 ghost use Rattle.port.specs.Scan.{Told};
@@ -140,20 +140,19 @@ fn hand_out_at(bytes: &mut [u8], at: u16, all: usize, results: &mut [u64]) -> Re
     handed_answer(request)
 }
 
-// Hands the request out where it is completed. What it answers goes with whether the look took the event and asks for a halt.
-fn look_again_at(bytes: &mut [u8], id: u64, all: usize, results: &mut [u64]) -> ReclaimAnswer
+// Hands the request at `at` out where it is completed. What it answers goes with whether the look took the event and asks for a halt.
+fn look_again_at(bytes: &mut [u8], at: u16, all: usize, results: &mut [u64]) -> ReclaimAnswer
     requires { ⌜ (layoutNumber (now bytes) ≡ 0)
         × (isBadRecord (sessionOf (now bytes)) ≡ false)
         × (255 ≤ length (now results))
         × (all ≡ allPackets (sessionOf (now bytes))) ⌝ }
     ensures { λ r. ⌜ ((taken halt : Bool)
         → reclaimReply r taken halt (sessionOf (now (bytes .exit)))
-        ≡ lookedAgain id taken halt (sessionOf (now (bytes .entry))))
+        ≡ lookedAgainAt at taken halt (sessionOf (now (bytes .entry))))
         × (Left (now (bytes .entry)) (now (bytes .exit)) (sessionOf (now (bytes .exit))))
-        × (now (results .exit) ≡ lookedResults id (sessionOf (now (bytes .entry))) (now (results .entry))) ⌝ }
+        × (now (results .exit) ≡ lookedResultsAt at (sessionOf (now (bytes .entry))) (now (results .entry))) ⌝ }
 {
     let head = head_at(bytes);
-    let at = place_at(bytes, head.count, id);
     if at < head.done {
         return hand_out_at(bytes, at, all, results);
     }
@@ -163,16 +162,15 @@ fn look_again_at(bytes: &mut [u8], id: u64, all: usize, results: &mut [u64]) -> 
     ReclaimAnswer::Refused(15)
 }
 
-// Polls, unless the request is completed already.
-fn look_at(bytes: &mut [u8], id: u64, event: IsoEvent, ring: &mut [u32]) -> PollSaid
+// Polls, unless the request at `at` is completed already.
+fn look_at(bytes: &mut [u8], at: u16, event: IsoEvent, ring: &mut [u32]) -> PollSaid
     requires { ⌜ (layoutNumber (now bytes) ≡ 0)
         × (isBadRecord (sessionOf (now bytes)) ≡ false)
         × (ringWords (sessionOf (now bytes) .cfg) ≤ length (now ring)) ⌝ }
-    ensures { λ r. ⌜ Acted (now (bytes .entry)) (now (bytes .exit)) r (looked id event (sessionOf (now (bytes .entry))) (now (ring .entry)))
-        × (now (ring .exit) ≡ lookedRing id event (sessionOf (now (bytes .entry))) (now (ring .entry))) ⌝ }
+    ensures { λ r. ⌜ Acted (now (bytes .entry)) (now (bytes .exit)) r (lookedAt at event (sessionOf (now (bytes .entry))) (now (ring .entry)))
+        × (now (ring .exit) ≡ lookedRingAt at event (sessionOf (now (bytes .entry))) (now (ring .entry))) ⌝ }
 {
     let head = head_at(bytes);
-    let at = place_at(bytes, head.count, id);
     if at < head.done {
         return PollSaid {
             taken: false,
@@ -182,7 +180,8 @@ fn look_at(bytes: &mut [u8], id: u64, event: IsoEvent, ring: &mut [u32]) -> Poll
     poll_at(bytes, event, ring)
 }
 
-// Hands out the completed request with the number: its outcome and, unless that is an error, a result for each packet.
+// Hands out the completed request with the number: its outcome and, unless that is an error, a result for each packet. The poll between the two
+// looks leaves every request at its place, so that it is looked for once.
 pub(crate) fn reclaim_at(
     bytes: &mut [u8],
     verdict: Verdict,
@@ -205,7 +204,9 @@ pub(crate) fn reclaim_at(
     if verdict.bad {
         return reclaim_refused(18);
     }
-    let look = look_at(bytes, id, event, ring);
-    let answer = look_again_at(bytes, id, verdict.all as usize, results);
+    let head = head_at(bytes);
+    let at = place_at(bytes, head.count, id);
+    let look = look_at(bytes, at, event, ring);
+    let answer = look_again_at(bytes, at, verdict.all as usize, results);
     reclaim_port(answer, look.taken, look.halt)
 }

@@ -45,12 +45,18 @@ resultWord p = p .actual + 4096 * p .planned + errorBit (p .status)
 abbrev pub isFound : ℕ → IsoChannelState → Bool
 isFound id s = ltb (requestAt id s) (s .head .done)
 
--- "looks, polls if it found nothing"
+-- "looks, polls if it found nothing": by the place of the request, then by its number
+abbrev pub lookedAt : ℕ → IsoEvent → IsoChannelState → List ℕ → IsoReply
+lookedAt at e s ring = cond (ltb at (s .head .done)) (reply answer.Done false false s) (polledBy (pollWay s e) s ring)
+
+abbrev pub lookedRingAt : ℕ → IsoEvent → IsoChannelState → List ℕ → List ℕ
+lookedRingAt at e s ring = cond (ltb at (s .head .done)) ring (polledRingBy (pollWay s e) s ring)
+
 abbrev pub looked : ℕ → IsoEvent → IsoChannelState → List ℕ → IsoReply
-looked id e s ring = cond (isFound id s) (reply answer.Done false false s) (polledBy (pollWay s e) s ring)
+looked id e s ring = lookedAt (requestAt id s) e s ring
 
 abbrev pub lookedRing : ℕ → IsoEvent → IsoChannelState → List ℕ → List ℕ
-lookedRing id e s ring = cond (isFound id s) ring (polledRingBy (pollWay s e) s ring)
+lookedRing id e s ring = lookedRingAt (requestAt id s) e s ring
 
 -- the request at a place, and where its plans begin and end
 abbrev pub requestOf : ℕ → IsoChannelState → IsoRequest
@@ -103,13 +109,19 @@ abbrev pub reclaimReply : ReclaimAnswer → Bool → Bool → IsoChannelState �
 reclaimReply a taken halt s = record { answer = a; taken = taken; halt = halt; session = s }
 
 -- "looks again; a pending number answers "not yet""; 15: unknown number, what the poll did is kept
+abbrev pub lookedAgainAt : ℕ → Bool → Bool → IsoChannelState → Reclaimed
+lookedAgainAt at taken halt s =
+    cond (ltb at (s .head .done)) (reclaimReply (handedAnswer (requestOf at s)) taken halt (removed at s))
+    (reclaimReply (cond (ltb at (s .head .count)) reclaim.NotYet (reclaim.Refused 15)) taken halt s)
+
+abbrev pub lookedResultsAt : ℕ → IsoChannelState → List ℕ → List ℕ
+lookedResultsAt at s results = cond (ltb at (s .head .done)) (handedResults at s results) results
+
 abbrev pub lookedAgain : ℕ → Bool → Bool → IsoChannelState → Reclaimed
-lookedAgain id taken halt s =
-    cond (isFound id s) (reclaimReply (handedAnswer (requestOf (requestAt id s) s)) taken halt (removed (requestAt id s) s))
-    (reclaimReply (cond (ltb (requestAt id s) (s .head .count)) reclaim.NotYet (reclaim.Refused 15)) taken halt s)
+lookedAgain id taken halt s = lookedAgainAt (requestAt id s) taken halt s
 
 abbrev pub lookedResults : ℕ → IsoChannelState → List ℕ → List ℕ
-lookedResults id s results = cond (isFound id s) (handedResults (requestAt id s) s results) results
+lookedResults id s results = lookedResultsAt (requestAt id s) s results
 
 -- "results under 255"
 abbrev pub isShort : IsoChannelState → ℕ → ℕ → Bool

@@ -1,5 +1,5 @@
 -- Reclaiming in place: the answer, the bytes and the lent words at each exit, where the code looked, and looked again at what that left.
-use mathlib.Core.Path.{_≡_, refl, _∙_, ap, subst⁻¹}
+use mathlib.Core.Path.{_≡_, refl, _∙_, sym, ap, subst, subst⁻¹}
 use mathlib.Core.Bool.{Bool, false}
 use mathlib.Core.List.{List}
 use Prim.Native.Nat.{ℕ}
@@ -12,7 +12,8 @@ use Rattle.session.specs.declared.reply.ReclaimAnswer.the-variants.{Refused}
 use Rattle.session.specs.declared.reply.Reclaimed.{Reclaimed}
 use Rattle.session.specs.Session.{allPackets}
 use Rattle.session.specs.Record.{isBadRecord}
-use Rattle.session.specs.Reclaim.{looked, lookedRing, reclaimReply, lookedAgain, lookedResults, isShort, reclaimed, reclaimedRing, reclaimedResults}
+use Rattle.session.specs.Cancel.{requestAt}
+use Rattle.session.specs.Reclaim.{lookedAt, lookedRingAt, looked, reclaimReply, lookedAgainAt, lookedResultsAt, lookedAgain, lookedResults, isShort, reclaimed, reclaimedRing, reclaimedResults}
 use Rattle.session.proofs.Laws.Record.{Sound, not-bad}
 use Rattle.session.proofs.Laws.Reclaims.{reclaim-done, looked-sound}
 use Rattle.port.specs.declared.answers.PortReclaimed.{PortReclaimed}
@@ -22,7 +23,7 @@ use Rattle.port.specs.Layout.{layoutNumber, sessionOf, leftBytes}
 use Rattle.port.specs.Calls.{bytesBy, wordsBy, reclaimPort, reclaimRefused, reclaimedPort, reclaimBy}
 use Rattle.port.specs.Places.{Acted, Left}
 use Rattle.port.proofs.Laws.Calls.{long-enough, refused, done}
-use Rattle.port.proofs.Laws.InUse.{kept-layout, looked-in-use}
+use Rattle.port.proofs.Laws.InUse.{kept-layout, looked-in-use, same-place}
 use Rattle.port.proofs.Laws.Left.{left-is, left-over}
 
 module _ (xs ring results : List ℕ) (id : ℕ) (e : IsoEvent) where
@@ -50,9 +51,14 @@ module _ (xs ring results : List ℕ) (id : ℕ) (e : IsoEvent) where
     told .2,
   )
 
-  module _ (z : layoutNumber xs ≡ 0) (g : Sound s) {look : PollSaid} {b : List ℕ} (act : Acted xs b look (looked id e s ring)) where
+  -- the code looks by the request's place
+  module _ (z : layoutNumber xs ≡ 0) (g : Sound s) {at : ℕ} (place : at ≡ requestAt id s) {look : PollSaid} {b : List ℕ}
+      (acts : Acted xs b look (lookedAt at e s ring)) where
     abbrev t : IsoChannelState
     t = looked id e s ring .session
+
+    act : Acted xs b look (looked id e s ring)
+    act = subst (λ (n : ℕ). Acted xs b look (lookedAt n e s ring)) place acts
 
     pub looked-layout : layoutNumber b ≡ 0
     looked-layout = kept-layout xs z g (looked-in-use id e s ring g) (act .bytes)
@@ -63,23 +69,29 @@ module _ (xs ring results : List ℕ) (id : ℕ) (e : IsoEvent) where
     pub looked-all : allPackets (sessionOf b) ≡ allPackets s
     looked-all = ap allPackets (act .bytes .holds) ∙ looked-in-use id e s ring g .packets
 
+    -- where it still stands afterwards
+    still : at ≡ requestAt id (sessionOf b)
+    still = place ∙ sym (ap (requestAt id) (act .bytes .holds) ∙ same-place id s t (looked-in-use id e s ring g))
+
     pub done-in-place :
         {a : ReclaimAnswer} {c words after : List ℕ} {p : PortReclaimed} → isShort s (length ring) (length results) ≡ false → isBadRecord s ≡ false
-        → words ≡ lookedRing id e s ring
-        → ((taken halt : Bool) → reclaimReply a taken halt (sessionOf c) ≡ lookedAgain id taken halt (sessionOf b))
+        → words ≡ lookedRingAt at e s ring
+        → ((taken halt : Bool) → reclaimReply a taken halt (sessionOf c) ≡ lookedAgainAt at taken halt (sessionOf b))
         → Left b c (sessionOf c)
-        → after ≡ lookedResults id (sessionOf b) results
+        → after ≡ lookedResultsAt at (sessionOf b) results
         → p ≡ reclaimPort a (flagTag (look .taken)) (flagTag (look .halt))
         → Told p c words after
     done-in-place {a} {c} h k ew again ec ea ep =
         let x : IsoReply = looked id e s ring in
         let r : reclaimReply a (look .taken) (look .halt) (sessionOf c) ≡ lookedAgain id (x .taken) (x .halt) (x .session) =
         again (look .taken) (look .halt)
+        ∙ ap (λ (n : ℕ). lookedAgainAt n (look .taken) (look .halt) (sessionOf b)) still
         ∙ ap (lookedAgain id (look .taken) (look .halt)) (act .bytes .holds)
         ∙ ap (λ (y : Bool). lookedAgain id y (look .halt) t) (act .taken)
         ∙ ap (λ (y : Bool). lookedAgain id (x .taken) y t) (act .halt) in
         let told =
-        reclaim-done s id e ring results {first-look = x} h k refl r ew (ea ∙ ap (λ (u : IsoChannelState). lookedResults id u results) (act .bytes .holds)) in (
+        reclaim-done s id e ring results {first-look = x} h k refl r (ew ∙ ap (λ (n : ℕ). lookedRingAt n e s ring) place)
+        (ea ∙ ap (λ (n : ℕ). lookedResultsAt n (sessionOf b) results) still ∙ ap (λ (u : IsoChannelState). lookedResults id u results) (act .bytes .holds)) in (
           ep ∙ ap reclaimedPort (told .0),
           left-is (left-over (long-enough xs refl z) (act .bytes) ec) (ap (λ (y : Reclaimed). y .session) (told .0)),
           told .1,

@@ -17,7 +17,7 @@ use Rattle.session.specs.declared.reply.Reclaimed.{Reclaimed}
 use Rattle.session.specs.Record.{isBadRecord}
 use Rattle.session.specs.Poll.{reply, pollWay, polledBy, polledRingBy}
 use Rattle.session.specs.Cancel.{requestAt}
-use Rattle.session.specs.Reclaim.{isFound, looked, lookedRing, requestOf, removed, handedAnswer, handedResults, reclaimReply, lookedAgain, lookedResults, isShort, reclaimed, reclaimedRing, reclaimedResults}
+use Rattle.session.specs.Reclaim.{isFound, lookedAt, lookedRingAt, lookedAgainAt, lookedResultsAt, looked, lookedRing, requestOf, removed, handedAnswer, handedResults, reclaimReply, lookedAgain, lookedResults, isShort, reclaimed, reclaimedRing, reclaimedResults}
 use Rattle.session.proofs.Laws.Ended.{picked}
 use Rattle.session.proofs.Laws.Polled.{polled-sound}
 use Rattle.session.proofs.Laws.Polls.{polled-by, polled-ring-by}
@@ -25,12 +25,12 @@ use Rattle.session.proofs.Laws.Record.{Sound}
 use Rattle.session.proofs.Laws.Removed.{removed-sound}
 use Rattle.session.proofs.Laws.Tests.{below, not-below, first, second, in-turn, chosen}
 
--- the number found, or not, by where its place is
-module _ (id : ℕ) (s : IsoChannelState) {at : ℕ} (place : at ≡ requestAt id s) where
-  found : at < s .head .done → isFound id s ≡ true
+-- completed, or not, by the place `n` of the request, which the code found as `at`
+module _ (s : IsoChannelState) {at n : ℕ} (place : at ≡ n) where
+  found : at < s .head .done → ltb n (s .head .done) ≡ true
   found h = below (s .head .done) place h
 
-  not-found : s .head .done ≤ at → isFound id s ≡ false
+  not-found : s .head .done ≤ at → ltb n (s .head .done) ≡ false
   not-found h = not-below (s .head .done) place h
 
   -- ---- looking
@@ -39,66 +39,66 @@ module _ (id : ℕ) (s : IsoChannelState) {at : ℕ} (place : at ≡ requestAt i
   stands = reply answer.Done false false s
 
   pub looked-found :
-      (e : IsoEvent) (ring : List ℕ) {r : IsoReply} → at < s .head .done → r ≡ stands → (r ≡ looked id e s ring) × (ring ≡ lookedRing id e s ring)
+      (e : IsoEvent) (ring : List ℕ) {r : IsoReply} → at < s .head .done → r ≡ stands → (r ≡ lookedAt n e s ring) × (ring ≡ lookedRingAt n e s ring)
   looked-found e ring h p =
       let way = pollWay s e in (
-        p ∙ sym (first (isFound id s) stands (polledBy way s ring) (found h)),
-        sym (first (isFound id s) ring (polledRingBy way s ring) (found h)),
+        p ∙ sym (first (ltb n (s .head .done)) stands (polledBy way s ring) (found h)),
+        sym (first (ltb n (s .head .done)) ring (polledRingBy way s ring) (found h)),
       )
 
   pub looked-polled :
       (e : IsoEvent) (ring : List ℕ) {w : PollWay} {r : IsoReply} {words : List ℕ} → s .head .done ≤ at → w ≡ pollWay s e
-      → r ≡ polledBy w s ring → words ≡ polledRingBy w s ring → (r ≡ looked id e s ring) × (words ≡ lookedRing id e s ring)
+      → r ≡ polledBy w s ring → words ≡ polledRingBy w s ring → (r ≡ lookedAt n e s ring) × (words ≡ lookedRingAt n e s ring)
   looked-polled e ring h by p q = (
-    polled-by s ring (sym by) p ∙ sym (second (isFound id s) stands (polledBy (pollWay s e) s ring) (not-found h)),
-    polled-ring-by s ring (sym by) q ∙ sym (second (isFound id s) ring (polledRingBy (pollWay s e) s ring) (not-found h)),
+    polled-by s ring (sym by) p ∙ sym (second (ltb n (s .head .done)) stands (polledBy (pollWay s e) s ring) (not-found h)),
+    polled-ring-by s ring (sym by) q ∙ sym (second (ltb n (s .head .done)) ring (polledRingBy (pollWay s e) s ring) (not-found h)),
   )
 
   -- ---- looking again
 
   module _ (taken halt : Bool) (results : List ℕ) where
     abbrev out : Reclaimed
-    out = reclaimReply (handedAnswer (requestOf (requestAt id s) s)) taken halt (removed (requestAt id s) s)
+    out = reclaimReply (handedAnswer (requestOf (n) s)) taken halt (removed (n) s)
 
     abbrev within : Bool
-    within = ltb (requestAt id s) (s .head .count)
+    within = ltb (n) (s .head .count)
 
     abbrev stays : ReclaimAnswer → Reclaimed
     stays a = reclaimReply a taken halt s
 
     abbrev handed : List ℕ
-    handed = handedResults (requestAt id s) s results
+    handed = handedResults (n) s results
 
     pub again-found :
         {r : Reclaimed} {a : ReclaimAnswer} {t : IsoChannelState} {words : List ℕ} → at < s .head .done → a ≡ handedAnswer (requestOf at s) → t ≡ removed at s
         → r ≡ reclaimReply a taken halt t → words ≡ handedResults at s results
-        → (r ≡ lookedAgain id taken halt s) × (words ≡ lookedResults id s results)
+        → (r ≡ lookedAgainAt n taken halt s) × (words ≡ lookedResultsAt n s results)
     again-found {r} {a} {t} h f g p q = (
       p
-          ∙ ap (λ (x : ReclaimAnswer). reclaimReply x taken halt t) (f ∙ ap (λ (n : ℕ). handedAnswer (requestOf n s)) place)
-          ∙ ap (reclaimReply (handedAnswer (requestOf (requestAt id s) s)) taken halt) (g ∙ ap (λ (n : ℕ). removed n s) place)
-          ∙ sym (first (isFound id s) out (stays (cond within reclaim.NotYet (reclaim.Refused 15))) (found h)),
-      q ∙ ap (λ (n : ℕ). handedResults n s results) place ∙ sym (first (isFound id s) handed results (found h)),
+          ∙ ap (λ (x : ReclaimAnswer). reclaimReply x taken halt t) (f ∙ ap (λ (k : ℕ). handedAnswer (requestOf k s)) place)
+          ∙ ap (reclaimReply (handedAnswer (requestOf (n) s)) taken halt) (g ∙ ap (λ (k : ℕ). removed k s) place)
+          ∙ sym (first (ltb n (s .head .done)) out (stays (cond within reclaim.NotYet (reclaim.Refused 15))) (found h)),
+      q ∙ ap (λ (k : ℕ). handedResults k s results) place ∙ sym (first (ltb n (s .head .done)) handed results (found h)),
     )
 
     again-left :
         {r : Reclaimed} (a : ReclaimAnswer) → s .head .done ≤ at → cond within reclaim.NotYet (reclaim.Refused 15) ≡ a → r ≡ stays a
-        → (r ≡ lookedAgain id taken halt s) × (results ≡ lookedResults id s results)
+        → (r ≡ lookedAgainAt n taken halt s) × (results ≡ lookedResultsAt n s results)
     again-left a h e p = (
-      p ∙ ap stays (sym e) ∙ sym (second (isFound id s) out (stays (cond within reclaim.NotYet (reclaim.Refused 15))) (not-found h)),
-      sym (second (isFound id s) handed results (not-found h)),
+      p ∙ ap stays (sym e) ∙ sym (second (ltb n (s .head .done)) out (stays (cond within reclaim.NotYet (reclaim.Refused 15))) (not-found h)),
+      sym (second (ltb n (s .head .done)) handed results (not-found h)),
     )
 
     pub again-pending :
         {r : Reclaimed} → s .head .done ≤ at → at < s .head .count → r ≡ stays reclaim.NotYet
-        → (r ≡ lookedAgain id taken halt s) × (results ≡ lookedResults id s results)
+        → (r ≡ lookedAgainAt n taken halt s) × (results ≡ lookedResultsAt n s results)
     again-pending h k p =
         let known : within ≡ true = below (s .head .count) place k in
         again-left reclaim.NotYet h (first within reclaim.NotYet (reclaim.Refused 15) known) p
 
     pub again-unknown :
         {r : Reclaimed} → s .head .done ≤ at → s .head .count ≤ at → r ≡ stays (reclaim.Refused 15)
-        → (r ≡ lookedAgain id taken halt s) × (results ≡ lookedResults id s results)
+        → (r ≡ lookedAgainAt n taken halt s) × (results ≡ lookedResultsAt n s results)
     again-unknown h k p =
         let unknown : within ≡ false = not-below (s .head .count) place k in
         again-left (reclaim.Refused 15) h (second within reclaim.NotYet (reclaim.Refused 15) unknown) p

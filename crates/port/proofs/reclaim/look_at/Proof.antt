@@ -1,17 +1,14 @@
--- `look` leaves all as it is where the number is found, and polls where it is not.
+-- A look leaves all as it is where the request is completed, and polls where it is not.
 use mathlib.Core.Path.{_≡_, refl, _∙_, ap}
 use Prim.Native.Nat.{_≤_, _<_}
 use native.Mathlib.Omega.{arith}
 use lib.ListN.{length}
-use lib.Seq.{slice}
 use borrow.Author.Needs.{needs}
 use Rattle.session.specs.declared.types.IsoHead.{IsoHead}
 use Rattle.session.specs.declared.reply.IsoReply.{IsoReply}
-use Rattle.session.specs.Cancel.{placeOf, requestAt}
 use Rattle.session.proofs.Laws.Record.{Sound, sound}
 use Rattle.session.proofs.Laws.Reclaims.{looked-found, looked-polled}
 use Rattle.port.specs.Layout.{sessionOf}
-use Rattle.port.specs.Places.{requestsOf}
 use Rattle.port.proofs.Canonical.{loaded-left}
 use Rattle.port.proofs.Laws.Calls.{long-enough}
 use Rattle.port.proofs.Laws.Left.{left-is}
@@ -28,39 +25,23 @@ good c = let xs = c .args .bytes .now in sound (sessionOf xs) (requests-many xs)
 head-is : (c : tie.After-head-at) → c .head-at .result ≡ sessionOf (c .before .before .before .before .args .bytes .now) .head
 head-is c = c .head-at .ensures ∙ head-there (c .before .before .before .before .args .bytes .now)
 
-place-is :
-    (c : tie.After-place-at)
-    → c .place-at .result
-    ≡ requestAt (c .before .before .before .before .before .before .args .id) (sessionOf (c .before .before .before .before .before .before .args .bytes .now))
-place-is c =
-    c .place-at .ensures
-    ∙ ap (λ (h : IsoHead).
-    placeOf (c .before .before .before .before .before .before .args .id)
-    (slice 0 (h .count) (requestsOf (c .before .before .before .before .before .before .args .bytes .now)))) (head-is (c .before .before))
-
 head-at-requires : tie.Need-head-at-requires
 head-at-requires c κs = long (c .before .before .before)
-
-place-at-requires : tie.Need-place-at-requires
-place-at-requires c κs = (
-  long (c .before .before .before .before .before),
-  omega (arith, ap (λ (h : IsoHead). h .count) (head-is (c .before)), good (c .before .before .before .before .before) .count-in),
-)
 
 same-length : tie.Need-same-length
 same-length c = search needs
 
 returns : tie.Need-returns
 returns c =
-    let a = c .before .before .before .before .before .before .before .before .args in
+    let a = c .before .before .before .before .before .before .args in
     let xs = a .bytes .now in
     let s = sessionOf xs in
-    let less : c .before .before .place-at .result < s .head .done =
-    omega (arith, c .if1 .taken, ap (λ (h : IsoHead). h .done) (head-is (c .before .before .before .before))) in
-    let stays = looked-found (a .id) s (place-is (c .before .before)) (a .event) (a .ring .now) less refl in
+    let less : a .at < s .head .done =
+    omega (arith, c .if1 .taken, ap (λ (h : IsoHead). h .done) (head-is (c .before .before))) in
+    let stays = looked-found s {at = a .at} refl (a .event) (a .ring .now) less refl in
     let same =
-    loaded-left xs (c .before .before .before .before .before .before .before .before .pre .0)
-    (λ i. omega (arith, c .before .before .before .before .before .before .before .slice-known .given i)) in (
+    loaded-left xs (c .before .before .before .before .before .before .pre .0)
+    (λ i. omega (arith, c .before .before .before .before .before .slice-known .given i)) in (
       record {
         taken = ap (λ (r : IsoReply). r .taken) (stays .0);
         halt = ap (λ (r : IsoReply). r .halt) (stays .0);
@@ -70,7 +51,7 @@ returns c =
     )
 
 poll-at-requires : tie.Need-poll-at-requires
-poll-at-requires c κs = c .before .before .before .before .before .before .before .before .before .before .pre
+poll-at-requires c κs = c .before .before .before .before .before .before .before .before .pre
 
 same-length-2 : tie.Need-same-length-2
 same-length-2 c = search needs
@@ -80,17 +61,17 @@ same-length-3 c = search needs
 
 returns-2 : tie.Need-returns-2
 returns-2 c =
-    let a = c .before .before .before .before .before .before .before .before .before .before .before .before .before .before .before .args in
+    let a = c .before .before .before .before .before .before .before .before .before .before .before .before .before .args in
     let s = sessionOf (a .bytes .now) in
-    let past : s .head .done ≤ c .before .before .before .before .before .before .before .before .before .place-at .result =
+    let past : s .head .done ≤ a .at =
     omega (
       arith,
       c .before .before .before .before .before .before .before .if1 .left,
-      ap (λ (h : IsoHead). h .done) (head-is (c .before .before .before .before .before .before .before .before .before .before .before)),
+      ap (λ (h : IsoHead). h .done) (head-is (c .before .before .before .before .before .before .before .before .before)),
     ) in
     let said = c .before .before .before .before .poll-at .ensures in
     let polls =
-    looked-polled (a .id) s (place-is (c .before .before .before .before .before .before .before .before .before)) (a .event) (a .ring .now) past refl refl
+    looked-polled s {at = a .at} refl (a .event) (a .ring .now) past refl refl
     (said .3) in (
       record {
         taken = said .0 ∙ ap (λ (r : IsoReply). r .taken) (polls .0);
@@ -105,7 +86,6 @@ look-at-spec =
     tie.close
     (tie.spec
     head-at-requires
-    place-at-requires
     same-length
     returns
     poll-at-requires

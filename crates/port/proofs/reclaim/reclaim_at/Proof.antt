@@ -1,24 +1,27 @@
--- Refused with 17 or 18 and nothing is stored, or looked and looked again.
+-- Refused with 17 or 18 and nothing is stored, or looked and looked again at the one place.
 use mathlib.Core.Path.{_≡_, refl, _∙_, sym, ap}
 use mathlib.Core.Bool.{Bool, false, _||_}
 use Prim.Native.Nat.{ℕ, _≤_}
 use native.Mathlib.Omega.{arith}
 use lib.Dec.{ltb}
 use lib.ListN.{length}
+use lib.Seq.{slice}
 use borrow.Author.Needs.{needs}
 use borrow.Author.Tests.{ltb-false}
 use Rattle.words.proofs.Laws.Tests.{neither}
+use Rattle.session.specs.declared.types.IsoHead.{IsoHead}
 use Rattle.session.specs.Session.{ringWords}
 use Rattle.session.specs.Record.{isBadRecord}
+use Rattle.session.specs.Cancel.{placeOf, requestAt}
 use Rattle.session.specs.Reclaim.{isShort}
 use Rattle.session.proofs.Laws.Record.{Sound, sound}
 use Rattle.session.proofs.Laws.Reclaims.{reclaim-short, reclaim-bad}
 use Rattle.port.specs.Layout.{sessionOf}
-use Rattle.port.specs.Places.{Left}
+use Rattle.port.specs.Places.{requestsOf, Left}
 use Rattle.port.proofs.Canonical.{loaded-left}
 use Rattle.port.proofs.Laws.Calls.{long-enough}
 use Rattle.port.proofs.Laws.Reclaiming.{refused-in-place, looked-layout, looked-good, looked-all, done-in-place}
-use Rattle.port.proofs.Laws.Placed.{config-there, requests-many, plans-many}
+use Rattle.port.proofs.Laws.Placed.{config-there, head-there, requests-many, plans-many}
 use Rattle.port.proofs.reclaim.reclaim_at.Statement.{statement}
 use Rattle.port.proofs.reclaim.reclaim_at.Tie as tie
 
@@ -50,6 +53,13 @@ test-short c e =
     ltb (length (c .before .before .before .before .before .before .args .ring .now)) n
     || ltb (length (c .before .before .before .before .before .before .args .results .now)) 255) (sym words)
     ∙ e
+
+head-is : (c : tie.After-head-at) → c .head-at .result ≡ sessionOf (c .before .before .before .before .before .before .before .before .before .before .args .bytes .now) .head
+head-is c = c .head-at .ensures ∙ head-there (c .before .before .before .before .before .before .before .before .before .before .args .bytes .now)
+
+place-is : (c : tie.After-place-at) → c .place-at .result ≡ requestAt (c .before .before .before .before .before .before .before .before .before .before .before .before .args .id) (sessionOf (c .before .before .before .before .before .before .before .before .before .before .before .before .args .bytes .now))
+place-is c =
+    c .place-at .ensures ∙ ap (λ (h : IsoHead). placeOf (c .before .before .before .before .before .before .before .before .before .before .before .before .args .id) (slice 0 (h .count) (requestsOf (c .before .before .before .before .before .before .before .before .before .before .before .before .args .bytes .now)))) (head-is (c .before .before))
 
 config-at-requires : tie.Need-config-at-requires
 config-at-requires c κs = long (c .before .before .before .before)
@@ -88,15 +98,24 @@ returns-2 c =
     refused-in-place (a .bytes .now) (a .ring .now) (a .results .now) (a .id) (a .event)
     (same (c .before .before .before .before .before .before .before .before)) (c .reclaim-refused2 .ensures) told
 
+head-at-requires : tie.Need-head-at-requires
+head-at-requires c κs = long (c .before .before .before .before .before .before .before .before .before)
+
+place-at-requires : tie.Need-place-at-requires
+place-at-requires c κs =
+    let start = (c .before .before .before .before .before .before .before .before .before .before .before) in
+    let g = good start (sym (start .pre .1 .bad (start .pre .0)) ∙ c .before .before .before .if2 .left) in
+    (long start, omega (arith, ap (λ (h : IsoHead). h .count) (head-is (c .before)), g .count-in))
+
 look-at-requires : tie.Need-look-at-requires
 look-at-requires c κs =
-    let a = c .before .before .before .before .before .before .before .before .before .before .args in
+    let a = c .before .before .before .before .before .before .before .before .before .before .before .before .before .before .args in
     let s = sessionOf (a .bytes .now) in
     let enough =
     neither (ltb (length (a .ring .now)) (ringWords (s .cfg))) (ltb (length (a .results .now)) 255)
-    (test-short (c .before .before .before .before) (c .before .before .before .if1 .left)) in (
-      c .before .before .before .before .before .before .before .before .before .before .pre .0,
-      sym (c .before .before .before .before .before .before .before .before .before .before .pre .1 .bad (c .before .before .before .before .before .before .before .before .before .before .pre .0)) ∙ c .before .before .if2 .left,
+    (test-short (c .before .before .before .before .before .before .before .before) (c .before .before .before .before .before .before .before .if1 .left)) in (
+      c .before .before .before .before .before .before .before .before .before .before .before .before .before .before .pre .0,
+      sym (c .before .before .before .before .before .before .before .before .before .before .before .before .before .before .pre .1 .bad (c .before .before .before .before .before .before .before .before .before .before .before .before .before .before .pre .0)) ∙ c .before .before .before .before .before .before .if2 .left,
       ltb-false (length (a .ring .now)) (ringWords (s .cfg)) (enough .0),
     )
 
@@ -105,19 +124,20 @@ cast-look-again-at c = search needs
 
 look-again-at-requires : tie.Need-look-again-at-requires
 look-again-at-requires c κs =
-    let start = (c .before .before .before .before .before .before .before .before .before .before .before .before .before .before .before .before .before .before) in
+    let start = (c .before .before .before .before .before .before .before .before .before .before .before .before .before .before .before .before .before .before .before .before .before .before) in
     let a = start .args in
     let xs = a .bytes .now in
     let enough =
     neither (ltb (length (a .ring .now)) (ringWords (sessionOf xs .cfg))) (ltb (length (a .results .now)) 255)
-    (test-short (c .before .before .before .before .before .before .before .before .before .before .before .before)
-    (c .before .before .before .before .before .before .before .before .before .before .before .if1 .left)) in
-    let g = good start (sym (start .pre .1 .bad (start .pre .0)) ∙ c .before .before .before .before .before .before .before .before .before .before .if2 .left) in
+    (test-short (c .before .before .before .before .before .before .before .before .before .before .before .before .before .before .before .before)
+    (c .before .before .before .before .before .before .before .before .before .before .before .before .before .before .before .if1 .left)) in
+    let g = good start (sym (start .pre .1 .bad (start .pre .0)) ∙ c .before .before .before .before .before .before .before .before .before .before .before .before .before .before .if2 .left) in
+    let place = place-is (c .before .before .before .before .before .before .before .before .before .before) in
     let act = c .before .before .before .before .before .before .before .look-at .ensures .0 in (
-      looked-layout xs (a .ring .now) (a .results .now) (a .id) (a .event) (start .pre .0) g act,
-      looked-good xs (a .ring .now) (a .results .now) (a .id) (a .event) (start .pre .0) g act,
+      looked-layout xs (a .ring .now) (a .results .now) (a .id) (a .event) (start .pre .0) g place act,
+      looked-good xs (a .ring .now) (a .results .now) (a .id) (a .event) (start .pre .0) g place act,
       ltb-false (length (a .results .now)) 255 (enough .1),
-      start .pre .1 .all (c .before .before .before .before .before .before .before .before .before .before .if2 .left) ∙ sym (looked-all xs (a .ring .now) (a .results .now) (a .id) (a .event) (start .pre .0) g act),
+      start .pre .1 .all (c .before .before .before .before .before .before .before .before .before .before .before .before .before .before .if2 .left) ∙ sym (looked-all xs (a .ring .now) (a .results .now) (a .id) (a .event) (start .pre .0) g place act),
     )
 
 reclaim-port-requires : tie.Need-reclaim-port-requires
@@ -134,16 +154,16 @@ same-length-5 c = search needs
 
 returns-3 : tie.Need-returns-3
 returns-3 c =
-    let start = (c .before .before .before .before .before .before .before .before .before .before .before .before .before .before .before .before .before .before .before .before .before .before .before .before) in
+    let start = (c .before .before .before .before .before .before .before .before .before .before .before .before .before .before .before .before .before .before .before .before .before .before .before .before .before .before .before .before) in
     let a = start .args in
     let fine =
     sym (start .pre .1 .bad (start .pre .0))
-    ∙ c .before .before .before .before .before .before .before .before .before .before .before .before .before .before .before .before .if2 .left in
+    ∙ c .before .before .before .before .before .before .before .before .before .before .before .before .before .before .before .before .before .before .before .before .if2 .left in
     let look = c .before .before .before .before .before .before .before .before .before .before .before .before .before .look-at .ensures in
     let again = c .before .before .before .before .before .look-again-at .ensures in
-    done-in-place (a .bytes .now) (a .ring .now) (a .results .now) (a .id) (a .event) (start .pre .0) (good start fine) (look .0)
-    (test-short (c .before .before .before .before .before .before .before .before .before .before .before .before .before .before .before .before .before .before)
-    (c .before .before .before .before .before .before .before .before .before .before .before .before .before .before .before .before .before .if1 .left))
+    done-in-place (a .bytes .now) (a .ring .now) (a .results .now) (a .id) (a .event) (start .pre .0) (good start fine) (place-is (c .before .before .before .before .before .before .before .before .before .before .before .before .before .before .before .before)) (look .0)
+    (test-short (c .before .before .before .before .before .before .before .before .before .before .before .before .before .before .before .before .before .before .before .before .before .before)
+    (c .before .before .before .before .before .before .before .before .before .before .before .before .before .before .before .before .before .before .before .before .before .if1 .left))
     fine (look .1) (again .0) (again .1) (again .2) (c .reclaim-port .ensures)
 
 pub reclaim-at-spec : {M : Type 1} → statement M
@@ -158,6 +178,8 @@ reclaim-at-spec =
     reclaim-refused-requires-2
     same-length-2
     returns-2
+    head-at-requires
+    place-at-requires
     look-at-requires
     cast-look-again-at
     look-again-at-requires

@@ -22,7 +22,7 @@ done-requires c κs = search needs
 returns : tie.Need-returns
 returns c =
     let a = c .before .before .before .before .before .before .before .args in
-    looked-found (a .id) (a .self) (c .before .before .before .place-of .ensures) (a .event) (a .ring .now) (c .before .if1 .taken) (c .done .ensures)
+    looked-found (a .self) (c .before .before .before .place-of .ensures) (a .event) (a .ring .now) (c .before .if1 .taken) (c .done .ensures)
 
 poll-way-requires : tie.Need-poll-way-requires
 poll-way-requires c κs = search needs
@@ -37,7 +37,7 @@ returns-2 : tie.Need-returns-2
 returns-2 c =
     let poll-by = c .before .before .poll-by in
     let a = c .before .before .before .before .before .before .before .before .before .before .before .args in
-    looked-polled (a .id) (a .self) (c .before .before .before .before .before .before .before .place-of .ensures) (a .event) (a .ring .now)
+    looked-polled (a .self) (c .before .before .before .before .before .before .before .place-of .ensures) (a .event) (a .ring .now)
     (c .before .before .before .before .before .if1 .left) (c .before .before .before .before .poll-way .ensures) (poll-by .ensures .0)
     (poll-by .ensures .1)
 

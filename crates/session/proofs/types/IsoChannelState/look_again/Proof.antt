@@ -44,7 +44,7 @@ same-length c = search needs
 returns : tie.Need-returns
 returns c =
     let a = c .before .before .before .before .before .before .before .before .before .before .before .before .before .before .args in
-    again-found (a .id) (a .self) (c .before .before .before .before .before .before .before .before .before .before .place-of .ensures) (a .taken) (a .halt)
+    again-found (a .self) (c .before .before .before .before .before .before .before .before .before .before .place-of .ensures) (a .taken) (a .halt)
     (a .results .now) (c .before .before .before .before .before .before .before .before .if1 .taken)
     (c .before .before .before .before .before .before .handed-answer .ensures) (c .before .remove .ensures)
     (c .reclaim-reply .ensures) (c .before .before .before .before .hand-results .ensures)
@@ -55,7 +55,7 @@ reclaim-reply-requires-2 c κs = search needs
 returns-2 : tie.Need-returns-2
 returns-2 c =
     let a = c .before .before .before .before .before .before .before .before .before .args in
-    again-pending (a .id) (a .self) (c .before .before .before .before .before .place-of .ensures) (a .taken) (a .halt) (a .results .now)
+    again-pending (a .self) (c .before .before .before .before .before .place-of .ensures) (a .taken) (a .halt) (a .results .now)
     (c .before .before .before .if1 .left) (c .before .if2 .taken) (c .reclaim-reply2 .ensures)
 
 reclaim-reply-requires-3 : tie.Need-reclaim-reply-requires-3
@@ -64,7 +64,7 @@ reclaim-reply-requires-3 c κs = search needs
 returns-3 : tie.Need-returns-3
 returns-3 c =
     let a = c .before .before .before .before .before .before .before .before .before .args in
-    again-unknown (a .id) (a .self) (c .before .before .before .before .before .place-of .ensures) (a .taken) (a .halt) (a .results .now)
+    again-unknown (a .self) (c .before .before .before .before .before .place-of .ensures) (a .taken) (a .halt) (a .results .now)
     (c .before .before .before .if1 .left) (c .before .if2 .left) (c .reclaim-reply3 .ensures)
 
 pub look-again-spec : {M : Type 1} → statement M
