@@ -1,10 +1,10 @@
 -- What the walk over the entries in use finds: bytes that no call works on, or what crate session's record check counts. Results of inner functions.
 use mathlib.Core.Path.{_≡_}
-use mathlib.Core.Bool.{Bool, false, _||_, _&&_}
+use mathlib.Core.Bool.{Bool, true, false, _||_, _&&_, cond}
 use mathlib.Core.List.{List}
-use Prim.Native.Nat.{ℕ, _/_, _%_, _≤_}
+use Prim.Native.Nat.{ℕ, _+_, _*_, _/_, _%_, _≤_, _<_}
 use lib.Dec.{eqb}
-use Rattle.session.specs.Session.{allPackets, pendingPackets}
+use Rattle.session.specs.Session.{slots, allPackets, pendingPackets}
 use Rattle.session.specs.declared.types.IsoFatal.the-variants.{Nothing}
 use Rattle.session.specs.Record.{isBadConfig, isBadRequest, isBadPlan, isBadRecord}
 use Rattle.port.specs.declared.scan.RequestSums.{RequestSums}
@@ -22,18 +22,16 @@ isBadPlanEntry limit slots xs = isBadPlanBytes xs || isBadPlan limit slots (plan
 abbrev pub isUnsound : List ℕ → Bool
 isUnsound xs = isBadLayout xs || isBadRecord (sessionOf xs)
 
--- the first eight bytes as one number: mark and version, then high or full speed, a direction and a mode
-abbrev pub hasPlainNames : ℕ → Bool
-hasPlainNames word =
-    eqb (word % 1099511627776) 22239044
-    && (eqb (word / 2199023255552 % 128) 0 && (eqb (word / 562949953421312 % 128) 0 && eqb (word / 144115188075855872) 0))
+-- the first eight bytes as two numbers: mark and version; then the version's upper half, high or full speed, a direction and a mode
+abbrev pub hasPlainNames : ℕ → ℕ → Bool
+hasPlainNames mark names =
+    eqb mark 22239044 && (eqb (names % 256) 0 && (eqb (names / 512 % 128) 0 && (eqb (names / 131072 % 128) 0 && eqb (names / 33554432) 0)))
 
--- the next eight: an interval, then packet size, endpoint, device and mult within their limits, and whether a channel is live
-abbrev pub hasPlainLimits : ℕ → Bool
-hasPlainLimits word =
-    eqb (word / 134217728 % 32) 0
-    && (eqb (word / 68719476736 % 16) 0
-    && (eqb (word / 140737488355328 % 2) 0 && (eqb (word / 1125899906842624 % 64) 0 && eqb (word / 144115188075855872) 0)))
+-- the next eight: an interval and a packet size; then endpoint, device and mult, all within their limits, and whether a channel is live
+abbrev pub hasPlainLimits : ℕ → ℕ → Bool
+hasPlainLimits sizes rest =
+    eqb (sizes / 134217728) 0
+    && (eqb (rest / 16 % 16) 0 && (eqb (rest / 32768 % 2) 0 && (eqb (rest / 262144 % 64) 0 && eqb (rest / 33554432) 0)))
 
 -- what stands before the tables in the common case: nothing bad, and no reason to end
 pub record PlainFront (xs : List ℕ) : Type 0 where
@@ -41,6 +39,18 @@ pub record PlainFront (xs : List ℕ) : Type 0 where
   pub config : isBadConfig (sessionOf xs .cfg) ≡ false
   pub few : sessionOf xs .head .count ≤ 64
   pub lasting : sessionOf xs .fatal ≡ Nothing
+
+-- and where no request is completed
+pub record FreshFront (xs : List ℕ) : Type 0 where
+  pub plain : PlainFront xs
+  pub none-done : sessionOf xs .head .done ≡ 0
+  pub cursor : sessionOf xs .head .«td_last» < slots (sessionOf xs .cfg)
+
+-- good bytes, with so many packets and all of them pending
+pub record Counted (xs : List ℕ) (n : ℕ) : Type 0 where
+  pub good : isUnsound xs ≡ false
+  pub all : n ≡ allPackets (sessionOf xs)
+  pub pending : n ≡ pendingPackets (sessionOf xs)
 
 pub record Sounded (xs : List ℕ) (r : RequestSums) : Type 0 where
   pub bad : r .bad ≡ isUnsound xs
@@ -53,3 +63,19 @@ pub record Told (xs : List ℕ) (r : Verdict) : Type 0 where
   pub bad : layoutNumber xs ≡ 0 → r .bad ≡ isBadRecord (sessionOf xs)
   pub all : r .bad ≡ false → r .all ≡ allPackets (sessionOf xs)
   pub pending : r .bad ≡ false → r .pending ≡ pendingPackets (sessionOf xs)
+
+-- a verdict as one number: the packets of good bytes; else, above them, the number of those that are refused, or 1 for a bad record
+abbrev pub goodNumber : ℕ → ℕ → ℕ
+goodNumber all pending = all + 65536 * pending
+
+abbrev pub refusedNumber : ℕ → ℕ
+refusedNumber n = cond (eqb n 0) 4294967296 (4294967296 * n)
+
+-- which says nothing of packets where it is not good
+abbrev pub notGood : ℕ → Verdict
+notGood refusal = record { refusal = refusal; bad = true; all = 0; pending = 0 }
+
+abbrev pub verdictOf : ℕ → Verdict
+verdictOf v =
+    cond (eqb (v / 4294967296) 0) (record { refusal = 0; bad = false; all = v % 65536; pending = v / 65536 })
+    (cond (eqb (v / 4294967296) 1) (notGood 0) (notGood (v / 4294967296 % 65536)))

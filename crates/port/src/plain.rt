@@ -1,21 +1,24 @@
 // Both checks of a session's bytes in the common case: high or full speed, no reason to end, requests without an outcome but done, packets in
 // flight that are not settled. Where a test fails nothing is said, and the whole walk (`scan`) decides. The bits of many entries' numbers
-// are put together without a test of each: what comes out is below none of them, so that one test of it speaks of all.
+// are put together without a test of each: what comes out is below none of them, so that one test of it speaks of all. The commonest sessions,
+// with no request or with none completed, have the fewest tests.
 ghost use mathlib.Core.Path.{_≡_};
 ghost use mathlib.Core.Bool.{true, false};
-ghost use Prim.Native.Nat.{_+_, _-_, _*_, _/_, _%_, _≤_};
+ghost use Prim.Native.Nat.{_+_, _-_, _*_, _/_, _%_, _≤_, _<_};
 ghost use lib.Dec.{ltb};
 ghost use lib.ListN.{length, drop};
 ghost use lib.Seq.{slice};
 ghost use Rattle.session.specs.Session.{packetsOf, room};
 ghost use Rattle.port.specs.Layout.{anyOf};
 ghost use Rattle.port.specs.Places.{requestsOf};
-ghost use Rattle.port.specs.Scan.{isBadRequestEntry, isBadPlanEntry, hasPlainNames, hasPlainLimits, PlainFront, Sounded};
+ghost use Rattle.port.specs.Scan.{isBadRequestEntry, isBadPlanEntry, hasPlainNames, hasPlainLimits, PlainFront, FreshFront, Counted, Sounded};
 use crate::drain::packets_before;
 use crate::load::Used;
 use crate::load::config_at;
 use crate::load::head_at;
+use crate::numbers::byte_at;
 use crate::numbers::u16_at;
+use crate::numbers::u32_at;
 use crate::numbers::u64_at;
 use crate::scan::RequestSums;
 use crate::scan::any_bad_plan_entry;
@@ -30,22 +33,21 @@ use session::is_over_room;
 use std::num::wrapping_sub_u64;
 
 // Quotients and remainders by powers of two, so that the compiler makes one mask of them.
-fn has_plain_names(word: u64) -> bool
-    ensures { λ r. ⌜ r ≡ hasPlainNames word ⌝ }
+fn has_plain_names(mark: u32, names: u32) -> bool
+    ensures { λ r. ⌜ r ≡ hasPlainNames mark names ⌝ }
 {
-    (word % 1_099_511_627_776 == 22_239_044)
-        & ((word / 2_199_023_255_552 % 128 == 0)
-            & ((word / 562_949_953_421_312 % 128 == 0) & (word / 144_115_188_075_855_872 == 0)))
+    (mark == 22_239_044)
+        & ((names % 256 == 0)
+            & ((names / 512 % 128 == 0)
+                & ((names / 131_072 % 128 == 0) & (names / 33_554_432 == 0))))
 }
 
-fn has_plain_limits(word: u64) -> bool
-    ensures { λ r. ⌜ r ≡ hasPlainLimits word ⌝ }
+fn has_plain_limits(sizes: u32, rest: u32) -> bool
+    ensures { λ r. ⌜ r ≡ hasPlainLimits sizes rest ⌝ }
 {
-    (word / 134_217_728 % 32 == 0)
-        & ((word / 68_719_476_736 % 16 == 0)
-            & ((word / 140_737_488_355_328 % 2 == 0)
-                & ((word / 1_125_899_906_842_624 % 64 == 0)
-                    & (word / 144_115_188_075_855_872 == 0))))
+    (sizes / 134_217_728 == 0)
+        & ((rest / 16 % 16 == 0)
+            & ((rest / 32_768 % 2 == 0) & ((rest / 262_144 % 64 == 0) & (rest / 33_554_432 == 0))))
 }
 
 // The count of requests and the six bytes of the reason behind it are a number up to 64 where there is no reason.
@@ -53,8 +55,29 @@ fn is_plain_front(bytes: &[u8]) -> bool
     requires { ⌜ 8488 ≤ length (now bytes) ⌝ }
     ensures { λ r. ⌜ (r ≡ true → PlainFront (now (bytes .entry))) ⌝ }
 {
-    has_plain_names(u64_at(bytes, 0))
-        & (has_plain_limits(u64_at(bytes, 8)) & (u64_at(bytes, 32) <= 64))
+    has_plain_names(u32_at(bytes, 0), u32_at(bytes, 4))
+        & (has_plain_limits(u32_at(bytes, 8), u32_at(bytes, 12)) & (u64_at(bytes, 32) <= 64))
+}
+
+// The cursor and the count of completed requests behind it are a number below the ring's slots where none is completed.
+fn is_fresh_front(bytes: &[u8]) -> bool
+    requires { ⌜ 8488 ≤ length (now bytes) ⌝ }
+    ensures { λ r. ⌜ (r ≡ true → FreshFront (now (bytes .entry))) ⌝ }
+{
+    let cfg = config_at(bytes);
+    let speed = cfg.speed;
+    is_plain_front(bytes) & (u32_at(bytes, 28) < iso_ring_size(speed) as u32)
+}
+
+// No request, completed or pending, and no reason to end.
+pub(crate) fn is_idle(bytes: &[u8]) -> bool
+    requires { ⌜ 8488 ≤ length (now bytes) ⌝ }
+    ensures { λ r. ⌜ (r ≡ true → Counted (now (bytes .entry)) 0) ⌝ }
+{
+    if u64_at(bytes, 32) != 0 {
+        return false;
+    }
+    is_fresh_front(bytes)
 }
 
 // Below neither number, and in the place of a plan's length, bits 8 to 23, below neither length.
@@ -159,4 +182,33 @@ pub(crate) fn plain_sums(bytes: &[u8]) -> RequestSums
         return good_sums(used.packets as u32, pending as u32);
     }
     bad_sums()
+}
+
+// The packets of a session with a live channel and nothing completed, so that all are pending. 256 where it is another, of which nothing is said.
+fn packets_in(bytes: &[u8]) -> u32
+    requires { ⌜ 8488 ≤ length (now bytes) ⌝ }
+    ensures { λ r. ⌜ (r < 256 → Counted (now (bytes .entry)) r) ⌝ }
+{
+    if !is_fresh_front(bytes) | !(byte_at(bytes, 15) == 1) {
+        return 256;
+    }
+    let cfg = config_at(bytes);
+    let speed = cfg.speed;
+    let used = plain_requests(bytes, u16_at(bytes, 32));
+    if used.bad | (used.packets > 255) {
+        return 256;
+    }
+    let limit = iso_max_xfer_size(speed);
+    if are_plain_packets(bytes, cfg, 0, used.packets, limit, iso_ring_size(speed)) {
+        return used.packets as u32;
+    }
+    256
+}
+
+// The bytes are lent on as a part of them: so the compiler hands over where they begin, and not a place in memory where that is kept.
+pub(crate) fn young_packets(bytes: &[u8]) -> u32
+    requires { ⌜ 8488 ≤ length (now bytes) ⌝ }
+    ensures { λ r. ⌜ (r < 256 → Counted (now (bytes .entry)) r) ⌝ }
+{
+    packets_in(&bytes[0..])
 }

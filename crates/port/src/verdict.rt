@@ -1,11 +1,18 @@
 // What a call may do with a session's bytes: refuse them by number, refuse their record with 18, or work on them. Good bytes are walked
 // once for both answers; a short ring's 17 stands between them, so that bytes found bad are looked at again for the first. Nearly all are
-// plain, which a shorter walk tells.
+// plain, which a shorter walk tells, and most of those have completed nothing, which the shortest tells.
+//
+// A function that is called, and not inlined, answers by a number: a struct would be handed over in memory, and read by loads that wait for the
+// stores of their halves.
 ghost use mathlib.Core.Path.{_≡_};
-ghost use mathlib.Core.Bool.{true};
-ghost use Rattle.port.specs.Scan.{Told};
+ghost use Prim.Native.Nat.{_≤_};
+ghost use lib.ListN.{length};
+ghost use Rattle.port.specs.Scan.{goodNumber, refusedNumber, notGood, verdictOf, Told};
 use crate::load::layout_refusal;
+use crate::numbers::u16_at;
+use crate::plain::is_idle;
 use crate::plain::plain_sums;
+use crate::plain::young_packets;
 use crate::scan::sums_at;
 
 pub(crate) struct Verdict {
@@ -15,8 +22,24 @@ pub(crate) struct Verdict {
     pub pending: u32,
 }
 
+fn good(all: u32, pending: u32) -> u64
+    ensures { λ r. ⌜ r ≡ goodNumber all pending ⌝ }
+{
+    all as u64 + 65_536 * pending as u64
+}
+
+// Bytes that are refused or, where there is no number, a bad record.
+fn refused(refusal: u16) -> u64
+    ensures { λ r. ⌜ r ≡ refusedNumber refusal ⌝ }
+{
+    if refusal == 0 {
+        return 4_294_967_296;
+    }
+    4_294_967_296 * refusal as u64
+}
+
 fn not_good(refusal: u16) -> Verdict
-    ensures { λ r. ⌜ (r .refusal ≡ refusal) × (r .bad ≡ true) ⌝ }
+    ensures { λ r. ⌜ r ≡ notGood refusal ⌝ }
 {
     Verdict {
         refusal,
@@ -26,46 +49,75 @@ fn not_good(refusal: u16) -> Verdict
     }
 }
 
-pub(crate) fn verdict_whole(bytes: &[u8]) -> Verdict
-    ensures { λ r. ⌜ Told (now (bytes .entry)) r ⌝ }
+pub(crate) fn verdict_of(number: u64) -> Verdict
+    ensures { λ r. ⌜ r ≡ verdictOf number ⌝ }
 {
-    if bytes.len() < 8_488 {
-        return not_good(17);
+    let upper = number / 4_294_967_296;
+    if upper == 0 {
+        return Verdict {
+            refusal: 0,
+            bad: false,
+            all: (number % 65_536) as u32,
+            pending: (number / 65_536) as u32,
+        };
     }
-    let sums = sums_at(bytes);
-    if sums.bad {
-        return not_good(layout_refusal(bytes));
+    if upper == 1 {
+        return not_good(0);
     }
-    Verdict {
-        refusal: 0,
-        bad: false,
-        all: sums.all,
-        pending: sums.pending,
-    }
+    not_good((upper % 65_536) as u16)
 }
 
-// What is not plain has a function of its own, which is lent a slice made only then and whose answer is handed on field by field: in the
-// common case nothing is copied, and few registers are saved.
+fn verdict_whole(bytes: &[u8]) -> u64
+    requires { ⌜ 8488 ≤ length (now bytes) ⌝ }
+    ensures { λ r. ⌜ Told (now (bytes .entry)) (verdictOf r) ⌝ }
+{
+    let sums = sums_at(bytes);
+    if sums.bad {
+        return refused(layout_refusal(bytes));
+    }
+    good(sums.all, sums.pending)
+}
+
+fn verdict_plain(bytes: &[u8]) -> u64
+    requires { ⌜ 8488 ≤ length (now bytes) ⌝ }
+    ensures { λ r. ⌜ Told (now (bytes .entry)) (verdictOf r) ⌝ }
+{
+    let sums = plain_sums(bytes);
+    if sums.bad {
+        return verdict_whole(bytes);
+    }
+    good(sums.all, sums.pending)
+}
+
+// Lent on as a part, as in `young_packets`.
+pub(crate) fn verdict_more(bytes: &[u8]) -> u64
+    requires { ⌜ 8488 ≤ length (now bytes) ⌝ }
+    ensures { λ r. ⌜ Told (now (bytes .entry)) (verdictOf r) ⌝ }
+{
+    verdict_plain(&bytes[0..])
+}
+
+// Short enough to be inlined into each call, so that an idle session is told there.
+fn verdict_number(bytes: &[u8]) -> u64
+    ensures { λ r. ⌜ Told (now (bytes .entry)) (verdictOf r) ⌝ }
+{
+    if bytes.len() < 8_488 {
+        return refused(17);
+    }
+    if u16_at(bytes, 30) == 0 {
+        if is_idle(bytes) {
+            return 0;
+        }
+        let packets = young_packets(bytes);
+        if packets < 256 {
+            return good(packets, packets);
+        }
+    }
+    verdict_more(bytes)
+}
+
 pub(crate) fn verdict_at(bytes: &[u8]) -> Verdict
     ensures { λ r. ⌜ Told (now (bytes .entry)) r ⌝ }
 {
-    if bytes.len() < 8_488 {
-        return not_good(17);
-    }
-    let sums = plain_sums(bytes);
-    if sums.bad {
-        let whole = verdict_whole(&bytes[0..]);
-        return Verdict {
-            refusal: whole.refusal,
-            bad: whole.bad,
-            all: whole.all,
-            pending: whole.pending,
-        };
-    }
-    Verdict {
-        refusal: 0,
-        bad: false,
-        all: sums.all,
-        pending: sums.pending,
-    }
+    verdict_of(verdict_number(bytes))
 }

@@ -146,7 +146,12 @@ pub pair : (ys : List ℕ) → u16Of ys ≡ byteOf ys + 256 * byteOf (drop 1 ys)
 unfolding u16Of byteOf
 pair ys = ap (λ (n : ℕ). getD ys 0 0 + 256 * n) (sym (getD-drop 1 ys 0 0))
 
--- the number of eight bytes, byte by byte
+-- the number of four bytes, and of eight, byte by byte
+pub four-bytes :
+    (ys : List ℕ) → u32Of ys ≡ byteOf ys + 256 * byteOf (drop 1 ys) + 65536 * byteOf (drop 2 ys) + 16777216 * byteOf (drop 3 ys)
+unfolding u32Of
+four-bytes ys = omega (arith, pair ys, pair (drop 2 ys), ap byteOf (drop-drop 1 2 ys))
+
 pub by-bytes :
     (ys : List ℕ)
     → u64Of ys

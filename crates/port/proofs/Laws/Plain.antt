@@ -1,6 +1,6 @@
--- What stands before the tables in the common case, read as three numbers of eight bytes: each test of one is a test of its bytes.
+-- What stands before the tables in the common case, read as a few numbers: each test of one is a test of its bytes.
 use mathlib.Core.Path.{_≡_, refl, _∙_, sym, ap, subst}
-use mathlib.Core.Bool.{true}
+use mathlib.Core.Bool.{Bool, true, _&&_}
 use mathlib.Core.List.{List}
 use Prim.Native.Nat.{ℕ, _+_, _*_, _/_, _%_, _≤_, _<_}
 use native.Mathlib.Nat.{one-mul, mul-comm, mul-assoc, div-div-eq-div-mul, add-mul-div-left, div-lt-iff-lt-mul, mod-eq-of-lt, add-mul-mod-self-left}
@@ -15,7 +15,7 @@ use Rattle.port.specs.Bytes.{byteOf, u16Of, u32Of, u64Of}
 use Rattle.port.specs.Tags.{tagged, taggedOf, fatalOf, isBadTagged}
 use Rattle.port.specs.Layout.{configOf, headOf, sessionOf}
 use Rattle.port.specs.Scan.{hasPlainNames, hasPlainLimits, PlainFront}
-use Rattle.port.proofs.Laws.Entries.{pair, by-bytes, ends-here, no-tag}
+use Rattle.port.proofs.Laws.Entries.{pair, four-bytes, by-bytes, ends-here, no-tag}
 use Rattle.port.proofs.Laws.Head.{are, bad-mark-at, bad-head-at}
 use Rattle.port.proofs.Laws.Kept.{Octets, octets-drop, both, byte-small}
 
@@ -33,54 +33,63 @@ under t u k n x high some whole few e zeros =
     let least : x / t < 1 = omega (arith, upper) in
     subst (λ (m : ℕ). x < m) (one-mul t) (div-lt-iff-lt-mul some .0 least)
 
--- digits below 256: tests of the number made of them
-module _ (a b c d e f g h : ℕ) (la : a < 256) (lb : b < 256) (lc : c < 256) (ld : d < 256) (le : e < 256) (lf : f < 256) (lg : g < 256) (lh : h < 256) where
-  abbrev number : ℕ
-  number = a + 256 * b + 65536 * c + 16777216 * d + 4294967296 * e + 1099511627776 * f + 281474976710656 * g + 72057594037927936 * h
+-- the number of four digits, the low one first, and tests of it
+abbrev number : ℕ → ℕ → ℕ → ℕ → ℕ
+number a b c d = a + 256 * b + 65536 * c + 16777216 * d
 
-  names : hasPlainNames number ≡ true → (a ≡ 68) × (b ≡ 87) × (c ≡ 83) × (d + 256 * e ≡ 1) × (f ≤ 1) × (g ≤ 1) × (h ≤ 1)
+abbrev isNames : ℕ → Bool
+isNames n = eqb (n % 256) 0 && (eqb (n / 512 % 128) 0 && (eqb (n / 131072 % 128) 0 && eqb (n / 33554432) 0))
+
+abbrev isRest : ℕ → Bool
+isRest n = eqb (n / 16 % 16) 0 && (eqb (n / 32768 % 2) 0 && (eqb (n / 262144 % 64) 0 && eqb (n / 33554432) 0))
+
+module _ (a b c d : ℕ) (la : a < 256) (lb : b < 256) (lc : c < 256) (ld : d < 256) where
+  second : number a b c d / 256 ≡ b + 256 * (c + 256 * d)
+  second = omega arith
+
+  third : number a b c d / 65536 ≡ c + 256 * d
+  third = omega arith
+
+  mark : number a b c d ≡ 22239044 → (a ≡ 68) × (b ≡ 87) × (c ≡ 83) × (d ≡ 1)
+  mark e = (omega arith, omega arith, omega arith, omega arith)
+
+  names : isNames (number a b c d) ≡ true → (a ≡ 0) × (b ≤ 1) × (c ≤ 1) × (d ≤ 1)
   names t =
-      let one = both (eqb (number % 1099511627776) 22239044) _ t in
-      let two = both (eqb (number / 2199023255552 % 128) 0) _ (one .1) in
-      let three = both (eqb (number / 562949953421312 % 128) 0) _ (two .1) in
-      let mark : number % 1099511627776 ≡ 22239044 = eqb-true _ _ (one .0) in
-      let speed : number / 2199023255552 % 128 ≡ 0 = eqb-true _ _ (two .0) in
-      let direction : number / 562949953421312 % 128 ≡ 0 = eqb-true _ _ (three .0) in
-      let mode : number / 144115188075855872 ≡ 0 = eqb-true _ _ (three .1) in
-      let low : a + 256 * b + 65536 * c + 16777216 * d + 4294967296 * e ≡ 22239044 = omega arith in
-      let sixth : number / 1099511627776 ≡ f + 256 * (g + 256 * h) = omega arith in
-      let seventh : number / 281474976710656 ≡ g + 256 * h = omega arith in (
+      let n : ℕ = number a b c d in
+      let one = both (eqb (n % 256) 0) _ t in
+      let two = both (eqb (n / 512 % 128) 0) _ (one .1) in
+      let three = both (eqb (n / 131072 % 128) 0) _ (two .1) in
+      let version : n % 256 ≡ 0 = eqb-true _ _ (one .0) in
+      let speed : n / 512 % 128 ≡ 0 = eqb-true _ _ (two .0) in
+      let direction : n / 131072 % 128 ≡ 0 = eqb-true _ _ (three .0) in
+      let mode : n / 33554432 ≡ 0 = eqb-true _ _ (three .1) in (
         omega arith,
-        omega arith,
-        omega arith,
-        omega arith,
-        omega (arith, under 2 128 1099511627776 number f (g + 256 * h) (omega arith) refl lf sixth speed),
-        omega (arith, under 2 128 281474976710656 number g h (omega arith) refl lg seventh direction),
+        omega (arith, under 2 128 256 n b (c + 256 * d) (omega arith) refl lb second speed),
+        omega (arith, under 2 128 65536 n c d (omega arith) refl lc third direction),
         omega arith,
       )
 
-  limits : hasPlainLimits number ≡ true → (c + 256 * d ≤ 2047) × (e ≤ 15) × (f ≤ 127) × (g ≤ 3) × (h ≤ 1)
+  sizes : eqb (number a b c d / 134217728) 0 ≡ true → c + 256 * d ≤ 2047
+  sizes t = let size : number a b c d / 134217728 ≡ 0 = eqb-true _ _ t in omega arith
+
+  limits : isRest (number a b c d) ≡ true → (a ≤ 15) × (b ≤ 127) × (c ≤ 3) × (d ≤ 1)
   limits t =
-      let one = both (eqb (number / 134217728 % 32) 0) _ t in
-      let two = both (eqb (number / 68719476736 % 16) 0) _ (one .1) in
-      let three = both (eqb (number / 140737488355328 % 2) 0) _ (two .1) in
-      let four = both (eqb (number / 1125899906842624 % 64) 0) _ (three .1) in
-      let size : number / 134217728 % 32 ≡ 0 = eqb-true _ _ (one .0) in
-      let endpoint : number / 68719476736 % 16 ≡ 0 = eqb-true _ _ (two .0) in
-      let device : number / 140737488355328 % 2 ≡ 0 = eqb-true _ _ (three .0) in
-      let mult : number / 1125899906842624 % 64 ≡ 0 = eqb-true _ _ (four .0) in
-      let live : number / 144115188075855872 ≡ 0 = eqb-true _ _ (four .1) in
-      let fifth : number / 4294967296 ≡ e + 256 * (f + 256 * (g + 256 * h)) = omega arith in
-      let sixth : number / 1099511627776 ≡ f + 256 * (g + 256 * h) = omega arith in
-      let seventh : number / 281474976710656 ≡ g + 256 * h = omega arith in (
-        omega arith,
-        omega (arith, under 16 16 4294967296 number e (f + 256 * (g + 256 * h)) (omega arith) refl le fifth endpoint),
-        omega (arith, under 128 2 1099511627776 number f (g + 256 * h) (omega arith) refl lf sixth device),
-        omega (arith, under 4 64 281474976710656 number g h (omega arith) refl lg seventh mult),
+      let n : ℕ = number a b c d in
+      let one = both (eqb (n / 16 % 16) 0) _ t in
+      let two = both (eqb (n / 32768 % 2) 0) _ (one .1) in
+      let three = both (eqb (n / 262144 % 64) 0) _ (two .1) in
+      let endpoint : n / 16 % 16 ≡ 0 = eqb-true _ _ (one .0) in
+      let device : n / 32768 % 2 ≡ 0 = eqb-true _ _ (two .0) in
+      let mult : n / 262144 % 64 ≡ 0 = eqb-true _ _ (three .0) in
+      let live : n / 33554432 ≡ 0 = eqb-true _ _ (three .1) in
+      let first : n / 1 ≡ a + 256 * (b + 256 * (c + 256 * d)) = omega arith in (
+        omega (arith, under 16 16 1 n a (b + 256 * (c + 256 * d)) (omega arith) refl la first endpoint),
+        omega (arith, under 128 2 256 n b (c + 256 * d) (omega arith) refl lb second device),
+        omega (arith, under 4 64 65536 n c d (omega arith) refl lc third mult),
         omega arith,
       )
 
--- ---- the three numbers
+-- ---- the numbers in a session's bytes
 
 no-reason : (ys : List ℕ) → byteOf ys ≡ 0 → fatalOf (taggedOf ys) ≡ Nothing
 unfolding taggedOf
@@ -90,41 +99,42 @@ module _ (xs : List ℕ) (octets : Octets xs) where
   byte-few : (k : ℕ) → byteOf (drop k xs) < 256
   byte-few k = byte-small (drop k xs) (octets-drop k xs octets)
 
-  -- the numbers in the terms of the session's own bytes
-  first-word : hasPlainNames (u64Of xs) ≡ true
-      → (byteOf xs ≡ 68) × (byteOf (drop 1 xs) ≡ 87) × (byteOf (drop 2 xs) ≡ 83) × (byteOf (drop 3 xs) + 256 * byteOf (drop 4 xs) ≡ 1)
-      × (byteOf (drop 5 xs) ≤ 1) × (byteOf (drop 6 xs) ≤ 1) × (byteOf (drop 7 xs) ≤ 1)
-  first-word t =
-      names (byteOf xs) (byteOf (drop 1 xs)) (byteOf (drop 2 xs)) (byteOf (drop 3 xs)) (byteOf (drop 4 xs)) (byteOf (drop 5 xs)) (byteOf (drop 6 xs))
-      (byteOf (drop 7 xs)) (byte-small xs octets) (byte-few 1) (byte-few 2) (byte-few 3) (byte-few 4) (byte-few 5) (byte-few 6) (byte-few 7)
-      (sym (ap hasPlainNames (by-bytes xs)) ∙ t)
+  -- four digits in the terms of the session's own bytes, and a law of such
+  word : (k : ℕ) → u32Of (drop k xs) ≡ number (byteOf (drop k xs)) (byteOf (drop (k + 1) xs)) (byteOf (drop (k + 2) xs)) (byteOf (drop (k + 3) xs))
+  word k =
+      let on : (i : ℕ) → byteOf (drop i (drop k xs)) ≡ byteOf (drop (k + i) xs) = λ i. ap byteOf (drop-drop i k xs) in
+      omega (arith, four-bytes (drop k xs), on 1, on 2, on 3)
 
-  second-word : hasPlainLimits (u64Of (drop 8 xs)) ≡ true
-      → (byteOf (drop 10 xs) + 256 * byteOf (drop 11 xs) ≤ 2047) × (byteOf (drop 12 xs) ≤ 15) × (byteOf (drop 13 xs) ≤ 127) × (byteOf (drop 14 xs) ≤ 3)
-      × (byteOf (drop 15 xs) ≤ 1)
-  second-word t =
-      let on : (k : ℕ) → byteOf (drop k (drop 8 xs)) ≡ byteOf (drop (8 + k) xs) = λ k. ap byteOf (drop-drop k 8 xs) in
-      let all =
-      limits (byteOf (drop 8 xs)) (byteOf (drop 1 (drop 8 xs))) (byteOf (drop 2 (drop 8 xs))) (byteOf (drop 3 (drop 8 xs))) (byteOf (drop 4 (drop 8 xs)))
-      (byteOf (drop 5 (drop 8 xs))) (byteOf (drop 6 (drop 8 xs))) (byteOf (drop 7 (drop 8 xs))) (byte-few 8) (omega (arith, on 1, byte-few 9))
-      (omega (arith, on 2, byte-few 10)) (omega (arith, on 3, byte-few 11)) (omega (arith, on 4, byte-few 12)) (omega (arith, on 5, byte-few 13))
-      (omega (arith, on 6, byte-few 14)) (omega (arith, on 7, byte-few 15)) (sym (ap hasPlainLimits (by-bytes (drop 8 xs))) ∙ t) in (
-        omega (arith, on 2, on 3, all .0),
-        omega (arith, on 4, all .1),
-        omega (arith, on 5, all .2),
-        omega (arith, on 6, all .3),
-        omega (arith, on 7, all .4),
-      )
+  at : {A : ℕ → ℕ → ℕ → ℕ → Type 0} → ((a b c d : ℕ) → a < 256 → b < 256 → c < 256 → d < 256 → A a b c d) → (k : ℕ)
+      → A (byteOf (drop k xs)) (byteOf (drop (k + 1) xs)) (byteOf (drop (k + 2) xs)) (byteOf (drop (k + 3) xs))
+  at law k =
+      law (byteOf (drop k xs)) (byteOf (drop (k + 1) xs)) (byteOf (drop (k + 2) xs)) (byteOf (drop (k + 3) xs)) (byte-few k) (byte-few (k + 1))
+      (byte-few (k + 2)) (byte-few (k + 3))
+
+  first-words : hasPlainNames (u32Of xs) (u32Of (drop 4 xs)) ≡ true
+      → ((byteOf xs ≡ 68) × (byteOf (drop 1 xs) ≡ 87) × (byteOf (drop 2 xs) ≡ 83) × (byteOf (drop 3 xs) ≡ 1))
+      × ((byteOf (drop 4 xs) ≡ 0) × (byteOf (drop 5 xs) ≤ 1) × (byteOf (drop 6 xs) ≤ 1) × (byteOf (drop 7 xs) ≤ 1))
+  first-words t =
+      let two = both (eqb (u32Of xs) 22239044) (isNames (u32Of (drop 4 xs))) t in
+      (at mark 0 (sym (word 0) ∙ eqb-true (u32Of xs) 22239044 (two .0)), at names 4 (sym (ap isNames (word 4)) ∙ two .1))
+
+  next-words : hasPlainLimits (u32Of (drop 8 xs)) (u32Of (drop 12 xs)) ≡ true
+      → (byteOf (drop 10 xs) + 256 * byteOf (drop 11 xs) ≤ 2047)
+      × ((byteOf (drop 12 xs) ≤ 15) × (byteOf (drop 13 xs) ≤ 127) × (byteOf (drop 14 xs) ≤ 3) × (byteOf (drop 15 xs) ≤ 1))
+  next-words t =
+      let two = both (eqb (u32Of (drop 8 xs) / 134217728) 0) (isRest (u32Of (drop 12 xs))) t in
+      (at sizes 8 (sym (ap (λ (n : ℕ). eqb (n / 134217728) 0) (word 8)) ∙ two .0), at limits 12 (sym (ap isRest (word 12)) ∙ two .1))
 
   pub front-is :
-      hasPlainNames (u64Of xs) ≡ true → hasPlainLimits (u64Of (drop 8 xs)) ≡ true → u64Of (drop 32 xs) ≤ 64
+      hasPlainNames (u32Of xs) (u32Of (drop 4 xs)) ≡ true → hasPlainLimits (u32Of (drop 8 xs)) (u32Of (drop 12 xs)) ≡ true → u64Of (drop 32 xs) ≤ 64
       → PlainFront xs
   unfolding sessionOf configOf headOf
   front-is named limited few =
-      let a = first-word named in
-      let b = second-word limited in
+      let a = first-words named .0 in
+      let n = first-words named .1 in
+      let b = next-words limited in
       let small : u64Of (drop 32 xs) < 65536 = omega arith in
-      let version : u16Of (drop 3 xs) ≡ 1 = pair (drop 3 xs) ∙ ap (λ (n : ℕ). byteOf (drop 3 xs) + 256 * n) (ap byteOf (drop-drop 1 3 xs)) ∙ a .3 in
+      let version : u16Of (drop 3 xs) ≡ 1 = omega (arith, pair (drop 3 xs), ap byteOf (drop-drop 1 3 xs), a .3, n .0) in
       let size : u16Of (drop 10 xs) ≤ 2047 = omega (arith, pair (drop 10 xs), ap byteOf (drop-drop 1 10 xs), b .0) in
       let tag : byteOf (drop 34 xs) ≡ 0 = omega (arith, by-bytes (drop 32 xs), ap byteOf (drop-drop 2 32 xs), small) in
       let lasts = no-tag (drop 32 xs) small 2 2 refl ∙ ap (λ (l : List ℕ). isBadTagged 2 2 (taggedOf l)) (drop-drop 2 32 xs) in
@@ -132,14 +142,14 @@ module _ (xs : List ℕ) (octets : Octets xs) where
       none (are (byteOf xs) 68 (a .0))
       (none (are (byteOf (drop 1 xs)) 87 (a .1)) (none (are (byteOf (drop 2 xs)) 83 (a .2)) (are (u16Of (drop 3 xs)) 1 version))) in
       let rest =
-      none (le-ltb 2 (byteOf (drop 5 xs)) (omega (arith, a .4)))
-      (none (le-ltb 1 (byteOf (drop 6 xs)) (a .5))
-      (none (le-ltb 1 (byteOf (drop 7 xs)) (a .6)) (none (le-ltb 1 (byteOf (drop 15 xs)) (b .4)) (sym lasts)))) in
+      none (le-ltb 2 (byteOf (drop 5 xs)) (omega (arith, n .1)))
+      (none (le-ltb 1 (byteOf (drop 6 xs)) (n .2))
+      (none (le-ltb 1 (byteOf (drop 7 xs)) (n .3)) (none (le-ltb 1 (byteOf (drop 15 xs)) (b .1 .3)) (sym lasts)))) in
       record {
         before = none (sym (bad-mark-at xs refl refl refl refl) ∙ mark) (sym (bad-head-at xs refl refl refl refl refl refl) ∙ rest);
         config =
-            none (le-ltb 15 (byteOf (drop 12 xs)) (b .1))
-            (none (le-ltb 127 (byteOf (drop 13 xs)) (b .2)) (none (le-ltb 2047 (u16Of (drop 10 xs)) size) (le-ltb 3 (byteOf (drop 14 xs)) (b .3))));
+            none (le-ltb 15 (byteOf (drop 12 xs)) (b .1 .0))
+            (none (le-ltb 127 (byteOf (drop 13 xs)) (b .1 .1)) (none (le-ltb 2047 (u16Of (drop 10 xs)) size) (le-ltb 3 (byteOf (drop 14 xs)) (b .1 .2))));
         few = omega (arith, ends-here (drop 32 xs) small, few);
         lasting = no-reason (drop 34 xs) tag;
       }

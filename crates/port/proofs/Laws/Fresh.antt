@@ -1,0 +1,85 @@
+-- Sessions that have completed no request: what their front says in few numbers, and that all their packets are pending.
+use mathlib.Core.Path.{_≡_, refl, _∙_, sym, ap, ap₂, subst}
+use mathlib.Core.Bool.{Bool, true, false, not, _||_, _&&_}
+use mathlib.Core.List.{List}
+use Prim.Native.Nat.{ℕ, _≤_, _<_}
+use native.Mathlib.Omega.{arith}
+use lib.Dec.{ltb}
+use lib.ListN.{drop}
+use lib.Seq.{slice, drop-drop}
+use borrow.Author.Tests.{le-ltb, lt-leb}
+use Rattle.ring.specs.RingSums.{packetLimit}
+use Rattle.session.specs.declared.types.IsoConfig.{IsoConfig}
+use Rattle.session.specs.declared.types.IsoChannelState.{IsoChannelState}
+use Rattle.session.specs.Session.{slots, room, packetsOf, allPackets, pendingPackets, hasReason}
+use Rattle.session.proofs.Laws.Tests.{none}
+use Rattle.port.specs.Bytes.{byteOf, u16Of, u32Of}
+use Rattle.port.specs.Tags.{flagOf}
+use Rattle.port.specs.Layout.{headOf, anyOf, sessionOf}
+use Rattle.port.specs.Scan.{isBadRequestEntry, isBadPlanEntry, PlainFront, FreshFront, Counted}
+use Rattle.port.proofs.Laws.Sounds.{isBadNumbers, by-plans, idle-all, idle-pending, idle-good}
+
+module _ (xs : List ℕ) where
+  -- the cursor and the count of completed requests behind it, as one number
+  pub fresh-is : PlainFront xs → {size : ℕ} → size ≡ slots (sessionOf xs .cfg) → size ≤ 65535 → u32Of (drop 28 xs) < size → FreshFront xs
+  unfolding sessionOf headOf u32Of
+  fresh-is plain es narrow below =
+      let behind : u16Of (drop 2 (drop 28 xs)) ≡ u16Of (drop 30 xs) = ap u16Of (drop-drop 2 28 xs) in
+      record {
+        plain = plain;
+        none-done = omega (arith, behind, below, narrow);
+        cursor = subst (λ (n : ℕ). u16Of (drop 28 xs) < n) es (omega (arith, below));
+      }
+
+  pub live-there : byteOf (drop 15 xs) ≡ 1 → sessionOf xs .head .live ≡ true
+  unfolding sessionOf headOf
+  live-there e = ap flagOf e
+
+second-false : (a : Bool) {b : Bool} → b ≡ false → (a && b) ≡ false
+second-false true e = e
+second-false false e = refl
+
+module _ (xs : List ℕ) (front : FreshFront xs) where
+  abbrev s : IsoChannelState
+  s = sessionOf xs
+
+  numbers : (not (s .head .live) && (ltb (s .head .done) (s .head .count) || hasReason (s .fatal))) ≡ false → isBadNumbers s ≡ false
+  numbers e =
+      none (none (front .plain .config) (none (le-ltb (s .head .count) (s .head .done) (omega (arith, front .none-done))) (le-ltb 64 (s .head .count) (front .plain .few))))
+      (none (lt-leb (slots (s .cfg)) (s .head .«td_last») (front .cursor)) e)
+
+  all-pending : allPackets s ≡ pendingPackets s
+  all-pending = ap (λ (n : ℕ). packetsOf (slice n (s .head .count) (s .requests))) (sym (front .none-done))
+
+  pub idle-counted : s .head .count ≡ 0 → Counted xs 0
+  idle-counted idle =
+      let waits : ltb (s .head .done) (s .head .count) ≡ false = le-ltb (s .head .done) (s .head .count) (omega (arith, idle)) in
+      let lasts : hasReason (s .fatal) ≡ false = ap hasReason (front .plain .lasting) in
+      record {
+        good = idle-good xs idle (numbers (second-false (not (s .head .live)) (none waits lasts))) (front .plain .before);
+        all = idle-all xs idle;
+        pending = idle-pending xs idle;
+      }
+
+  -- with a live channel: the entries passed their tests, and there is room for `n` packets
+  pub young-counted :
+      {n limit size : ℕ} {cfg : IsoConfig} → s .head .live ≡ true → cfg ≡ s .cfg → limit ≡ packetLimit (cfg .speed) → size ≡ slots cfg → n ≡ allPackets s
+      → n ≤ 1024
+      → anyOf isBadRequestEntry 20 (s .head .count) (drop 40 xs) ≡ false
+      → ltb (room cfg) n ≡ false
+      → anyOf (isBadPlanEntry limit size) 7 n (drop 1320 xs) ≡ false
+      → Counted xs n
+  young-counted {n} {limit} {size} {cfg} live ec el ez en few requests fits plans =
+      let waits : Bool = ltb (s .head .done) (s .head .count) || hasReason (s .fatal) in
+      let pending : n ≡ pendingPackets s = en ∙ all-pending in
+      let sums = none (le-ltb 1024 (allPackets s) (omega (arith, en, few))) (sym (ap₂ (λ (k : IsoConfig) (m : ℕ). ltb (room k) m) ec pending) ∙ fits) in
+      record {
+        good =
+            by-plans xs (numbers (ap (λ (b : Bool). not b && waits) live)) (front .plain .before) requests sums
+            ∙ sym
+            (ap₂ (λ (l z : ℕ). anyOf (isBadPlanEntry l z) 7 n (drop 1320 xs)) (el ∙ ap (λ (k : IsoConfig). packetLimit (k .speed)) ec) (ez ∙ ap slots ec)
+            ∙ ap (λ (m : ℕ). anyOf (isBadPlanEntry (packetLimit (s .cfg .speed)) (slots (s .cfg))) 7 m (drop 1320 xs)) en)
+            ∙ plans;
+        all = en;
+        pending = pending;
+      }
