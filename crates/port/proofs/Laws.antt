@@ -14,6 +14,7 @@ pub mod Over
 pub mod Placed
 pub mod Plain
 pub mod Planning
+pub mod Polling
 pub mod Reclaiming
 pub mod Requests
 pub mod Runs

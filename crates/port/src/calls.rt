@@ -111,7 +111,7 @@ pub extern "C" fn dwc2_iso_poll(
         return reply_refused(verdict.refusal);
     }
     let event = event_of(reported, unplugged, hcint);
-    poll_on(session, verdict.bad, event, ring)
+    poll_on(session, verdict, event, ring)
 }
 
 #[no_mangle]

@@ -199,3 +199,35 @@ pub(crate) fn drain_at(bytes: &mut [u8], bit: bool, ring: &mut [u32])
         done += 1;
     }
 }
+
+// The oldest request is to be settled, by the bit or because it is served. What is completed has `before` packets.
+fn is_settling(bytes: &[u8], before: usize, bit: bool, ring: &[u32]) -> bool
+    requires { ⌜ (layoutNumber (now bytes) ≡ 0)
+        × (isBadRecord (sessionOf (now bytes)) ≡ false)
+        × (before ≡ oldestFrom (sessionOf (now bytes))) ⌝ }
+    ensures { λ r. ⌜ (r ≡ false
+        → drained bit (sessionOf (now (bytes .entry))) (now (ring .entry))
+        ≡ record { session = sessionOf (now (bytes .entry)); ring = now (ring .entry) }) ⌝ }
+{
+    let done = u16_at(bytes, 30);
+    if done >= u16_at(bytes, 32) {
+        return false;
+    }
+    let to = before + packets_at(bytes, done as usize);
+    bit | is_served_at(bytes, to, ring)
+}
+
+// Most events find nothing to settle: that is told before anything is written.
+pub(crate) fn drain_from(bytes: &mut [u8], before: usize, bit: bool, ring: &mut [u32])
+    requires { ⌜ (layoutNumber (now bytes) ≡ 0)
+        × (isBadRecord (sessionOf (now bytes)) ≡ false)
+        × (before ≡ oldestFrom (sessionOf (now bytes)))
+        × (ringWords (sessionOf (now bytes) .cfg) ≤ length (now ring)) ⌝ }
+    ensures { λ _. ⌜ (Left (now (bytes .entry)) (now (bytes .exit))
+        (drained bit (sessionOf (now (bytes .entry))) (now (ring .entry)) .session))
+        × (now (ring .exit) ≡ drained bit (sessionOf (now (bytes .entry))) (now (ring .entry)) .ring) ⌝ }
+{
+    if is_settling(bytes, before, bit, ring) {
+        drain_at(bytes, bit, ring);
+    }
+}

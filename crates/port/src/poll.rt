@@ -1,8 +1,10 @@
 // Polling and recovery on a session's bytes where they stand: document 01, "Poll" and "Recovery". Both are lent the ring: 17 and 18 come first.
 ghost use mathlib.Core.Path.{_≡_};
-ghost use mathlib.Core.Bool.{false};
+ghost use mathlib.Core.Bool.{true, false};
 ghost use Prim.Native.Nat.{_≤_};
 ghost use lib.ListN.{length};
+ghost use Rattle.words.specs.Words.{isSet, halted, hcintFault};
+ghost use Rattle.words.specs.declared.types.HcintFault.the-variants.{Nothing};
 ghost use Rattle.session.specs.Session.{ringWords};
 ghost use Rattle.session.specs.Record.{isBadRecord};
 ghost use Rattle.session.specs.Poll.{pollWay, withReason, polledBy, polledRingBy, polled, polledRing, recovered, recoveredRing};
@@ -10,16 +12,20 @@ ghost use Rattle.port.specs.Layout.{layoutNumber, sessionOf};
 ghost use Rattle.port.specs.Calls.{replyPort};
 ghost use Rattle.port.specs.Places.{Left};
 ghost use Rattle.port.specs.Parts.{lentNumber};
+ghost use Rattle.port.specs.Scan.{Told};
 use crate::answers::PortReply;
 use crate::answers::reply_port;
 use crate::answers::reply_refused;
 use crate::drain::drain_at;
+use crate::drain::drain_from;
 use crate::end::end_at;
 use crate::entries::put_tagged;
 use crate::load::config_at;
 use crate::load::head_at;
 use crate::load::reason_at;
+use crate::numbers::byte_at;
 use crate::tags::fatal_tagged;
+use crate::verdict::Verdict;
 use session::IsoAnswer;
 use session::IsoEvent;
 use session::IsoFatal;
@@ -28,6 +34,7 @@ use session::IsoOutcome;
 use session::PollWay;
 use session::ring_words;
 use session::way_of;
+use words::hcint_xfercompl;
 
 // The number with which a call is refused that is lent a ring of so many words; 0 where it is not.
 fn lent_refusal(bytes: &[u8], bad: bool, words: usize) -> u16
@@ -111,15 +118,38 @@ fn said(taken: bool, halt: bool) -> PollSaid
     PollSaid { taken, halt }
 }
 
-pub(crate) fn poll_on(bytes: &mut [u8], bad: bool, event: IsoEvent, ring: &mut [u32]) -> PortReply
-    requires { ⌜ (layoutNumber (now bytes) ≡ 0) × (bad ≡ isBadRecord (sessionOf (now bytes))) ⌝ }
+// No fault, and not halted: the bits 1 to 3 and 7 to 10 are clear.
+fn is_calm(hcint: u32) -> bool
+    ensures { λ r. ⌜ (r ≡ true → (hcintFault hcint ≡ Nothing) × (isSet halted hcint ≡ false)) ⌝ }
+{
+    (hcint / 2 % 8 == 0) & (hcint / 128 % 16 == 0)
+}
+
+// Nothing to take, or a calm event and no reason to end, are what a camera's session meets nearly always; `poll_at` decides any other.
+pub(crate) fn poll_on(
+    bytes: &mut [u8],
+    verdict: Verdict,
+    event: IsoEvent,
+    ring: &mut [u32],
+) -> PortReply
+    requires { ⌜ (layoutNumber (now bytes) ≡ 0) × (Told (now bytes) verdict) ⌝ }
     ensures { λ r. ⌜ (r ≡ replyPort (polled (sessionOf (now (bytes .entry))) event (now (ring .entry))))
         × (Left (now (bytes .entry)) (now (bytes .exit)) (polled (sessionOf (now (bytes .entry))) event (now (ring .entry)) .session))
         × (now (ring .exit) ≡ polledRing (sessionOf (now (bytes .entry))) event (now (ring .entry))) ⌝ }
 {
-    let refusal = lent_refusal(bytes, bad, ring.len());
+    let refusal = lent_refusal(bytes, verdict.bad, ring.len());
     if refusal != 0 {
         return reply_refused(refusal);
+    }
+    let head = head_at(bytes);
+    if !head.live | !event.reported {
+        return reply_port(IsoAnswer::Done, false, false);
+    }
+    let hcint = event.hcint;
+    if !event.unplugged & (is_calm(hcint) & (byte_at(bytes, 34) == 0)) {
+        let before = (verdict.all - verdict.pending) as usize;
+        drain_from(bytes, before, hcint_xfercompl(hcint), ring);
+        return reply_port(IsoAnswer::Done, true, false);
     }
     let answer = poll_at(bytes, event, ring);
     reply_port(IsoAnswer::Done, answer.taken, answer.halt)

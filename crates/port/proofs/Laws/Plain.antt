@@ -91,7 +91,7 @@ module _ (a b c d : ℕ) (la : a < 256) (lb : b < 256) (lc : c < 256) (ld : d < 
 
 -- ---- the numbers in a session's bytes
 
-no-reason : (ys : List ℕ) → byteOf ys ≡ 0 → fatalOf (taggedOf ys) ≡ Nothing
+pub no-reason : (ys : List ℕ) → byteOf ys ≡ 0 → fatalOf (taggedOf ys) ≡ Nothing
 unfolding taggedOf
 no-reason ys e = ap (λ (n : ℕ). fatalOf (tagged n (byteOf (drop 1 ys)) (u32Of (drop 2 ys)))) e
 

@@ -23,6 +23,10 @@ use Rattle.port.proofs.Laws.Placed.{plan-there, request-there}
 
 -- ---- single fields, read where they stand
 
+pub done-there : (xs : List ℕ) → u16Of (drop 30 xs) ≡ sessionOf xs .head .done
+unfolding sessionOf headOf
+done-there xs = refl
+
 pub count-there : (xs : List ℕ) → u16Of (drop 32 xs) ≡ sessionOf xs .head .count
 unfolding sessionOf headOf
 count-there xs = refl

@@ -39,8 +39,8 @@ event-of-requires c κs = search needs
 
 poll-on-requires : tie.Need-poll-on-requires
 poll-on-requires c κs =
-    let passed = sym (c .before .before .before .before .before .verdict-at .ensures .refusal) ∙ c .before .before .before .if1 .left in
-    (passed, c .before .before .before .before .before .verdict-at .ensures .bad passed)
+    let told = c .before .before .before .before .before .verdict-at .ensures in
+    (sym (told .refusal) ∙ c .before .before .before .if1 .left, told)
 
 same-length-2 : tie.Need-same-length-2
 same-length-2 c = search needs

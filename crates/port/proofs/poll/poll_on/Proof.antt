@@ -1,25 +1,67 @@
--- Refused with a number, or polled: each way out is the definition at the tests that led there.
-use mathlib.Core.Path.{refl, _∙_, sym}
-use Prim.Native.Nat.{ℕ}
+-- Refused with a number, or polled by a way: at each exit the way is known, and the code did what it does.
+use mathlib.Core.Path.{_≡_, refl, _∙_, sym, ap}
+use mathlib.Core.Bool.{false, not, _||_}
+use Prim.Native.Nat.{ℕ, _+_, _≤_}
 use native.Mathlib.Omega.{arith}
-use lib.ListN.{length}
+use lib.Dec.{ltb}
+use lib.ListN.{length, drop}
 use borrow.Author.Needs.{needs}
-use borrow.Author.Tests.{ltb-false}
+use borrow.Author.Tests.{ltb-false, eqb-true, not-true}
+use Rattle.session.specs.declared.types.IsoHead.{IsoHead}
+use Rattle.session.specs.declared.types.IsoFatal.the-variants.{Nothing}
+use Rattle.session.specs.declared.reply.PollWay.the-variants.{Settle}
+use Rattle.words.specs.Words.{isSet, complete}
 use Rattle.session.specs.Session.{ringWords}
+use Rattle.session.specs.Settle.{oldestFrom}
+use Rattle.session.specs.Record.{isBadRecord}
 use Rattle.session.specs.Poll.{refusedReply, pollWay, polledBy, polledRingBy, polled}
-use Rattle.session.proofs.Laws.Replies.{lent-done}
+use Rattle.session.proofs.Laws.Record.{sound}
 use Rattle.port.specs.Layout.{sessionOf}
 use Rattle.port.proofs.Laws.Calls.{long-enough}
-use Rattle.port.proofs.Laws.Kept.{Octets}
-use Rattle.port.proofs.Laws.Steps.{stays, becomes, lent-refused, lent-passed, reply-said}
+use Rattle.port.proofs.Laws.Kept.{Octets, both}
+use Rattle.port.proofs.Laws.Placed.{head-there, reason-there, requests-many, plans-many}
+use Rattle.port.proofs.Laws.Plain.{no-reason}
+use Rattle.port.proofs.Laws.Polling.{quiet-way, calm-way, replied, two-parts}
+use Rattle.port.proofs.Laws.Steps.{same-bytes, stays, lent-refused, lent-passed}
 use Rattle.port.proofs.poll.poll_on.Statement.{statement}
 use Rattle.port.proofs.poll.poll_on.Tie as tie
 
 octets : (c : tie.After-slice-known) → Octets (c .before .args .bytes .now)
 octets c i = omega (arith, c .slice-known .given i)
 
+long : (c : tie.Start) → 8488 ≤ length (c .args .bytes .now)
+long c = long-enough (c .args .bytes .now) refl (c .pre .0)
+
+passed :
+    (c : tie.Else1)
+    → (ltb (length (c .before .before .before .before .before .args .ring .now)) (ringWords (sessionOf (c .before .before .before .before .before .args .bytes .now) .cfg)) ≡ false) × (isBadRecord (sessionOf (c .before .before .before .before .before .args .bytes .now)) ≡ false)
+passed c = lent-passed (sessionOf (c .before .before .before .before .before .args .bytes .now)) (length (c .before .before .before .before .before .args .ring .now)) (c .before .lent-refusal .ensures) (c .if1 .left)
+
+-- the packets of what is completed and of what is pending
+counts : (c : tie.Else1) → c .before .before .before .before .before .args .verdict .all ≡ oldestFrom (sessionOf (c .before .before .before .before .before .args .bytes .now)) + c .before .before .before .before .before .args .verdict .pending
+counts c =
+    let xs = c .before .before .before .before .before .args .bytes .now in
+    let good = passed c .1 in
+    let fine = c .before .before .before .before .before .pre .1 .bad (c .before .before .before .before .before .pre .0) ∙ good in
+    two-parts (sessionOf xs) (sound (sessionOf xs) (requests-many xs) (plans-many xs) good) (c .before .before .before .before .before .pre .1 .all fine) (c .before .before .before .before .before .pre .1 .pending fine)
+
+quiet-is :
+    (c : tie.After-head-at)
+    → (not (c .head-at .result .live) || not (c .before .before .before .before .before .before .before .args .event .reported)) ≡ (not (sessionOf (c .before .before .before .before .before .before .before .args .bytes .now) .head .live) || not (c .before .before .before .before .before .before .before .args .event .reported))
+quiet-is c = ap (λ (h : IsoHead). not (h .live) || not (c .before .before .before .before .before .before .before .args .event .reported)) (c .head-at .ensures ∙ head-there (c .before .before .before .before .before .before .before .args .bytes .now))
+
+calm-is : (c : tie.Then3) → Settle (isSet complete (c .before .before .before .before .before .before .before .before .before .before .before .before .before .before .before .args .event .hcint)) ≡ pollWay (sessionOf (c .before .before .before .before .before .before .before .before .before .before .before .before .before .before .before .args .bytes .now)) (c .before .before .before .before .before .before .before .before .before .before .before .before .before .before .before .args .event)
+calm-is c =
+    let xs = c .before .before .before .before .before .before .before .before .before .before .before .before .before .before .before .args .bytes .now in
+    let one = both (not (c .before .before .before .before .before .before .before .before .before .before .before .before .before .before .before .args .event .unplugged)) _ (c .if3 .taken) in
+    let two = both (c .before .before .before .is-calm .result) _ (one .1) in
+    let bits = c .before .before .before .is-calm .ensures (two .0) in
+    let none : sessionOf xs .fatal ≡ Nothing =
+    sym (reason-there xs) ∙ no-reason (drop 34 xs) (sym (c .before .byte-at .ensures) ∙ eqb-true _ _ (two .1)) in
+    calm-way (sessionOf xs) (c .before .before .before .before .before .before .before .before .before .before .before .before .before .before .before .args .event) (sym (quiet-is (c .before .before .before .before .before .before .before .before)) ∙ c .before .before .before .before .before .if2 .left) (not-true _ (one .0)) (bits .0) (bits .1) none
+
 lent-refusal-requires : tie.Need-lent-refusal-requires
-lent-refusal-requires c κs = (long-enough (c .before .before .before .args .bytes .now) refl (c .before .before .before .pre .0), c .before .before .before .pre .1)
+lent-refusal-requires c κs = (long (c .before .before .before), c .before .before .before .pre .1 .bad (c .before .before .before .pre .0))
 
 reply-refused-requires : tie.Need-reply-refused-requires
 reply-refused-requires c κs = search needs
@@ -32,22 +74,17 @@ returns c =
     let s = sessionOf (c .before .before .before .before .before .before .args .bytes .now) in
     let ring = c .before .before .before .before .before .before .args .ring .now in
     let way = pollWay s (c .before .before .before .before .before .before .args .event) in
-    let both =
-    stays (c .before .before .before .before .before .before .args .bytes .now) (octets (c .before .before .before .before .before))
-    (c .before .before .before .before .before .before .pre .0) (polled s (c .before .before .before .before .before .before .args .event) ring)
+    let two =
+    stays (c .before .before .before .before .before .before .args .bytes .now) (octets (c .before .before .before .before .before)) (c .before .before .before .before .before .before .pre .0) (polled s (c .before .before .before .before .before .before .args .event) ring)
     (lent-refused s (length ring) (c .before .before .lent-refusal .ensures) (λ (n : ℕ). refusedReply n s) (polledBy way s ring) (c .before .if1 .taken)) refl
     (c .reply-refused .ensures) in (
-      both .0,
-      both .1,
+      two .0,
+      two .1,
       sym (lent-refused s (length ring) (c .before .before .lent-refusal .ensures) (λ (n : ℕ). ring) (polledRingBy way s ring) (c .before .if1 .taken)),
     )
 
-poll-at-requires : tie.Need-poll-at-requires
-poll-at-requires c κs =
-    let s = sessionOf (c .before .before .before .before .before .before .before .args .bytes .now) in
-    let ring = c .before .before .before .before .before .before .before .args .ring .now in
-    let passed = lent-passed s (length ring) (c .before .before .before .lent-refusal .ensures) (c .before .before .if1 .left) in
-    (c .before .before .before .before .before .before .before .pre .0, passed .1, ltb-false (length ring) (ringWords (s .cfg)) (passed .0))
+head-at-requires : tie.Need-head-at-requires
+head-at-requires c κs = long (c .before .before .before .before .before .before)
 
 reply-port-requires : tie.Need-reply-port-requires
 reply-port-requires c κs = search needs
@@ -55,24 +92,69 @@ reply-port-requires c κs = search needs
 same-length-2 : tie.Need-same-length-2
 same-length-2 c = search needs
 
+returns-2 : tie.Need-returns-2
+returns-2 c =
+    let xs = c .before .before .before .before .before .before .before .before .before .before .before .args .bytes .now in
+    let past = passed (c .before .before .before .before .before .before) in
+    replied xs (c .before .before .before .before .before .before .before .before .before .before .before .args .ring .now) (c .before .before .before .before .before .before .before .before .before .before .before .args .event) (past .0) (past .1)
+    (quiet-way (sessionOf xs) (c .before .before .before .before .before .before .before .before .before .before .before .args .event) (sym (quiet-is (c .before .before .before .before)) ∙ c .before .if2 .taken)) (c .reply-port .ensures) refl refl
+    (same-bytes xs (octets (c .before .before .before .before .before .before .before .before .before .before)) (c .before .before .before .before .before .before .before .before .before .before .before .pre .0)) refl
+
+is-calm-requires : tie.Need-is-calm-requires
+is-calm-requires c κs = search needs
+
+byte-at-requires : tie.Need-byte-at-requires
+byte-at-requires c κs = omega (arith, long (c .before .before .before .before .before .before .before .before .before .before .before .before .before))
+
+sub-before : tie.Need-sub-before
+sub-before c = omega (arith, counts (c .before .before .before .before .before .before .before .before .before .before .before))
+
+cast-before : tie.Need-cast-before
+cast-before c = search needs
+
+hcint-xfercompl-requires : tie.Need-hcint-xfercompl-requires
+hcint-xfercompl-requires c κs = search needs
+
+drain-from-requires : tie.Need-drain-from-requires
+drain-from-requires c κs =
+    let past = passed (c .before .before .before .before .before .before .before .before .before .before .before .before .before .before) in
+    (c .before .before .before .before .before .before .before .before .before .before .before .before .before .before .before .before .before .before .before .pre .0, past .1, omega (arith, counts (c .before .before .before .before .before .before .before .before .before .before .before .before .before .before)), ltb-false (length (c .before .before .before .before .before .before .before .before .before .before .before .before .before .before .before .before .before .before .before .args .ring .now)) (ringWords (sessionOf (c .before .before .before .before .before .before .before .before .before .before .before .before .before .before .before .before .before .before .before .args .bytes .now) .cfg)) (past .0))
+
+reply-port-requires-2 : tie.Need-reply-port-requires-2
+reply-port-requires-2 c κs = search needs
+
 same-length-3 : tie.Need-same-length-3
 same-length-3 c = search needs
 
-returns-2 : tie.Need-returns-2
-returns-2 c =
-    let s = sessionOf (c .before .before .before .before .before .before .before .before .before .before .before .before .before .args .bytes .now) in
-    let ring = c .before .before .before .before .before .before .before .before .before .before .before .before .before .args .ring .now in
-    let way = pollWay s (c .before .before .before .before .before .before .before .before .before .before .before .before .before .args .event) in
-    let passed =
-    lent-passed s (length ring) (c .before .before .before .before .before .before .before .before .before .lent-refusal .ensures)
-    (c .before .before .before .before .before .before .before .before .if1 .left) in
-    let whole = lent-done s ring (polledBy way s ring) (polledRingBy way s ring) (passed .0) (passed .1) in
-    let both =
-    becomes (c .before .before .before .before .before .before .before .before .before .before .before .before .before .args .bytes .now)
-    (polled s (c .before .before .before .before .before .before .before .before .before .before .before .before .before .args .event) ring) (whole .0)
-    (reply-said s ring way (c .reply-port .ensures) (c .before .before .before .before .before .poll-at .ensures .0)
-    (c .before .before .before .before .before .poll-at .ensures .1)) (c .before .before .before .before .before .poll-at .ensures .2) in
-    (both .0, both .1, c .before .before .before .before .before .poll-at .ensures .3 ∙ sym (whole .1))
+same-length-4 : tie.Need-same-length-4
+same-length-4 c = search needs
+
+returns-3 : tie.Need-returns-3
+returns-3 c =
+    let xs = c .before .before .before .before .before .before .before .before .before .before .before .before .before .before .before .before .before .before .before .before .before .before .before .before .before .args .bytes .now in
+    let past = passed (c .before .before .before .before .before .before .before .before .before .before .before .before .before .before .before .before .before .before .before .before) in
+    replied xs (c .before .before .before .before .before .before .before .before .before .before .before .before .before .before .before .before .before .before .before .before .before .before .before .before .before .args .ring .now) (c .before .before .before .before .before .before .before .before .before .before .before .before .before .before .before .before .before .before .before .before .before .before .before .before .before .args .event) (past .0) (past .1) (ap Settle (c .before .before .before .before .before .before .before .hcint-xfercompl .ensures) ∙ calm-is (c .before .before .before .before .before .before .before .before .before .before)) (c .reply-port2 .ensures) refl refl
+    (c .before .before .before .before .before .drain-from .ensures .0) (c .before .before .before .before .before .drain-from .ensures .1)
+
+poll-at-requires : tie.Need-poll-at-requires
+poll-at-requires c κs =
+    let past = passed (c .before .before .before .before .before .before .before .before .before .before .before .before) in
+    (c .before .before .before .before .before .before .before .before .before .before .before .before .before .before .before .before .before .pre .0, past .1, ltb-false (length (c .before .before .before .before .before .before .before .before .before .before .before .before .before .before .before .before .before .args .ring .now)) (ringWords (sessionOf (c .before .before .before .before .before .before .before .before .before .before .before .before .before .before .before .before .before .args .bytes .now) .cfg)) (past .0))
+
+reply-port-requires-3 : tie.Need-reply-port-requires-3
+reply-port-requires-3 c κs = search needs
+
+same-length-5 : tie.Need-same-length-5
+same-length-5 c = search needs
+
+same-length-6 : tie.Need-same-length-6
+same-length-6 c = search needs
+
+returns-4 : tie.Need-returns-4
+returns-4 c =
+    let past = passed (c .before .before .before .before .before .before .before .before .before .before .before .before .before .before .before .before .before .before) in
+    replied (c .before .before .before .before .before .before .before .before .before .before .before .before .before .before .before .before .before .before .before .before .before .before .before .args .bytes .now) (c .before .before .before .before .before .before .before .before .before .before .before .before .before .before .before .before .before .before .before .before .before .before .before .args .ring .now) (c .before .before .before .before .before .before .before .before .before .before .before .before .before .before .before .before .before .before .before .before .before .before .before .args .event) (past .0) (past .1) refl (c .reply-port3 .ensures)
+    (c .before .before .before .before .before .poll-at .ensures .0) (c .before .before .before .before .before .poll-at .ensures .1) (c .before .before .before .before .before .poll-at .ensures .2) (c .before .before .before .before .before .poll-at .ensures .3)
 
 pub poll-on-spec : {M : Type 1} → statement M
 poll-on-spec =
@@ -82,8 +164,22 @@ poll-on-spec =
     reply-refused-requires
     same-length
     returns
-    poll-at-requires
+    head-at-requires
     reply-port-requires
     same-length-2
+    returns-2
+    is-calm-requires
+    byte-at-requires
+    sub-before
+    cast-before
+    hcint-xfercompl-requires
+    drain-from-requires
+    reply-port-requires-2
     same-length-3
-    returns-2)
+    same-length-4
+    returns-3
+    poll-at-requires
+    reply-port-requires-3
+    same-length-5
+    same-length-6
+    returns-4)
