@@ -10,7 +10,7 @@ use crate::answers::reply_port;
 use crate::answers::reply_refused;
 use crate::load::head_at;
 use crate::load::reason_at;
-use crate::save::put_head;
+use crate::numbers::put_u16;
 use session::IsoAnswer;
 use session::has_reason;
 
@@ -22,12 +22,11 @@ pub(crate) fn reset_at(bytes: &mut [u8], bad: bool) -> PortReply
     if bad {
         return reply_refused(18);
     }
-    let mut head = head_at(bytes);
+    let head = head_at(bytes);
     let fatal = reason_at(bytes);
     if !(head.count == 0) | has_reason(fatal) {
         return reply_refused(16);
     }
-    head.td_last = 0;
-    put_head(bytes, head);
+    put_u16(bytes, 28, 0);
     reply_port(IsoAnswer::Done, false, false)
 }

@@ -165,6 +165,21 @@ length-head : (h : IsoHead) → length (headBytes h) ≡ 19
 unfolding headBytes u64Bytes u32Bytes u16Bytes
 length-head h = refl
 
+abbrev pub withCursor : ℕ → IsoHead → IsoHead
+withCursor k h =
+    record {
+      «next_request_id» = h .«next_request_id»;
+      live = h .live;
+      «td_last» = k;
+      «start_full_frame» = h .«start_full_frame»;
+      done = h .done;
+      count = h .count;
+    }
+
+cursor-bytes : (h : IsoHead) (k : ℕ) (rest : List ℕ) → sets (headBytes h ++ rest) 13 (u16Bytes k) ≡ headBytes (withCursor k h) ++ rest
+unfolding headBytes u64Bytes u32Bytes u16Bytes
+cursor-bytes h k rest = refl
+
 module _ (n m : ℕ) (xs : List ℕ) (s : IsoChannelState) where
   head-put : (h : IsoHead) → sets (kept n m xs s) 15 (headBytes h) ≡ kept n m xs (whole (s .cfg) h (s .fatal) (s .requests) (s .plans))
   unfolding front
@@ -177,6 +192,21 @@ module _ (n m : ℕ) (xs : List ℕ) (s : IsoChannelState) where
       ap (λ (k : List ℕ). sets k 15 (headBytes h)) (parts n m xs s ∙ apart (headBytes (s .head)))
       ∙ sets-middle a (headBytes (s .head)) (r ++ l) (headBytes h) 15 (length-to-head s) (length-head h ∙ sym (length-head (s .head)))
       ∙ sym (apart (headBytes h))
+      ∙ sym (parts n m xs t)
+
+  -- the cursor alone
+  cursor-put : (k : ℕ) → sets (kept n m xs s) 28 (u16Bytes k) ≡ kept n m xs (whole (s .cfg) (withCursor k (s .head)) (s .fatal) (s .requests) (s .plans))
+  unfolding front
+  cursor-put k =
+      let t : IsoChannelState = whole (s .cfg) (withCursor k (s .head)) (s .fatal) (s .requests) (s .plans) in
+      let a : List ℕ = markBytes ++ configBytes (s .cfg) in
+      let r : List ℕ = taggedBytes (fatalTagged (s .fatal)) in
+      let l : List ℕ = R n m xs s ++ (P n m xs s ++ E n m xs s) in
+      let apart : (b : List ℕ) → a ++ b ++ r ++ l ≡ a ++ (b ++ (r ++ l)) = λ b. append-assoc (a ++ b) r l ∙ append-assoc a b (r ++ l) in
+      ap (λ (ys : List ℕ). sets ys 28 (u16Bytes k)) (parts n m xs s ∙ apart (headBytes (s .head)))
+      ∙ sets-behind a (headBytes (s .head) ++ (r ++ l)) 13 28 (u16Bytes k) (omega (arith, length-to-head s))
+      ∙ ap (λ (ys : List ℕ). a ++ ys) (cursor-bytes (s .head) k (r ++ l))
+      ∙ sym (apart (headBytes (withCursor k (s .head))))
       ∙ sym (parts n m xs t)
 
   reason-put : (f : IsoFatal) → sets (kept n m xs s) 34 (taggedBytes (fatalTagged f)) ≡ kept n m xs (whole (s .cfg) (s .head) f (s .requests) (s .plans))
@@ -267,6 +297,17 @@ module _ {n m : ℕ} {xs now next : List ℕ} {s : IsoChannelState} (long : 8488
             ((was-requests long k) ∙ sym (ap requestsOf e ∙ requests-stay-before now 15 (headBytes h) small) ∙ requests-read next)
             ((was-plans long k) ∙ sym (ap plansOf e ∙ plans-stay now 15 (headBytes h) (omega arith)) ∙ plans-read next);
       }
+
+  pub kept-cursor :
+      (c : ℕ) → next ≡ sets now 28 (u16Bytes c) → Kept n m xs next (whole (s .cfg) (withCursor c (s .head)) (s .fatal) (s .requests) (s .plans))
+  kept-cursor c e =
+      let h : IsoHead = withCursor c (s .head) in
+      kept-head h
+      (e
+      ∙ ap (λ (l : List ℕ). sets l 28 (u16Bytes c)) (k .bytes)
+      ∙ cursor-put n m xs s c
+      ∙ sym (head-put n m xs s h)
+      ∙ ap (λ (l : List ℕ). sets l 15 (headBytes h)) (sym (k .bytes)))
 
   pub kept-reason :
       (f : IsoFatal) → next ≡ sets now 34 (taggedBytes (fatalTagged f)) → Kept n m xs next (whole (s .cfg) (s .head) f (s .requests) (s .plans))

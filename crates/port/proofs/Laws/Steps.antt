@@ -29,6 +29,7 @@ use Rattle.session.proofs.Laws.Lists.{amend-next}
 use Rattle.session.specs.Scan.{whole}
 use Rattle.port.specs.declared.answers.PortReply.{PortReply}
 use Rattle.port.specs.declared.tags.Tagged.{Tagged}
+use Rattle.port.specs.Bytes.{u16Bytes}
 use Rattle.port.specs.Tags.{flagTag, taggedBytes, fatalTagged}
 use Rattle.port.specs.Layout.{headBytes, requestBytes, requestOf, layoutNumber, sessionOf, requestsIn}
 use Rattle.port.specs.Calls.{portReply, replyPort}
@@ -37,7 +38,7 @@ use Rattle.port.specs.Places.{requestsOf, withRequests, Left}
 use Rattle.port.proofs.Canonical.{loaded-left, request-clear}
 use Rattle.port.proofs.Laws.Calls.{long-enough}
 use Rattle.port.proofs.Laws.Kept.{Octets}
-use Rattle.port.proofs.Laws.Left.{left-is, left-request, kept-head, kept-reason}
+use Rattle.port.proofs.Laws.Left.{left-is, left-request, withCursor, kept-head, kept-cursor, kept-reason}
 use Rattle.port.proofs.Laws.Placed.{request-there, requests-many}
 use Rattle.port.proofs.Laws.Walks.{request-turn}
 
@@ -50,10 +51,10 @@ module _ (xs : List ℕ) (octets : Octets xs) (z : layoutNumber xs ≡ 0) where
   pub same-bytes : Left xs xs (sessionOf xs)
   same-bytes = loaded-left xs z octets
 
-  pub head-here :
-      (h : IsoHead) {next : List ℕ} → next ≡ sets xs 15 (headBytes h)
-      → Left xs next (whole (sessionOf xs .cfg) h (sessionOf xs .fatal) (sessionOf xs .requests) (sessionOf xs .plans))
-  head-here h = kept-head long same-bytes h
+  pub cursor-here :
+      (k : ℕ) {next : List ℕ} → next ≡ sets xs 28 (u16Bytes k)
+      → Left xs next (whole (sessionOf xs .cfg) (withCursor k (sessionOf xs .head)) (sessionOf xs .fatal) (sessionOf xs .requests) (sessionOf xs .plans))
+  cursor-here k = kept-cursor long same-bytes k
 
   pub reason-here :
       (f : IsoFatal) {next : List ℕ} → next ≡ sets xs 34 (taggedBytes (fatalTagged f))

@@ -1,4 +1,4 @@
--- Each way out is the definition at the tests that led there; only the last one writes, and writes the head.
+-- Each way out is the definition at the tests that led there; only the last one writes, and writes the cursor.
 use mathlib.Core.Path.{_≡_, refl, _∙_, sym, ap}
 use mathlib.Core.Bool.{Bool, not, _||_}
 use native.Mathlib.Omega.{arith}
@@ -8,29 +8,16 @@ use Rattle.session.specs.declared.types.IsoHead.{IsoHead}
 use Rattle.session.specs.Session.{hasReason}
 use Rattle.session.specs.Poll.{resetReply}
 use Rattle.session.proofs.Laws.Replies.{reset-bad, reset-full, reset-done}
-use Rattle.session.specs.Scan.{whole}
 use Rattle.port.specs.Layout.{sessionOf}
 use Rattle.port.proofs.Laws.Calls.{long-enough}
 use Rattle.port.proofs.Laws.Kept.{Octets}
-use Rattle.port.proofs.Laws.Left.{left-is}
-use Rattle.port.proofs.Laws.Steps.{head-here, stays, becomes}
+use Rattle.port.proofs.Laws.Steps.{cursor-here, stays, becomes}
 use Rattle.port.proofs.Laws.Placed.{head-there, reason-there}
 use Rattle.port.proofs.reset.reset_at.Statement.{statement}
 use Rattle.port.proofs.reset.reset_at.Tie as tie
 
 octets : (c : tie.After-slice-known) → Octets (c .before .args .bytes .now)
 octets c i = omega (arith, c .slice-known .given i)
-
-abbrev cursor-first : IsoHead → IsoHead
-cursor-first h =
-    record {
-      «next_request_id» = h .«next_request_id»;
-      live = h .live;
-      «td_last» = 0;
-      «start_full_frame» = h .«start_full_frame»;
-      done = h .done;
-      count = h .count;
-    }
 
 -- the test of the code is the definition's
 some :
@@ -79,10 +66,8 @@ returns-2 c =
     ∙ c .before .before .before .before .before .before .before .before .if1 .left) (ap not (sym (some (c .before .before)) ∙ c .before .if2 .taken))) refl
     (c .reply-refused2 .ensures)
 
-put-head-requires : tie.Need-put-head-requires
-put-head-requires c κs =
-    long-enough (c .before .before .before .before .before .before .before .before .before .before .args .bytes .now) refl
-    (c .before .before .before .before .before .before .before .before .before .before .pre .0)
+put-u16-requires : tie.Need-put-u16-requires
+put-u16-requires c κs = omega (arith, long-enough (c .before .before .before .before .before .before .before .before .before .before .args .bytes .now) refl (c .before .before .before .before .before .before .before .before .before .before .pre .0))
 
 reply-port-requires : tie.Need-reply-port-requires
 reply-port-requires c κs = search needs
@@ -99,13 +84,7 @@ returns-3 c =
     (reset-done s (sym (c .before .before .before .before .before .before .before .before .before .before .before .before .before .before .pre .1)
     ∙ c .before .before .before .before .before .before .before .before .before .before .before .before .if1 .left)
     (ap not (sym (some (c .before .before .before .before .before .before)) ∙ c .before .before .before .before .before .if2 .left))) (c .reply-port .ensures)
-    (left-is
-    (head-here xs (octets (c .before .before .before .before .before .before .before .before .before .before .before .before .before))
-    (c .before .before .before .before .before .before .before .before .before .before .before .before .before .before .pre .0)
-    (cursor-first (c .before .before .before .before .before .before .before .before .before .before .head-at .result))
-    (c .before .before .before .put-head .ensures))
-    (ap (λ (h : IsoHead). whole (s .cfg) (cursor-first h) (s .fatal) (s .requests) (s .plans))
-    (c .before .before .before .before .before .before .before .before .before .before .head-at .ensures ∙ head-there xs)))
+    (cursor-here xs (octets (c .before .before .before .before .before .before .before .before .before .before .before .before .before)) (c .before .before .before .before .before .before .before .before .before .before .before .before .before .before .pre .0) 0 (c .before .before .before .put-u16 .ensures))
 
 pub reset-at-spec : {M : Type 1} → statement M
 reset-at-spec =
@@ -119,7 +98,7 @@ reset-at-spec =
     reply-refused-requires-2
     same-length
     returns-2
-    put-head-requires
+    put-u16-requires
     reply-port-requires
     same-length-2
     returns-3)
