@@ -22,7 +22,7 @@ impl Parts {
     fn add(&mut self, function: &str, cost: f64) {
         self.total += cost;
         match function {
-            f if f.contains("port::scan::") || f.contains("port::verdict::") => self.checks += cost,
+            f if ["scan", "verdict", "plain"].iter().any(|m| f.contains(&format!("port::{m}::"))) => self.checks += cost,
             f if f.contains("memcpy") || f.contains("memmove") || f.contains("memset") => self.copies += cost,
             _ => {}
         }

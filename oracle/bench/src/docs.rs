@@ -1,6 +1,7 @@
 //! docs/SPEED.md and its plots. A table stands in SPEED.md between two comments that name it; the words around it stay.
 
 use crate::counts::{Counts, Parts};
+use crate::least::{LEAST, PLOT, WORDS_READ};
 use crate::rows::{Figures, Spread};
 use crate::svg;
 use std::fs;
@@ -96,7 +97,7 @@ fn growth(curves: &[Measured], counts: &Counts) -> String {
         "| Against | Call | Rust: at none, ns | one more, ns | instr. | port: at none, ns | one more, ns | instr. at none | instr. |\n",
     );
     out.push_str("|---|---|--:|--:|--:|--:|--:|--:|--:|\n");
-    for c in curves {
+    for c in curves.iter().filter(|c| c.plot != PLOT) {
         let told = |side: &'static str| move |f: &Figures| counts.of(side, &f.name).map_or(0.0, |p: &Parts| p.total);
         let (rust, port) = (slope(&times(c, rust_ns)), slope(&times(c, port_ns)));
         let (rust_told, port_told) = (slope(&times(c, told("rust"))), slope(&times(c, told("port"))));
@@ -112,6 +113,24 @@ fn growth(curves: &[Measured], counts: &Counts) -> String {
             whole(port_told.1),
             port_told.0
         ));
+    }
+    out
+}
+
+/// what a check costs at the least, beside the Rust's whole calls in the same state
+fn least(figures: &[Figures], curves: &[Measured]) -> String {
+    let curve = |name: &str| &curves.iter().find(|c| c.name == name).expect("a curve of a check").points;
+    let rust = |name: String| figures.iter().find(|f| f.name == name).map_or("–".into(), |f| time(rust_ns(f)));
+    let mut out = String::from("| Pending | words read | least check | the port's check | Rust: poll, no event | poll, none served | cancel |\n");
+    out.push_str("|--:|--:|--:|--:|--:|--:|--:|\n");
+    for ((count, read), (_, check)) in curve(WORDS_READ).iter().zip(curve(LEAST)) {
+        let calls = [
+            rust(format!("poll, no event, {count} pending")),
+            rust(format!("poll, none served, {count} pending")),
+            count.checked_sub(1).map_or("–".into(), |others| rust(format!("cancel, {others} others pending"))),
+        ];
+        let own = [rust_ns(read), rust_ns(check), port_ns(check)].map(time);
+        out.push_str(&format!("| {count} | {} | {} |\n", own.join(" | "), calls.join(" | ")));
     }
     out
 }
@@ -156,6 +175,7 @@ pub fn write(folder: &Path, counted: &Path, figures: &[Figures], curves: &[Measu
         ("instructions", instructions(figures, &counts)),
         ("copies", copies(figures, &counts)),
         ("growth", growth(curves, &counts)),
+        ("least", least(figures, curves)),
         ("stack", file("stack")),
         ("size", file("size")),
     ];

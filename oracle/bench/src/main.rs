@@ -10,6 +10,7 @@ mod callgrind;
 mod copies;
 mod counts;
 mod docs;
+mod least;
 mod other_rows;
 mod port;
 mod port_arm;
@@ -58,7 +59,7 @@ fn main() {
     let has = |name: &str| words.iter().any(|w| w == name);
     let after = |name: &str, nth: usize| words.iter().position(|w| w == name).and_then(|at| words.get(at + nth)).cloned();
     let mut rows: Vec<Row> = session_rows::rows().into_iter().chain(other_rows::rows()).collect();
-    let mut curves = session_rows::curves();
+    let mut curves: Vec<Curve> = session_rows::curves().into_iter().chain(least::curves()).collect();
     let every = |rows: &mut [Row], curves: &mut [Curve], act: fn(&mut Row)| {
         rows.iter_mut().for_each(act);
         curves.iter_mut().flat_map(|c| &mut c.points).for_each(|(_, row)| act(row));

@@ -7,7 +7,8 @@ use crate::sides::{COMPLETE, Step};
 /// the packets that a ring of 256 slots takes at interval 1
 const CAPACITY: usize = 255;
 
-fn pending(count: usize) -> Vec<Step> {
+/// `count` requests of one packet each, not served
+pub fn pending(count: usize) -> Vec<Step> {
     if count > 0 {
         return vec![Step::Submit(1); count];
     }
