@@ -164,13 +164,13 @@ fn replace(page: &str, name: &str, text: &str) -> String {
 }
 
 /// `counts` also holds the files `machine`, `stack` and `size`, which the script makes
-pub fn write(folder: &Path, counted: &Path, figures: &[Figures], curves: &[Measured]) {
+pub fn write(folder: &Path, counted: &Path, figures: &[Figures], curves: &[Measured], quiet: &str) {
     let counts = Counts::read(counted);
     let file = |name: &str| fs::read_to_string(counted.join(name)).unwrap_or_else(|_| panic!("no file {name} of the script"));
     let path = folder.join("SPEED.md");
     let mut page = fs::read_to_string(&path).expect("the page with its parts");
     let parts = [
-        ("machine", file("machine")),
+        ("machine", format!("{}{quiet}.\n", file("machine"))),
         ("table", table(figures)),
         ("instructions", instructions(figures, &counts)),
         ("copies", copies(figures, &counts)),

@@ -40,18 +40,20 @@ fn spin(rows: &mut [Row], name: &str, seconds: u64) {
     }
 }
 
-fn measure(rows: &mut [Row], curves: &mut [Curve], turns: usize) -> (Vec<Figures>, Vec<Measured>) {
+fn measure(rows: &mut [Row], curves: &mut [Curve], turns: usize) -> (Vec<Figures>, Vec<Measured>, String) {
     let points = curves.iter_mut().flat_map(|c| c.points.iter_mut().map(|(_, row)| row));
     let count = rows.len();
     let mut all: Vec<&mut Row> = rows.iter_mut().chain(points).collect();
-    let mut figures = rows::measure(&mut all, turns);
+    let taken = rows::measure(&mut all, turns);
+    let quiet = format!("{} of {} pairs of samples left out, since a fixed loop around them was slow", taken.loud, taken.pairs);
+    let mut figures = taken.figures;
     let mut behind = figures.split_off(count).into_iter();
     let mut measured = |c: &Curve| {
         let points = c.points.iter().map(|(x, _)| *x).zip(behind.by_ref()).collect();
         Measured { plot: c.plot, name: c.name, points }
     };
     let measured = curves.iter().map(&mut measured).collect();
-    (figures, measured)
+    (figures, measured, quiet)
 }
 
 fn main() {
@@ -76,9 +78,10 @@ fn main() {
     }
     let samples = after("--samples", 1).map_or(41, |n| n.parse().expect("a number of samples"));
     println!("{samples} samples of each side, turn by turn: median (first to third quartile)");
-    let (figures, measured) = measure(&mut rows, &mut curves, samples);
+    let (figures, measured, quiet) = measure(&mut rows, &mut curves, samples);
+    println!("{quiet}");
     print!("{}", table::text(&figures, &measured));
     if let (Some(folder), Some(counted)) = (after("--docs", 1), after("--docs", 2)) {
-        docs::write(Path::new(&folder), Path::new(&counted), &figures, &measured);
+        docs::write(Path::new(&folder), Path::new(&counted), &figures, &measured, &quiet);
     }
 }

@@ -117,7 +117,22 @@ impl Probe {
         }
     }
 
-    /// one sample: two repetitions to warm up, then for at least 20 µs and 16 times; nanoseconds a call
+    /// the ticks of a loop that reads 4,096 words, a few at a time, as a quick call does
+    pub fn fixed_loop(&self) -> u64 {
+        let words = [7u64; 512];
+        let start = counter();
+        let mut sums = [0u64; 4];
+        for _ in 0..8 {
+            for four in words.chunks_exact(4) {
+                sums.iter_mut().zip(four).for_each(|(sum, word)| *sum = sum.wrapping_add(black_box(*word)));
+            }
+        }
+        black_box(sums);
+        counter() - start
+    }
+
+    /// one sample: two repetitions to warm up, then at least 16 and until 20 µs are timed, or 512: the state of a short call is long in the
+    /// making, and what else runs should not come in between; nanoseconds a call
     pub fn sample<T>(&mut self, mut once: impl FnMut(&mut Probe) -> T) -> f64 {
         for _ in 0..2 {
             black_box(once(self));
@@ -127,8 +142,7 @@ impl Probe {
         while self.ticks < self.empty + enough || stretches < 16 {
             black_box(once(self));
             stretches += 1;
-            // a call of no time at all
-            if stretches == 4_096 {
+            if stretches == 512 {
                 break;
             }
         }

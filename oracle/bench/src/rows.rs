@@ -72,24 +72,68 @@ impl Row {
     }
 }
 
-/// The samples of a row: the Rust's and the port's.
-type Samples = (Vec<f64>, Vec<f64>);
-
-fn figures(row: &Row, (rusts, ports): Samples) -> Figures {
-    let ratios: Vec<f64> = rusts.iter().zip(&ports).map(|(rust, port)| port / rust).collect();
-    let spread = |values: Vec<f64>| (!values.is_empty()).then(|| Spread::of(values));
-    Figures { name: row.name.clone(), rust: spread(rusts), port: Spread::of(ports), ratio: spread(ratios) }
+/// One sample of each side, and the slower of the two fixed loops around them.
+struct Pair {
+    rust: Option<f64>,
+    port: f64,
+    around: u64,
 }
 
-/// `turns` over all the rows; in each turn one sample of both sides of each row, so that what else the machine does falls on all alike
-pub fn measure(rows: &mut [&mut Row], turns: usize) -> Vec<Figures> {
+/// A pair is quiet where the fixed loop takes at most so many times its least: another thread on the same core slows it by a tenth and more.
+const NEAR: f64 = 1.05;
+
+/// A row is taken again, for want of quiet pairs, at most so many times as often as is asked for.
+const PATIENCE: usize = 6;
+
+fn is_quiet(pair: &Pair, least: u64) -> bool {
+    pair.around as f64 <= NEAR * least as f64
+}
+
+fn figures(row: &Row, pairs: &[&Pair]) -> Figures {
+    let rusts: Vec<f64> = pairs.iter().filter_map(|p| p.rust).collect();
+    let ratios: Vec<f64> = pairs.iter().filter_map(|p| p.rust.map(|rust| p.port / rust)).collect();
+    let spread = |values: Vec<f64>| (!values.is_empty()).then(|| Spread::of(values));
+    Figures {
+        name: row.name.clone(),
+        rust: spread(rusts),
+        port: Spread::of(pairs.iter().map(|p| p.port).collect()),
+        ratio: spread(ratios),
+    }
+}
+
+/// What was measured, and how many pairs of samples were taken and left out.
+pub struct Taken {
+    pub figures: Vec<Figures>,
+    pub pairs: usize,
+    pub loud: usize,
+}
+
+/// `turns` over all the rows; in each turn one sample of both sides of each row, so that what else the machine does falls on all alike.
+/// Pairs that were not quiet are left out and taken again; where too few are quiet in the end, all of the row's count.
+pub fn measure(rows: &mut [&mut Row], turns: usize) -> Taken {
     let mut probe = Probe::clock();
-    let mut samples: Vec<Samples> = rows.iter().map(|_| Samples::default()).collect();
-    for _ in 0..turns {
-        for (row, (rusts, ports)) in rows.iter_mut().zip(&mut samples) {
-            rusts.extend(row.rust.as_mut().map(|once| probe.sample(once)));
-            ports.push(probe.sample(&mut row.port));
+    let mut taken: Vec<Vec<Pair>> = rows.iter().map(|_| Vec::new()).collect();
+    let mut least = u64::MAX;
+    for turn in 0..PATIENCE * turns {
+        for (row, pairs) in rows.iter_mut().zip(&mut taken) {
+            if turn >= turns && pairs.iter().filter(|p| is_quiet(p, least)).count() >= turns {
+                continue;
+            }
+            let before = probe.fixed_loop();
+            let rust = row.rust.as_mut().map(|once| probe.sample(once));
+            let port = probe.sample(&mut row.port);
+            let behind = probe.fixed_loop();
+            least = least.min(before).min(behind);
+            pairs.push(Pair { rust, port, around: before.max(behind) });
         }
     }
-    rows.iter().zip(samples).map(|(row, samples)| figures(row, samples)).collect()
+    let mut all = Taken { figures: Vec::new(), pairs: 0, loud: 0 };
+    for (row, pairs) in rows.iter().zip(&taken) {
+        let quiet: Vec<&Pair> = pairs.iter().filter(|p| is_quiet(p, least)).collect();
+        let kept = if 4 * quiet.len() < turns { pairs.iter().collect() } else { quiet };
+        all.pairs += pairs.len();
+        all.loud += pairs.len() - kept.len();
+        all.figures.push(figures(row, &kept));
+    }
+    all
 }
