@@ -1,7 +1,7 @@
 //! docs/SPEED.md and its plots. A table stands in SPEED.md between two comments that name it; the words around it stay.
 
 use crate::counts::{Counts, Parts};
-use crate::least::{LEAST, PLOT, WORDS_READ};
+use crate::least::{LEAST, LEAST_SETUP, PLOT, WORDS_READ};
 use crate::rows::{Figures, Spread};
 use crate::svg;
 use std::fs;
@@ -121,7 +121,8 @@ fn growth(curves: &[Measured], counts: &Counts) -> String {
 fn least(figures: &[Figures], curves: &[Measured]) -> String {
     let curve = |name: &str| &curves.iter().find(|c| c.name == name).expect("a curve of a check").points;
     let rust = |name: String| figures.iter().find(|f| f.name == name).map_or("–".into(), |f| time(rust_ns(f)));
-    let mut out = String::from("| Pending | words read | least check | the port's check | Rust: poll, no event | poll, none served | cancel |\n");
+    let mut out =
+        String::from("| Pending | words read | least check | the port's check | Rust: poll, no event | poll, none served | cancel |\n");
     out.push_str("|--:|--:|--:|--:|--:|--:|--:|\n");
     for ((count, read), (_, check)) in curve(WORDS_READ).iter().zip(curve(LEAST)) {
         let calls = [
@@ -132,7 +133,14 @@ fn least(figures: &[Figures], curves: &[Measured]) -> String {
         let own = [rust_ns(read), rust_ns(check), port_ns(check)].map(time);
         out.push_str(&format!("| {count} | {} | {} |\n", own.join(" | "), calls.join(" | ")));
     }
-    out
+    let setup = &curve(LEAST_SETUP)[0].1;
+    let told = [rust_ns(setup), port_ns(setup)].map(time);
+    out + &format!(
+        "\n`setup_packet_bytes`: the least {}, the port's {}, the Rust's {}.\n",
+        told[0],
+        told[1],
+        rust("setup_packet_bytes".into())
+    )
 }
 
 fn plots(folder: &Path, figures: &[Figures], curves: &[Measured]) {

@@ -1,6 +1,9 @@
 //! What a check of refusal 18 costs at the least, on the port's own bytes (docs/LAYOUT.md): their words read with nothing asked of them, and
 //! a check as one would write it with no promise to keep and no bound to test. Both know only sessions of which nothing is completed.
+//! And what a setup packet costs at the least where it is asked for by the port's seven numbers.
 
+use crate::other_rows;
+use crate::port::{SetupPacket, dwc2_setup_packet_bytes};
 use crate::rows::{Once, Row};
 use crate::session_rows::{Curve, pending};
 use crate::sides::{PortSession, port_after};
@@ -56,7 +59,10 @@ fn read(s: &PortSession) -> u64 {
 #[inline(never)]
 fn check(s: &PortSession) -> u64 {
     let count = eight(s, 32);
-    let front = (four(s, 0) == 0x0153_5744) & (four(s, 4) & 0xfefe_feff == 0x0000_0000) & (four(s, 8) >> 16 < 2_048) & (four(s, 12) & 0xfefc_80f0 == 0);
+    let front = (four(s, 0) == 0x0153_5744)
+        & (four(s, 4) & 0xfefe_feff == 0x0000_0000)
+        & (four(s, 8) >> 16 < 2_048)
+        & (four(s, 12) & 0xfefc_80f0 == 0);
     let high = four(s, 4) >> 8 & 0xff == 0;
     let slots = if high { 256 } else { 64 };
     if !front | (four(s, 28) >= slots) | (count > 64) {
@@ -101,7 +107,40 @@ fn row(name: &str, count: usize, least: fn(&PortSession) -> u64, answer: fn(u64)
     Row { name: format!("{name}, {count} pending"), rust: Some(rust), port }
 }
 
+/// as C is handed it back: the refusal and the first four bytes in one register, the other four in the next
+#[repr(C)]
+pub struct Packet {
+    first: u64,
+    last: u32,
+}
+
+#[inline(never)]
+pub extern "C" fn setup_packet(kind: u8, recipient: u8, direction: u8, request: u8, value: u16, index: u16, len: u64) -> Packet {
+    if (kind | recipient > 3) | (direction > 1) {
+        return Packet { first: 18, last: 0 };
+    }
+    if len > 65_535 {
+        return Packet { first: 19, last: 0 };
+    }
+    let front = u64::from(direction << 7 | kind << 5 | recipient) | u64::from(request) << 8 | u64::from(value) << 16;
+    Packet { first: front << 32, last: u32::from(index) | (len as u32) << 16 }
+}
+
+/// both setup packets on every name and one beyond, and on lengths about the last that fits
+fn compare_packets() {
+    for names in 0..5 * 5 * 3 {
+        let (kind, recipient, direction) = (names % 5, names / 5 % 5, names / 25);
+        for len in [0, 1, 0x1234, 65_535, 65_536, u64::MAX] {
+            let least = setup_packet(kind, recipient, direction, 6, 0x1_02, 0x3_04, len);
+            let SetupPacket { refusal, bytes } = dwc2_setup_packet_bytes(kind, recipient, direction, 6, 0x1_02, 0x3_04, len);
+            let told = u128::from(refusal) | u128::from(u64::from_le_bytes(bytes)) << 32;
+            assert_eq!(u128::from(least.first) | u128::from(least.last) << 64, told, "the least setup packet is another");
+        }
+    }
+}
+
 pub const PLOT: &str = "check";
+pub const LEAST_SETUP: &str = "least setup_packet_bytes";
 pub const WORDS_READ: &str = "words of a check";
 pub const LEAST: &str = "least check";
 /// pending requests: those of the rows of `poll`, and of `cancel`, which cancels one more
@@ -114,5 +153,7 @@ pub fn curves() -> Vec<Curve> {
         let points = COUNTS.iter().map(|count| (*count, row(name, *count, least, answer))).collect();
         Curve { plot: PLOT, name, points }
     };
-    vec![curve(WORDS_READ, read, |_| 0), curve(LEAST, check, |refusal| refusal)]
+    compare_packets();
+    let setup = Curve { plot: PLOT, name: LEAST_SETUP, points: vec![(0, other_rows::least_setup_packets())] };
+    vec![curve(WORDS_READ, read, |_| 0), curve(LEAST, check, |refusal| refusal), setup]
 }

@@ -1,5 +1,6 @@
 //! The rows of planning and of the ring sums.
 
+use crate::least;
 use crate::port::{self, ARRAY_WORDS};
 use crate::probe::Probe;
 use crate::rows::{Once, Row};
@@ -209,18 +210,27 @@ fn request_numbers() -> Row {
 }
 
 /// the answer is looked at, and no byte of it moved: what the caller does with the eight bytes is its own
+fn port_setup(i: &Input) -> u64 {
+    black_box(port::dwc2_setup_packet_bytes(0, 0, u8::from(i.direction == Direction::In), 6, 0x100, 0, i.a.into()));
+    0
+}
+
 fn setup_packets() -> Row {
     let setup = rust_plan::SETUP;
-    let told = |i: &Input| (i.direction, u8::from(i.direction == Direction::In), u64::from(i.a));
     let rust = move |i: &Input| {
-        black_box(rust_plan::setup_bytes(black_box(&setup), told(i).0, told(i).2 as usize));
+        black_box(rust_plan::setup_bytes(black_box(&setup), i.direction, i.a.into()));
         0
     };
-    let port = move |i: &Input| {
-        black_box(port::dwc2_setup_packet_bytes(0, 0, told(i).1, 6, 0x100, 0, told(i).2));
+    sum("setup_packet_bytes", rust, port_setup)
+}
+
+/// in the place of the Rust's the least by the port's numbers
+pub fn least_setup_packets() -> Row {
+    let least = |i: &Input| {
+        black_box(least::setup_packet(0, 0, u8::from(i.direction == Direction::In), 6, 0x100, 0, i.a.into()));
         0
     };
-    sum("setup_packet_bytes", rust, port)
+    sum(least::LEAST_SETUP, least, port_setup)
 }
 
 fn splits() -> Vec<Row> {

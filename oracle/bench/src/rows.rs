@@ -93,12 +93,7 @@ fn figures(row: &Row, pairs: &[&Pair]) -> Figures {
     let rusts: Vec<f64> = pairs.iter().filter_map(|p| p.rust).collect();
     let ratios: Vec<f64> = pairs.iter().filter_map(|p| p.rust.map(|rust| p.port / rust)).collect();
     let spread = |values: Vec<f64>| (!values.is_empty()).then(|| Spread::of(values));
-    Figures {
-        name: row.name.clone(),
-        rust: spread(rusts),
-        port: Spread::of(pairs.iter().map(|p| p.port).collect()),
-        ratio: spread(ratios),
-    }
+    Figures { name: row.name.clone(), rust: spread(rusts), port: Spread::of(pairs.iter().map(|p| p.port).collect()), ratio: spread(ratios) }
 }
 
 /// What was measured, and how many pairs of samples were taken and left out.
