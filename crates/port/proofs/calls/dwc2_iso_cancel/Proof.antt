@@ -19,8 +19,9 @@ same-length c = search needs
 
 returns : tie.Need-returns
 returns c =
-    reply-refused (c .before .before .before .before .before .before .args .session .now)
-    (λ (s : IsoChannelState). cancelled s (c .before .before .before .before .before .before .args .id)) (c .before .before .before .verdict-at .ensures .refusal)
+    let start = c .before .before .before .before .before .before in
+    reply-refused (start .args .session .now)
+    (λ (s : IsoChannelState). cancelled s (start .args .id)) (c .before .before .before .verdict-at .ensures .refusal)
     (c .before .if1 .taken) (c .reply-refused .ensures)
 
 cancel-at-requires : tie.Need-cancel-at-requires
@@ -33,9 +34,10 @@ same-length-2 c = search needs
 
 returns-2 : tie.Need-returns-2
 returns-2 c =
-    let xs = c .before .before .before .before .before .before .before .before .before .args .session .now in
-    reply-done xs (λ (s : IsoChannelState). cancelled s (c .before .before .before .before .before .before .before .before .before .args .id)) {s = sessionOf xs}
-    {r = cancelled (sessionOf xs) (c .before .before .before .before .before .before .before .before .before .args .id)}
+    let start = c .before .before .before .before .before .before .before .before .before in
+    let xs = start .args .session .now in
+    reply-done xs (λ (s : IsoChannelState). cancelled s (start .args .id)) {s = sessionOf xs}
+    {r = cancelled (sessionOf xs) (start .args .id)}
     (c .before .before .before .before .before .before .verdict-at .ensures .refusal) (c .before .before .before .before .if1 .left) refl refl
     (c .before .before .cancel-at .ensures .0) (c .before .before .cancel-at .ensures .1 .bytes)
 

@@ -45,7 +45,8 @@ cast-result c = search needs
 
 returns-3 : tie.Need-returns-3
 returns-3 c =
-    refused (c .before .before .before .before .before .before .before .before .before .args .session .now) (λ (n : ℕ). n) (λ (s : IsoChannelState). recordNumber (isBadRecord s))
+    refused (c .before .before .before .before .before .before .before .before .before .args .session .now) (λ (n : ℕ). n)
+    (λ (s : IsoChannelState). recordNumber (isBadRecord s))
     (told (c .before .before .before) .refusal) (c .before .if3 .taken)
 
 returns-4 : tie.Need-returns-4
@@ -53,14 +54,16 @@ returns-4 c =
     let xs = c .before .before .before .before .before .before .before .before .before .args .session .now in
     let t = told (c .before .before .before) in
     ap recordNumber (sym (c .if4 .taken))
-    ∙ done xs (λ (n : ℕ). n) isBadRecord recordNumber {s = sessionOf xs} (t .refusal) (c .before .if3 .left) refl (t .bad (sym (t .refusal) ∙ c .before .if3 .left))
+    ∙ done xs (λ (n : ℕ). n) isBadRecord recordNumber {s = sessionOf xs} (t .refusal) (c .before .if3 .left) refl
+    (t .bad (sym (t .refusal) ∙ c .before .if3 .left))
 
 returns-5 : tie.Need-returns-5
 returns-5 c =
     let xs = c .before .before .before .before .before .before .before .before .before .args .session .now in
     let t = told (c .before .before .before) in
     ap recordNumber (sym (c .if4 .left))
-    ∙ done xs (λ (n : ℕ). n) isBadRecord recordNumber {s = sessionOf xs} (t .refusal) (c .before .if3 .left) refl (t .bad (sym (t .refusal) ∙ c .before .if3 .left))
+    ∙ done xs (λ (n : ℕ). n) isBadRecord recordNumber {s = sessionOf xs} (t .refusal) (c .before .if3 .left) refl
+    (t .bad (sym (t .refusal) ∙ c .before .if3 .left))
 
 pub dwc2-iso-check-spec : {M : Type 1} → statement M
 dwc2-iso-check-spec =

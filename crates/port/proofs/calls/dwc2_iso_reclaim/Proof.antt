@@ -28,7 +28,8 @@ event-of-requires c κs = search needs
 
 reclaim-at-requires : tie.Need-reclaim-at-requires
 reclaim-at-requires c κs =
-    let passed = sym (c .before .before .before .before .before .before .verdict-at .ensures .refusal) ∙ c .before .before .before .before .if1 .left in
+    let passed = sym (c .before .before .before .before .before .before .verdict-at .ensures .refusal)
+    ∙ c .before .before .before .before .if1 .left in
     (passed, c .before .before .before .before .before .before .verdict-at .ensures)
 
 same-length-2 : tie.Need-same-length-2
@@ -42,10 +43,12 @@ same-length-4 c = search needs
 
 returns-2 : tie.Need-returns-2
 returns-2 c =
-    let a = c .before .before .before .before .before .before .before .before .before .before .before .before .before .before .before .before .before .before .args in
+    let a = c .before .before .before .before .before .before .before .before .before .before .before .before .before .before .before .before
+    .before .before .args in
     let last = c .before .before .before .before .before .before .reclaim-at .last in
     subst (λ (e : IsoEvent).
-    Promised (a .session .now) (a .ring .now) (a .results .now) (a .id) e (c .before .before .before .before .before .before .reclaim-at .result) (last .0)
+    Promised (a .session .now) (a .ring .now) (a .results .now) (a .id) e (c .before .before .before .before .before .before .reclaim-at .result)
+    (last .0)
     (last .1 .1 .1 .1 .0) (last .1 .1 .1 .1 .1 .0))
     (c .before .before .before .before .before .before .before .before .before .before .event-of .ensures)
     (done-by-bytes (a .session .now) (a .ring .now) (a .results .now) (a .id)

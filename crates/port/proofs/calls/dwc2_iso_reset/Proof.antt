@@ -18,7 +18,8 @@ same-length c = search needs
 
 returns : tie.Need-returns
 returns c =
-    reply-refused (c .before .before .before .before .before .before .args .session .now) resetReply (c .before .before .before .verdict-at .ensures .refusal)
+    reply-refused (c .before .before .before .before .before .before .args .session .now) resetReply
+    (c .before .before .before .verdict-at .ensures .refusal)
     (c .before .if1 .taken) (c .reply-refused .ensures)
 
 reset-at-requires : tie.Need-reset-at-requires
@@ -32,8 +33,10 @@ same-length-2 c = search needs
 returns-2 : tie.Need-returns-2
 returns-2 c =
     let xs = c .before .before .before .before .before .before .before .before .before .args .session .now in
-    reply-done xs resetReply {s = sessionOf xs} {r = resetReply (sessionOf xs)} (c .before .before .before .before .before .before .verdict-at .ensures .refusal)
-    (c .before .before .before .before .if1 .left) refl refl (c .before .before .reset-at .ensures .0) (c .before .before .reset-at .ensures .1 .bytes)
+    reply-done xs resetReply {s = sessionOf xs} {r = resetReply (sessionOf xs)}
+    (c .before .before .before .before .before .before .verdict-at .ensures .refusal)
+    (c .before .before .before .before .if1 .left) refl refl (c .before .before .reset-at .ensures .0)
+    (c .before .before .reset-at .ensures .1 .bytes)
 
 pub dwc2-iso-reset-spec : {M : Type 1} → statement M
 dwc2-iso-reset-spec =

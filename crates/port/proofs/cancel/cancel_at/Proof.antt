@@ -46,9 +46,10 @@ place-is :
     ≡ requestAt (c .before .before .before .before .before .before .args .id)
     (sessionOf (c .before .before .before .before .before .before .args .bytes .now))
 place-is c =
-    let s = sessionOf (c .before .before .before .before .before .before .args .bytes .now) in
+    let start = c .before .before .before .before .before .before in
+    let s = sessionOf (start .args .bytes .now) in
     c .place-at .ensures
-    ∙ ap (λ (h : IsoHead). placeOf (c .before .before .before .before .before .before .args .id) (slice 0 (h .count) (s .requests)))
+    ∙ ap (λ (h : IsoHead). placeOf (start .args .id) (slice 0 (h .count) (s .requests)))
     (head-is (c .before .before))
 
 -- the place of a completed request
@@ -87,7 +88,8 @@ known :
 known c =
     sym (ap₂ (λ (n : ℕ) (h : IsoHead). ltb n (h .count)) (place-is (c .before .before .before .before))
     (head-is (c .before .before .before .before .before .before)))
-    ∙ lt-ltb (c .before .before .before .before .place-at .result) (c .before .before .before .before .before .before .head-at .result .count) (c .if3 .left)
+    ∙ lt-ltb (c .before .before .before .before .place-at .result) (c .before .before .before .before .before .before .head-at .result .count)
+    (c .if3 .left)
 
 reason-is :
     (c : tie.After-has-reason)
@@ -105,21 +107,25 @@ reply-refused-requires c κs = search needs
 
 returns : tie.Need-returns
 returns c =
-    let s = sessionOf (c .before .before .before .args .bytes .now) in
-    stays (c .before .before .before .args .bytes .now) (octets (c .before .before))
-    (c .before .before .before .pre .0) (cancelled s (c .before .before .before .args .id))
-    (cancel-bad s (c .before .before .before .args .id) (sym (c .before .before .before .pre .1) ∙ c .before .if1 .taken)) refl
+    let start = c .before .before .before in
+    let s = sessionOf (start .args .bytes .now) in
+    stays (start .args .bytes .now) (octets (c .before .before))
+    (start .pre .0) (cancelled s (start .args .id))
+    (cancel-bad s (start .args .id) (sym (start .pre .1) ∙ c .before .if1 .taken)) refl
     (c .reply-refused .ensures)
 
 head-at-requires : tie.Need-head-at-requires
-head-at-requires c κs = long-enough (c .before .before .before .args .bytes .now) refl (c .before .before .before .pre .0)
+head-at-requires c κs =
+    let start = c .before .before .before in
+    long-enough (start .args .bytes .now) refl (start .pre .0)
 
 place-at-requires : tie.Need-place-at-requires
-place-at-requires c κs = (
-  long-enough (c .before .before .before .before .before .args .bytes .now) refl
-      (c .before .before .before .before .before .pre .0),
-  subst⁻¹ (λ (h : IsoHead). h .count ≤ 64) (head-is (c .before)) (good (c .before .before .before) .count-in),
-)
+place-at-requires c κs =
+    let start = c .before .before .before .before .before in (
+      long-enough (start .args .bytes .now) refl
+          (start .pre .0),
+      subst⁻¹ (λ (h : IsoHead). h .count ≤ 64) (head-is (c .before)) (good (c .before .before .before) .count-in),
+    )
 
 cast-put-outcome : tie.Need-cast-put-outcome
 cast-put-outcome c = search needs
@@ -132,9 +138,10 @@ add-put-outcome c = search needs
 
 put-outcome-requires : tie.Need-put-outcome-requires
 put-outcome-requires c κs =
-    let enough : 8488 ≤ length (c .before .before .before .before .before .before .before .before .before .args .bytes .now) =
-    long-enough (c .before .before .before .before .before .before .before .before .before .args .bytes .now) refl
-    (c .before .before .before .before .before .before .before .before .before .pre .0) in
+    let start = c .before .before .before .before .before .before .before .before .before in
+    let enough : 8488 ≤ length (start .args .bytes .now) =
+    long-enough (start .args .bytes .now) refl
+    (start .pre .0) in
     omega (arith, below (c .before))
 
 reply-port-requires : tie.Need-reply-port-requires
@@ -145,10 +152,11 @@ same-length c = search needs
 
 returns-2 : tie.Need-returns-2
 returns-2 c =
-    let xs = c .before .before .before .before .before .before .before .before .before .before .before .before .before .args .bytes .now in
+    let start = c .before .before .before .before .before .before .before .before .before .before .before .before .before in
+    let xs = start .args .bytes .now in
     let s = sessionOf xs in
     let done : ltb
-    (requestAt (c .before .before .before .before .before .before .before .before .before .before .before .before .before .args .id) s)
+    (requestAt (start .args .id) s)
     (s .head .done)
     ≡ true =
     sym (ap₂ (λ (n : ℕ) (h : IsoHead). ltb n (h .done)) (place-is (c .before .before .before .before .before .before .before))
@@ -157,13 +165,14 @@ returns-2 c =
     (c .before .before .before .before .before .before .before .before .before .head-at .result .done)
     (c .before .before .before .before .before .if2 .taken) in
     becomes xs
-    (cancelled s (c .before .before .before .before .before .before .before .before .before .before .before .before .before .args .id))
-    (cancel-completed s (c .before .before .before .before .before .before .before .before .before .before .before .before .before .args .id)
+    (cancelled s (start .args .id))
+    (cancel-completed s (start .args .id)
     (fine (c .before .before .before .before .before .before .before .before .before .before .before)) done) (c .reply-port .ensures)
     (left-is
     (outcome-here xs (octets (c .before .before .before .before .before .before .before .before .before .before .before .before))
-    (c .before .before .before .before .before .before .before .before .before .before .before .before .before .pre .0)
-    (c .before .before .before .before .before .before .before .place-at .result) outcome.Cancelled (in-use (c .before .before .before .before .before))
+    (start .pre .0)
+    (c .before .before .before .before .before .before .before .place-at .result) outcome.Cancelled
+    (in-use (c .before .before .before .before .before))
     (below (c .before .before .before .before .before)) (c .before .before .before .put-outcome .ensures))
     (ap (λ (n : ℕ). withCancelled n s) (place-is (c .before .before .before .before .before .before .before))))
 
@@ -175,26 +184,29 @@ same-length-2 c = search needs
 
 returns-3 : tie.Need-returns-3
 returns-3 c =
-    let s = sessionOf (c .before .before .before .before .before .before .before .before .before .before .before .args .bytes .now) in
-    let unknown : ltb (requestAt (c .before .before .before .before .before .before .before .before .before .before .before .args .id) s)
+    let start = c .before .before .before .before .before .before .before .before .before .before .before in
+    let s = sessionOf (start .args .bytes .now) in
+    let unknown : ltb (requestAt (start .args .id) s)
     (s .head .count)
     ≡ false =
     sym (ap₂ (λ (n : ℕ) (h : IsoHead). ltb n (h .count)) (place-is (c .before .before .before .before .before))
     (head-is (c .before .before .before .before .before .before .before)))
-    ∙ le-ltb (c .before .before .before .before .before .place-at .result) (c .before .before .before .before .before .before .before .head-at .result .count)
+    ∙ le-ltb (c .before .before .before .before .before .place-at .result)
+    (c .before .before .before .before .before .before .before .head-at .result .count)
     (c .before .if3 .taken) in
-    stays (c .before .before .before .before .before .before .before .before .before .before .before .args .bytes .now)
+    stays (start .args .bytes .now)
     (octets (c .before .before .before .before .before .before .before .before .before .before))
-    (c .before .before .before .before .before .before .before .before .before .before .before .pre .0)
-    (cancelled s (c .before .before .before .before .before .before .before .before .before .before .before .args .id))
-    (cancel-unknown s (c .before .before .before .before .before .before .before .before .before .before .before .args .id)
+    (start .pre .0)
+    (cancelled s (start .args .id))
+    (cancel-unknown s (start .args .id)
     (fine (c .before .before .before .before .before .before .before .before .before)) (not-done (c .before .before .before)) unknown) refl
     (c .reply-refused2 .ensures)
 
 reason-at-requires : tie.Need-reason-at-requires
 reason-at-requires c κs =
-    long-enough (c .before .before .before .before .before .before .before .before .before .before .before .args .bytes .now) refl
-    (c .before .before .before .before .before .before .before .before .before .before .before .pre .0)
+    let start = c .before .before .before .before .before .before .before .before .before .before .before in
+    long-enough (start .args .bytes .now) refl
+    (start .pre .0)
 
 has-reason-requires : tie.Need-has-reason-requires
 has-reason-requires c κs = search needs
@@ -207,17 +219,18 @@ same-length-3 c = search needs
 
 returns-4 : tie.Need-returns-4
 returns-4 c =
+    let start = c .before .before .before .before .before .before .before .before .before .before .before .before .before .before .before in
     let s =
     sessionOf
-    (c .before .before .before .before .before .before .before .before .before .before .before .before .before .before .before .args .bytes .now) in
+    (start .args .bytes .now) in
     stays
-    (c .before .before .before .before .before .before .before .before .before .before .before .before .before .before .before .args .bytes .now)
+    (start .args .bytes .now)
     (octets (c .before .before .before .before .before .before .before .before .before .before .before .before .before .before))
-    (c .before .before .before .before .before .before .before .before .before .before .before .before .before .before .before .pre .0)
+    (start .pre .0)
     (cancelled s
-    (c .before .before .before .before .before .before .before .before .before .before .before .before .before .before .before .args .id))
+    (start .args .id))
     (cancel-again s
-    (c .before .before .before .before .before .before .before .before .before .before .before .before .before .before .before .args .id)
+    (start .args .id)
     (fine (c .before .before .before .before .before .before .before .before .before .before .before .before .before))
     (not-done (c .before .before .before .before .before .before .before)) (known (c .before .before .before .before .before))
     (sym (reason-is (c .before .before)) ∙ c .before .if4 .taken)) refl (c .reply-port2 .ensures)
@@ -234,19 +247,22 @@ same-length-4 c = search needs
 
 returns-5 : tie.Need-returns-5
 returns-5 c =
+    let start = c .before .before .before .before .before .before .before .before .before .before .before .before .before .before .before
+    .before .before .before .before in
     let s =
     sessionOf
-    (c .before .before .before .before .before .before .before .before .before .before .before .before .before .before .before .before .before .before .before .args .bytes .now) in
+    (start .args .bytes .now) in
     becomes
-    (c .before .before .before .before .before .before .before .before .before .before .before .before .before .before .before .before .before .before .before .args .bytes .now)
+    (start .args .bytes .now)
     (cancelled s
-    (c .before .before .before .before .before .before .before .before .before .before .before .before .before .before .before .before .before .before .before .args .id))
+    (start .args .id))
     (cancel-halt s
-    (c .before .before .before .before .before .before .before .before .before .before .before .before .before .before .before .before .before .before .before .args .id)
+    (start .args .id)
     (fine (c .before .before .before .before .before .before .before .before .before .before .before .before .before .before .before .before .before))
     (not-done (c .before .before .before .before .before .before .before .before .before .before .before))
     (known (c .before .before .before .before .before .before .before .before .before))
-    (sym (reason-is (c .before .before .before .before .before .before)) ∙ c .before .before .before .before .before .if4 .left)) (c .reply-port3 .ensures)
+    (sym (reason-is (c .before .before .before .before .before .before)) ∙ c .before .before .before .before
+    .before .if4 .left)) (c .reply-port3 .ensures)
     (c .before .before .before .halt-at .ensures)
 
 pub cancel-at-spec : {M : Type 1} → statement M

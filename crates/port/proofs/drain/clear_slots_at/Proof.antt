@@ -32,7 +32,8 @@ cast-at c = search needs
 -- the words that become zero
 in-ring : (c : tie.After-slot-at Inv-loop μ-loop) → 2 * c .slot-at .result + 1 < length (c .before .before .loop .ring)
 in-ring c =
-    let now = c .before .before .loop in omega (arith, c .slot-at .ensures, c .before .before .before .before .before .pre .2 (now .i) (now .inv .0) (omega arith), now .inv .1)
+    let now = c .before .before .loop in omega
+    (arith, c .slot-at .ensures, c .before .before .before .before .before .pre .2 (now .i) (now .inv .0) (omega arith), now .inv .1)
 
 mul-at : tie.Need-mul-at Inv-loop μ-loop
 mul-at c = omega (arith, in-ring c)

@@ -27,7 +27,8 @@ use Rattle.port.proofs.drain.drain_at.Tie as tie
 
 abbrev Inv-loop : tie.InvT-loop
 Inv-loop bytes₀ bit ring₀ count done₀ from₀ at-once₀ bytes ring done from at-once =
-    Sound (sessionOf bytes) × (layoutNumber bytes ≡ 0) × (length bytes ≡ length bytes₀) × (length ring ≡ length ring₀) × (done ≡ sessionOf bytes .head .done)
+    Sound (sessionOf bytes) × (layoutNumber bytes ≡ 0) × (length bytes ≡ length bytes₀) × (length ring ≡ length ring₀) ×
+    (done ≡ sessionOf bytes .head .done)
     × (count ≡ sessionOf bytes .head .count) × (from ≡ oldestFrom (sessionOf bytes)) × (Left bytes₀ bytes (sessionOf bytes))
     × (drained at-once (sessionOf bytes) ring ≡ drained bit (sessionOf bytes₀) ring₀) × (ringWords (sessionOf bytes .cfg) ≤ length ring)
 
@@ -65,7 +66,8 @@ to-in c =
 served-is :
     (c : tie.After-is-served-at Inv-loop μ-loop)
     → c .is-served-at .result
-    ≡ isServed (sessionOf (c .before .before .before .before .before .before .loop .bytes)) (c .before .before .before .before .before .before .loop .ring)
+    ≡ isServed (sessionOf (c .before .before .before .before .before .before .loop .bytes))
+    (c .before .before .before .before .before .before .loop .ring)
 served-is c =
     c .is-served-at .ensures
     ∙ ap (λ (n : ℕ).
@@ -83,19 +85,20 @@ packets-before-requires c κs =
 
 loop-holds : tie.Need-loop-holds Inv-loop μ-loop
 loop-holds c =
-    let xs = c .before .before .before .before .before .before .args .bytes .now in
+    let start = c .before .before .before .before .before .before in
+    let xs = start .args .bytes .now in
     let eh = head-is (c .before .before) in (
       good (c .before .before .before .before .before .before),
-      c .before .before .before .before .before .before .pre .0,
+      start .pre .0,
       refl,
       refl,
       ap (λ (h : IsoHead). h .done) eh,
       ap (λ (h : IsoHead). h .count) eh,
       c .packets-before .ensures ∙ ap (λ (h : IsoHead). packetsOf (slice 0 (h .done) (requestsOf xs))) eh,
-      loaded-left xs (c .before .before .before .before .before .before .pre .0)
+      loaded-left xs (start .pre .0)
           (λ i. omega (arith, c .before .before .before .before .before .slice-known .given i)),
       refl,
-      c .before .before .before .before .before .before .pre .2,
+      start .pre .2,
     )
 
 cast-packets-at : tie.Need-cast-packets-at Inv-loop μ-loop
@@ -187,7 +190,8 @@ loop-again c =
           ∙ sym (ap oldestFrom holds),
       left-is
           (left-over (long
-          (c .before .before .before .before .before .before .before .before .before .before .before .before .before .before .before .before .before .before .before .before .before))
+          (c .before .before .before .before .before .before .before .before .before .before .before .before .before .before .before .before
+          .before .before .before .before .before))
           (now .inv .7) left)
           (sym holds),
       ap (λ (u : IsoChannelState). drained false u (after .last .1 .1 .1 .0)) holds

@@ -31,9 +31,11 @@ same-length-4 c = search needs
 
 returns-2 : tie.Need-returns-2
 returns-2 c =
-    let xs = c .before .before .before .before .before .before .args .bytes .now in
+    let start = c .before .before .before .before .before .before in
+    let xs = start .args .bytes .now in
     let e = sym (c .before .is-settling .ensures (c .if1 .left)) in (
-      left-is (same-bytes xs (λ i. omega (arith, c .before .before .before .before .before .slice-known .given i)) (c .before .before .before .before .before .before .pre .0)) (ap (λ (d : Drained). d .session) e),
+      left-is (same-bytes xs (λ i. omega (arith, c .before .before .before .before .before .slice-known .given i)) (start .pre .0))
+          (ap (λ (d : Drained). d .session) e),
       ap (λ (d : Drained). d .ring) e,
     )
 

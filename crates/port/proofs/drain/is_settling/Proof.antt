@@ -36,7 +36,9 @@ pending c = omega (arith, done-is (c .before .before), count-is (c .before), c .
 
 ends : (c : tie.After-packets-at) → c .before .before .before .before .before .before .args .before + c .packets-at .result ≡ oldestTo (sessionOf (c .before .before .before .before .before .before .args .bytes .now))
 ends c =
-    oldest-ends (sessionOf (c .before .before .before .before .before .before .args .bytes .now)) (c .before .before .before .before .before .before .args .before) (c .before .before .before .u16-at .result) (c .packets-at .result) (c .before .before .before .before .before .before .pre .2) (done-is (c .before .before .before)) (c .packets-at .ensures .0)
+    let start = c .before .before .before .before .before .before in
+    oldest-ends (sessionOf (start .args .bytes .now)) (start .args .before) (c .before .before .before .u16-at .result) (c .packets-at .result)
+    (start .pre .2) (done-is (c .before .before .before)) (c .packets-at .ensures .0)
 
 ends-in : (c : tie.After-packets-at) → (0 < oldestTo (sessionOf (c .before .before .before .before .before .before .args .bytes .now))) × (oldestTo (sessionOf (c .before .before .before .before .before .before .args .bytes .now)) ≤ 1024)
 ends-in c =
@@ -52,8 +54,10 @@ u16-at-requires-2 c κs = omega (arith, long (c .before .before .before))
 
 returns : tie.Need-returns
 returns c =
-    let xs = c .before .before .before .before .before .args .bytes .now in
-    λ e. drained-past (c .before .before .before .before .before .args .bit) (sessionOf xs) (c .before .before .before .before .before .args .ring .now) (omega (arith, done-is (c .before .before), count-is (c .before), c .if1 .taken))
+    let start = c .before .before .before .before .before in
+    let xs = start .args .bytes .now in
+    λ e. drained-past (start .args .bit) (sessionOf xs) (start .args .ring .now)
+    (omega (arith, done-is (c .before .before), count-is (c .before), c .if1 .taken))
 
 cast-packets-at : tie.Need-cast-packets-at
 cast-packets-at c = search needs
@@ -72,13 +76,15 @@ is-served-at-requires c κs =
 
 returns-2 : tie.Need-returns-2
 returns-2 c =
-    let s = sessionOf (c .before .before .before .before .before .before .before .args .bytes .now) in
-    let ring = c .before .before .before .before .before .before .before .args .ring .now in
+    let start = c .before .before .before .before .before .before .before in
+    let s = sessionOf (start .args .bytes .now) in
+    let ring = start .args .ring .now in
     let served : c .is-served-at .result ≡ isServed s ring =
     c .is-served-at .ensures
-    ∙ ap (λ (n : ℕ). not (isSet active (getD ring (2 * getD (plansOf (c .before .before .before .before .before .before .before .args .bytes .now)) (n - 1) blankPlan .«desc_index») 0))) (ends (c .before)) in
+    ∙ ap (λ (n : ℕ). not (isSet active (getD ring (2 * getD (plansOf (start .args .bytes .now)) (n - 1) blankPlan .«desc_index») 0)))
+    (ends (c .before)) in
     λ e.
-    drained-stop (c .before .before .before .before .before .before .before .args .bit) s ring (pending (c .before .before)) (ap (λ (b : Bool). c .before .before .before .before .before .before .before .args .bit || b) (sym served) ∙ e)
+    drained-stop (start .args .bit) s ring (pending (c .before .before)) (ap (λ (b : Bool). start .args .bit || b) (sym served) ∙ e)
 
 pub is-settling-spec : {M : Type 1} → statement M
 is-settling-spec =

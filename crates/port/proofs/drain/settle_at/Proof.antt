@@ -32,10 +32,17 @@ head-is c = c .head-at .ensures ∙ head-there (c .before .before .before .befor
 
 in-use : (c : tie.After-head-at) → c .head-at .result .done < 64
 in-use c =
-    omega (arith, ap (λ (h : IsoHead). h .done) (head-is c), c .before .before .before .before .pre .2, good (c .before .before .before .before) .count-in)
+    omega (
+      arith,
+      ap (λ (h : IsoHead). h .done) (head-is c),
+      c .before .before .before .before .pre .2,
+      good (c .before .before .before
+          .before) .count-in,
+    )
 
 direction-is :
-    (c : tie.After-direction-of) → c .direction-of .result ≡ sessionOf (c .before .before .before .before .before .before .before .args .bytes .now) .cfg .direction
+    (c : tie.After-direction-of) → c .direction-of .result ≡ sessionOf
+    (c .before .before .before .before .before .before .before .args .bytes .now) .cfg .direction
 direction-is c =
     c .direction-of .ensures
     ∙ ap directionOf (c .before .byte-at .ensures)
@@ -70,7 +77,8 @@ clear-slots-at-requires c κs =
     let plans = c .before .before .before .before .settle-plans-at in (
       omega (arith, long start, plans .kept .0),
       omega (arith, ends start, good start .all-few),
-      slots-left (a .bytes .now) (a .ring .now) (a .from) (a .to) (way .direction-of .result) (start .pre .0) (good start) (start .pre .2) (start .pre .3)
+      slots-left (a .bytes .now) (a .ring .now) (a .from) (a .to) (way .direction-of .result) (start .pre .0) (good start) (start .pre .2)
+          (start .pre .3)
           (start .pre .4) (direction-is way) (plans .ensures .1) (a .ring .now) (start .pre .5),
     )
 
@@ -88,7 +96,8 @@ request-at-requires c κs =
     omega (
       arith,
       long
-          (c .before .before .before .before .before .before .before .before .before .before .before .before .before .before .before .before .before .before .before),
+          (c .before .before .before .before .before .before .before .before .before .before .before .before .before .before .before .before
+          .before .before .before),
       c .before .before .before .before .before .before .before .before .before .settle-plans-at .kept .0,
       in-use (c .before .before .before .before .before .before .before .before .before .before .before .before .before .before .before),
     )
@@ -98,23 +107,28 @@ put-request-requires c κs =
     omega (
       arith,
       long
-          (c .before .before .before .before .before .before .before .before .before .before .before .before .before .before .before .before .before .before .before .before .before),
+          (c .before .before .before .before .before .before .before .before .before .before .before .before .before .before .before .before
+          .before .before .before .before .before),
       c .before .before .before .before .before .before .before .before .before .before .before .settle-plans-at .kept .0,
-      in-use (c .before .before .before .before .before .before .before .before .before .before .before .before .before .before .before .before .before),
+      in-use (c .before .before .before .before .before .before .before .before .before .before .before .before .before .before .before
+          .before .before),
     )
 
 one-more-requires : tie.Need-one-more-requires
 one-more-requires c κs =
     in-use
-    (c .before .before .before .before .before .before .before .before .before .before .before .before .before .before .before .before .before .before .before .before .before)
+    (c .before .before .before .before .before .before .before .before .before .before .before .before .before .before .before .before .before
+    .before .before .before .before)
 
 put-head-requires : tie.Need-put-head-requires
 put-head-requires c κs =
     omega (
       arith,
       long
-          (c .before .before .before .before .before .before .before .before .before .before .before .before .before .before .before .before .before .before .before .before .before .before .before .before .before .before),
-      c .before .before .before .before .before .before .before .before .before .before .before .before .before .before .before .before .settle-plans-at .kept .0,
+          (c .before .before .before .before .before .before .before .before .before .before .before .before .before .before .before .before
+          .before .before .before .before .before .before .before .before .before .before),
+      c .before .before .before .before .before .before .before .before .before .before .before .before .before .before .before
+          .before .settle-plans-at .kept .0,
       c .before .before .before .before .put-request .kept .0,
     )
 
@@ -127,25 +141,31 @@ same-length-2 c = search needs
 returns : tie.Need-returns
 returns c =
     let start =
-    (c .before .before .before .before .before .before .before .before .before .before .before .before .before .before .before .before .before .before .before .before .before .before .before .before .before .before .before .before .before) in
+    (c .before .before .before .before .before .before .before .before .before .before .before .before .before .before .before .before .before
+    .before .before .before .before .before .before .before .before .before .before .before .before) in
     let a = start .args in
     let xs = a .bytes .now in
     let way =
-    (c .before .before .before .before .before .before .before .before .before .before .before .before .before .before .before .before .before .before .before .before .before .before) in
+    (c .before .before .before .before .before .before .before .before .before .before .before .before .before .before .before .before .before
+    .before .before .before .before .before) in
     let dir = way .direction-of .result in
     let ed = direction-is way in
     let plans =
-    c .before .before .before .before .before .before .before .before .before .before .before .before .before .before .before .before .before .before .before .settle-plans-at .ensures in
+    c .before .before .before .before .before .before .before .before .before .before .before .before .before .before .before .before .before
+    .before .before .settle-plans-at .ensures in
     let head =
     head-is
-    (c .before .before .before .before .before .before .before .before .before .before .before .before .before .before .before .before .before .before .before .before .before .before .before .before .before) in (
-      bytes-settled xs (a .ring .now) (a .from) (a .to) dir (start .pre .0) (good start) (start .pre .2) (start .pre .3) (start .pre .4) ed (plans .1) head
+    (c .before .before .before .before .before .before .before .before .before .before .before .before .before .before .before .before .before
+    .before .before .before .before .before .before .before .before) in (
+      bytes-settled xs (a .ring .now) (a .from) (a .to) dir (start .pre .0) (good start) (start .pre .2) (start .pre .3) (start .pre .4) ed
+          (plans .1) head
           (plans .0)
           (c .before .before .before .before .before .before .before .before .before .request-at .ensures)
           (c .before .before .before .before .before .before .before .put-request .ensures) (c .before .before .before .one-more .ensures)
           (c .before .before .put-head .ensures),
       ring-settled xs (a .ring .now) (a .from) (a .to) dir (start .pre .0) (good start) (start .pre .2) (start .pre .3) (start .pre .4) ed (plans .1)
-          (c .before .before .before .before .before .before .before .before .before .before .before .before .before .before .clear-slots-at .ensures),
+          (c .before .before .before .before .before .before .before .before .before .before .before .before .before
+          .before .clear-slots-at .ensures),
     )
 
 pub settle-at-spec : {M : Type 1} → statement M

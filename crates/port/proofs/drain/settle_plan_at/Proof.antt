@@ -42,7 +42,8 @@ returns c =
     let settled =
     plan-settled (a .bytes .now) (a .at)
     (λ i. omega (arith, c .before .before .before .before .before .before .before .before .before .before .before .before .slice-known .given i))
-    (start .pre) (a .direction) (a .status) (planned .result) (moved .result) (tag .result) (planned .ensures) (moved .ensures) (c .before .before .before .before .before .before .before .put-u16 .ensures) (tag .ensures)
+    (start .pre) (a .direction) (a .status) (planned .result) (moved .result) (tag .result) (planned .ensures) (moved .ensures)
+    (c .before .before .before .before .before .before .before .put-u16 .ensures) (tag .ensures)
     (c .before .before .put-byte .ensures) in
     (settled .0, omega arith, settled .1)
 

@@ -58,7 +58,8 @@ loop-holds c =
 
 slot-at-requires : tie.Need-slot-at-requires Inv-loop μ-loop
 slot-at-requires c κs =
-    let start = (c .before .before .before .before .before) in (omega (arith, long start, c .before .before .loop .inv .1), omega (arith, within start))
+    let start = (c .before .before .before .before .before) in
+    (omega (arith, long start, c .before .before .loop .inv .1), omega (arith, within start))
 
 cast-status : tie.Need-cast-status Inv-loop μ-loop
 cast-status c = search needs
@@ -85,7 +86,8 @@ add-settle-plan-at c = omega (arith, within (c .before .before .before .before .
 
 settle-plan-at-requires : tie.Need-settle-plan-at-requires Inv-loop μ-loop
 settle-plan-at-requires c κs =
-    let start = (c .before .before .before .before .before .before .before .before) in omega (arith, long start, within start, c .before .before .before .before .before .loop .inv .1)
+    let start = (c .before .before .before .before .before .before .before .before) in omega
+    (arith, long start, within start, c .before .before .before .before .before .loop .inv .1)
 
 add-sum : tie.Need-add-sum Inv-loop μ-loop
 add-sum c = omega (arith, within (c .before .before .before .before .before .before .before .before .before .before .before))

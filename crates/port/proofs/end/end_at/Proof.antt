@@ -30,22 +30,26 @@ head-is : (c : tie.After-head-at) → c .head-at .result ≡ sessionOf (c .befor
 head-is c = c .head-at .ensures ∙ head-there (c .before .before .before .before .before .before .before .args .bytes .now)
 
 config-at-requires : tie.Need-config-at-requires
-config-at-requires c κs = long-enough (c .before .before .before .args .bytes .now) refl (c .before .before .before .pre .0)
+config-at-requires c κs =
+    let start = c .before .before .before in
+    long-enough (start .args .bytes .now) refl (start .pre .0)
 
 ring-words-requires : tie.Need-ring-words-requires
 ring-words-requires c κs = search needs
 
 head-at-requires : tie.Need-head-at-requires
 head-at-requires c κs =
-    long-enough (c .before .before .before .before .before .before .args .bytes .now) refl (c .before .before .before .before .before .before .pre .0)
+    let start = c .before .before .before .before .before .before in
+    long-enough (start .args .bytes .now) refl (start .pre .0)
 
 fail-at-requires : tie.Need-fail-at-requires
 fail-at-requires c κs =
-    let xs = c .before .before .before .before .before .before .before .before .args .bytes .now in
+    let start = c .before .before .before .before .before .before .before .before in
+    let xs = start .args .bytes .now in
     let g = good (c .before .before .before .before .before .before .before .before) in (
-      c .before .before .before .before .before .before .before .before .pre .0,
+      start .pre .0,
       same-bytes xs (octets (c .before .before .before .before .before .before .before))
-          (c .before .before .before .before .before .before .before .before .pre .0),
+          (start .pre .0),
       subst⁻¹ (λ (h : IsoHead). h .done ≤ h .count) (head-is (c .before)) (g .done-in),
       le-of-eq (ap (λ (h : IsoHead). h .count) (head-is (c .before)) ∙ sym (requests-in (sessionOf xs) (g .count-in))),
     )
@@ -55,9 +59,10 @@ ended-head-requires c κs = search needs
 
 put-head-requires : tie.Need-put-head-requires
 put-head-requires c κs =
-    let enough : 8488 ≤ length (c .before .before .before .before .before .before .before .before .before .before .before .before .before .args .bytes .now) =
-    long-enough (c .before .before .before .before .before .before .before .before .before .before .before .before .before .args .bytes .now) refl
-    (c .before .before .before .before .before .before .before .before .before .before .before .before .before .pre .0) in
+    let start = c .before .before .before .before .before .before .before .before .before .before .before .before .before in
+    let enough : 8488 ≤ length (start .args .bytes .now) =
+    long-enough (start .args .bytes .now) refl
+    (start .pre .0) in
     omega (arith, c .before .before .before .before .fail-at .kept .0)
 
 fatal-tagged-requires : tie.Need-fatal-tagged-requires
@@ -65,14 +70,16 @@ fatal-tagged-requires c κs = search needs
 
 put-tagged-requires : tie.Need-put-tagged-requires
 put-tagged-requires c κs =
+    let start = c .before .before .before .before .before .before .before .before .before .before .before .before .before .before .before
+    .before .before .before in
     let enough : 8488
     ≤ length
-    (c .before .before .before .before .before .before .before .before .before .before .before .before .before .before .before .before .before .before .args .bytes .now)
+    (start .args .bytes .now)
     =
     long-enough
-    (c .before .before .before .before .before .before .before .before .before .before .before .before .before .before .before .before .before .before .args .bytes .now)
+    (start .args .bytes .now)
     refl
-    (c .before .before .before .before .before .before .before .before .before .before .before .before .before .before .before .before .before .before .pre .0) in
+    (start .pre .0) in
     omega (
       arith,
       c .before .before .before .before .before .before .before .before .before .fail-at .kept .0,
@@ -90,20 +97,26 @@ same-length-2 c = search needs
 
 returns : tie.Need-returns
 returns c =
+    let start = c .before .before .before .before .before .before .before .before .before .before .before .before .before .before .before
+    .before .before .before .before .before .before .before .before .before .before in
     let a =
-    c .before .before .before .before .before .before .before .before .before .before .before .before .before .before .before .before .before .before .before .before .before .before .before .before .before .args in
+    start .args in
     let s = sessionOf (a .bytes .now) in
     let ring = a .ring .now in
     let words =
-    c .before .before .before .before .before .before .before .before .before .before .before .before .before .before .before .before .before .before .before .before .ring-words .ensures .0
+    c .before .before .before .before .before .before .before .before .before .before .before .before .before .before .before .before .before
+    .before .before .before .ring-words .ensures .0
     ∙ ap ringWords
-    (c .before .before .before .before .before .before .before .before .before .before .before .before .before .before .before .before .before .before .before .before .before .config-at .ensures
+    (c .before .before .before .before .before .before .before .before .before .before .before .before .before .before .before .before .before
+    .before .before .before .before .config-at .ensures
     ∙ config-there (a .bytes .now)) in (
       end-put (a .bytes .now) (a .outcome) (long-enough (a .bytes .now) refl
-          (c .before .before .before .before .before .before .before .before .before .before .before .before .before .before .before .before .before .before .before .before .before .before .before .before .before .pre .0))
+          (start .pre .0))
           (head-is
-          (c .before .before .before .before .before .before .before .before .before .before .before .before .before .before .before .before .before .before))
-          (c .before .before .before .before .before .before .before .before .before .before .before .before .before .before .before .before .fail-at .ensures)
+          (c .before .before .before .before .before .before .before .before .before .before .before .before .before .before .before .before
+          .before .before))
+          (c .before .before .before .before .before .before .before .before .before .before .before .before .before .before .before
+          .before .fail-at .ensures)
           (c .before .before .before .before .before .before .before .before .before .before .before .before .ended-head .ensures)
           (c .before .before .before .before .before .before .before .before .before .before .before .put-head .ensures)
           (c .before .before .before .before .before .before .before .fatal-tagged .ensures)
@@ -111,7 +124,7 @@ returns c =
       c .before .before .clear-first .ensures
           ∙ ap (λ (n : ℕ). cond (ltb (length ring) n) ring (cleared n ring)) words
           ∙ ap (λ (b : Bool). cond b ring (cleared (ringWords (s .cfg)) ring)) (le-ltb (length ring) (ringWords (s .cfg))
-          (c .before .before .before .before .before .before .before .before .before .before .before .before .before .before .before .before .before .before .before .before .before .before .before .before .before .pre .2)),
+          (start .pre .2)),
     )
 
 pub end-at-spec : {M : Type 1} → statement M

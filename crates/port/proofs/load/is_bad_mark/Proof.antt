@@ -53,7 +53,8 @@ returns : tie.Need-returns
 returns c =
     unmarked-at (c .before .before .before .before .before .before .args .bytes .now) (c .before .before .before .before .byte-at .ensures)
     (c .before .before .before .byte-at2 .ensures) (c .before .before .byte-at3 .ensures) (c .before .byte-at4 .ensures) (c .byte-at5 .ensures)
-    (c .before .before .before .before .byte-at .ok) (c .before .before .before .byte-at2 .ok) (c .before .before .byte-at3 .ok) (c .before .byte-at4 .ok) (c .byte-at5 .ok)
+    (c .before .before .before .before .byte-at .ok) (c .before .before .before .byte-at2 .ok) (c .before .before .byte-at3 .ok)
+    (c .before .byte-at4 .ok) (c .byte-at5 .ok)
 
 pub is-bad-mark-spec : {M : Type 1} → statement M
 is-bad-mark-spec =

@@ -39,7 +39,8 @@ bad-used c =
 returns-3 : tie.Need-returns-3
 returns-3 c =
     let xs = c .before .before .before .before .before .before .before .args .bytes .now in
-    layout-by xs (c .before .before .before .before .before .if1 .left) (c .before .before .before .before .is-bad-front .ensures) true (c .before .before .before .if2 .left) (bad-used (c .before)) refl
+    layout-by xs (c .before .before .before .before .before .if1 .left) (c .before .before .before .before .is-bad-front .ensures) true
+    (c .before .before .before .if2 .left) (bad-used (c .before)) refl
     (ap (λ (x : Bool). x || anyOf isBadPlanBytes 7 (plansIn (sessionOf xs)) (drop 1320 xs)) (c .if3 .taken))
 
 plans-for-requires : tie.Need-plans-for-requires

@@ -52,7 +52,8 @@ pending-in c =
 -- what is read is the entry of the table
 here :
     (c : tie.After-plan-at Inv-loop μ-loop)
-    → c .plan-at .result ≡ getD (sessionOf (c .before .before .before .before .before .before .before .args .bytes .now) .plans) (c .before .before .loop .j) blankPlan
+    → c .plan-at .result ≡ getD (sessionOf (c .before .before .before .before .before .before .before .args .bytes .now) .plans)
+    (c .before .before .loop .j) blankPlan
 here c =
     let start = c .before .before .before .before .before .before .before in
     let now = c .before .before .loop in
@@ -135,7 +136,8 @@ loop-again c =
     let slot = c .before .plan-at .result .«desc_index» in
     let at = ap (λ (p : IsoPacketPlan). p .«desc_index») (here (c .before)) in
     let less : now .j < a .all = omega arith in
-    let fits : a .all ≤ length l = omega (arith, within (c .before .before .before .before .before .before .before .before), plans-many (a .bytes .now)) in (
+    let fits : a .all ≤ length l = omega
+    (arith, within (c .before .before .before .before .before .before .before .before), plans-many (a .bytes .now)) in (
       omega arith,
       omega arith,
       omega (arith, now .inv .2),

@@ -23,7 +23,9 @@ use Rattle.port.proofs.marks.scan_of.Statement.{statement}
 use Rattle.port.proofs.marks.scan_of.Tie as tie
 
 good : (c : tie.Else1) → isBadRecord (sessionOf (c .before .before .before .before .args .bytes .now)) ≡ false
-good c = sym (c .before .before .before .before .pre .1 .bad (c .before .before .before .before .pre .0)) ∙ c .if1 .left
+good c =
+    let start = c .before .before .before .before in
+    sym (start .pre .1 .bad (start .pre .0)) ∙ c .if1 .left
 
 newest-below : (c : tie.After-rest) → c .rest .result < 1024
 newest-below c =
@@ -32,8 +34,9 @@ newest-below c =
 
 returns : tie.Need-returns
 returns c =
-    let a = c .before .before .before .before .args in
-    let pre = c .before .before .before .before .pre in
+    let start = c .before .before .before .before in
+    let a = start .args in
+    let pre = start .pre in
     bad-asked (sessionOf (a .bytes .now)) (a .transfer) (a .lengths .now) (a .ring .now) _ refl (sym (pre .1 .bad (pre .0)) ∙ c .if1 .taken)
 
 rest-requires : tie.Need-rest-requires
@@ -54,13 +57,19 @@ insert-of-requires c κs = search needs
 clash-at-requires : tie.Need-clash-at-requires
 clash-at-requires c κs =
     let start = c .before .before .before .before .before .before .before in
-    let left = c .before .before .before .if1 .left in
-    (long-enough (start .args .bytes .now) refl (start .pre .0), good (c .before .before .before), start .pre .1 .all left, start .pre .1 .pending left)
+    let left = c .before .before .before .if1 .left in (
+      long-enough (start .args .bytes .now) refl (start .pre .0),
+      good (c .before .before
+          .before),
+      start .pre .1 .all left,
+      start .pre .1 .pending left,
+    )
 
 returns-2 : tie.Need-returns-2
 returns-2 c =
-    let a = c .before .before .before .before .before .before .before .before .args in
-    let pre = c .before .before .before .before .before .before .before .before .pre in
+    let start = c .before .before .before .before .before .before .before .before in
+    let a = start .args in
+    let pre = start .pre in
     let left = c .before .before .before .before .if1 .left in
     let rest = c .before .before .before .rest in
     let plan = c .before .before .plan-at in

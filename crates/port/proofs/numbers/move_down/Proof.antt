@@ -62,7 +62,9 @@ same-length-2 c = search needs
 
 returns-2 : tie.Need-returns-2
 returns-2 c =
-    let start = (c .before .before .before .before .before .before .before .before .before .before .before .before .before .before .before .before .before .before) in
+    let start =
+    (c .before .before .before .before .before .before .before .before .before .before .before .before .before .before .before .before .before
+    .before) in
     let a = start .args in
     let xs = a .bytes .now in
     let n = a .n in
@@ -71,14 +73,19 @@ returns-2 c =
     let high = c .before .before .before .before .before .before .before .before .before .before .before .before .u64-at2 in
     let moved = c .before .before .before .before .before .before .before .before .before .before .move-sixteens in
     let turns = (n - 1) / 16 in
-    let octets : Octets xs = λ i. omega (arith, c .before .before .before .before .before .before .before .before .before .before .before .before .before .before .before .before .before .slice-known .given i) in
+    let octets : Octets xs = λ i. omega (
+      arith,
+      c .before .before .before .before .before .before .before .before .before .before .before .before .before .before .before .before
+          .before .slice-known .given i,
+    ) in
     let ends : a .from + first + 16 ≡ a .from + n = omega arith in
     let last : u64Bytes (low .result) ++ u64Bytes (high .result) ≡ slice (a .from + first) (a .from + n) xs =
     ap₂ (λ (x y : ℕ). u64Bytes x ++ u64Bytes y) (low .ensures) (high .ensures)
     ∙ pair-u64-kept (a .from + first) xs octets (omega arith)
     ∙ slice-take (a .from + first) 16 xs (omega arith)
     ∙ ap (λ (t : ℕ). slice (a .from + first) t xs) ends in
-    then (moved .last .0) (a .into + first) (a .into + first + 8) (u64Bytes (low .result)) (u64Bytes (high .result)) (c .before .before .before .before .before .before .put-u64 .ensures)
+    then (moved .last .0) (a .into + first) (a .into + first + 8) (u64Bytes (low .result)) (u64Bytes (high .result))
+    (c .before .before .before .before .before .before .put-u64 .ensures)
     (ap (λ (k : ℕ). a .into + first + k) (sym (length-u64 (low .result)))) (c .before .before .put-u642 .ensures)
     ∙ ap₂ (λ (l v : List ℕ). sets l (a .into + first) v) (moved .ensures) last
     ∙ moved-over (a .into) (a .from) n first (16 * turns) xs (omega arith) (omega arith) (start .pre .0) (start .pre .1)

@@ -74,7 +74,8 @@ loop-again c =
       omega arith,
       λ below short.
           let good =
-          good-packet xs (λ i. omega (arith, c .before .before .before .before .shared-slice-known .given i)) (l .at) (a .limit) (a .slots) (omega arith) (c .before .u64-at .ensures)
+          good-packet xs (λ i. omega (arith, c .before .before .before .before .shared-slice-known .given i)) (l .at) (a .limit) (a .slots)
+          (omega arith) (c .before .u64-at .ensures)
           (omega (arith, below, now .1)) (omega (arith, short, now .3)) in
           ap (λ (k : ℕ). anyOf (isBadPlanEntry (a .limit) (a .slots)) 7 (a .to - a .from - (l .j + 1)) (drop k xs)) on
           ∙ any-more (isBadPlanEntry (a .limit) (a .slots)) 7 (a .to - a .from) (l .j) (l .at + 1) xs (omega arith) good refl

@@ -31,7 +31,8 @@ returns c =
     let size = c .iso-ring-size in
     λ e.
     let two = both (c .before .before .is-plain-front .result) _ e in
-    fresh-is xs (c .before .before .is-plain-front .ensures (two .0)) (size .ensures ∙ ap slots (c .before .before .before .config-at .ensures ∙ config-there xs)) (omega (arith, size .ok))
+    fresh-is xs (c .before .before .is-plain-front .ensures (two .0))
+    (size .ensures ∙ ap slots (c .before .before .before .config-at .ensures ∙ config-there xs)) (omega (arith, size .ok))
     (omega (arith, c .before .u32-at .ensures, ltb-true (c .before .u32-at .result) (size .result) (two .1)))
 
 pub is-fresh-front-spec : {M : Type 1} → statement M

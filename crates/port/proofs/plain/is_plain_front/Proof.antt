@@ -37,8 +37,10 @@ returns c =
     let one = both (c .before .before .before .before .has-plain-names .result) _ e in
     let two = both (c .before .has-plain-limits .result) _ (one .1) in
     front-is xs (λ i. omega (arith, c .before .before .before .before .before .before .before .shared-slice-known .given i))
-    (sym (c .before .before .before .before .has-plain-names .ensures ∙ ap₂ hasPlainNames (c .before .before .before .before .before .before .u32-at .ensures) (c .before .before .before .before .before .u32-at2 .ensures)) ∙ one .0)
-    (sym (c .before .has-plain-limits .ensures ∙ ap₂ hasPlainLimits (c .before .before .before .u32-at3 .ensures) (c .before .before .u32-at4 .ensures)) ∙ two .0)
+    (sym (c .before .before .before .before .has-plain-names .ensures ∙ ap₂ hasPlainNames (c .before .before .before .before .before
+    .before .u32-at .ensures) (c .before .before .before .before .before .u32-at2 .ensures)) ∙ one .0)
+    (sym (c .before .has-plain-limits .ensures ∙ ap₂ hasPlainLimits (c .before .before .before .u32-at3 .ensures) (c .before
+    .before .u32-at4 .ensures)) ∙ two .0)
     (omega (arith, leb-true (c .u64-at .result) 64 (two .1), c .u64-at .ensures))
 
 pub is-plain-front-spec : {M : Type 1} → statement M

@@ -24,7 +24,10 @@ front c = c .before .before .is-fresh-front .ensures (not-false (c .before .befo
 live : (c : tie.Else1) → sessionOf (c .before .before .before .before .args .bytes .now) .head .live ≡ true
 live c =
     let xs = c .before .before .before .before .args .bytes .now in
-    live-there xs (sym (c .before .byte-at .ensures) ∙ eqb-true (c .before .byte-at .result) 1 (not-false (eqb (c .before .byte-at .result) 1) (neither (not (c .before .before .is-fresh-front .result)) (not (eqb (c .before .byte-at .result) 1)) (c .if1 .left) .1)))
+    live-there xs
+    (sym (c .before .byte-at .ensures) ∙ eqb-true (c .before .byte-at .result) 1 (not-false (eqb (c
+    .before .byte-at .result) 1) (neither (not (c .before .before .is-fresh-front .result)) (not
+    (eqb (c .before .byte-at .result) 1)) (c .if1 .left) .1)))
 
 count-is : (c : tie.After-u16-at) → c .u16-at .result ≡ sessionOf (c .before .before .before .before .before .before .args .bytes .now) .head .count
 count-is c = c .u16-at .ensures ∙ count-there (c .before .before .before .before .before .before .args .bytes .now)
@@ -67,20 +70,25 @@ cast-result c = omega (arith, few (c .before .before .before .before .before))
 
 returns-3 : tie.Need-returns-3
 returns-3 c =
-    let xs = c .before .before .before .before .before .before .before .before .before .before .before .before .before .before .before .args .bytes .now in
+    let xs = c .before .before .before .before .before .before .before .before .before .before .before .before .before .before
+    .before .args .bytes .now in
     let used = c .before .before .before .before .before .before .before .before .plain-requests in
     let n = used .result .packets in
     let count = count-is (c .before .before .before .before .before .before .before .before .before) in
     let all : n ≡ allPackets (sessionOf xs) = used .ensures .1 ∙ ap (λ (k : ℕ). packetsOf (slice 0 k (sessionOf xs .requests))) count in
     let requests : anyOf isBadRequestEntry 20 (sessionOf xs .head .count) (drop 40 xs) ≡ false =
-    sym (ap (λ (k : ℕ). anyOf isBadRequestEntry 20 k (drop 40 xs)) count) ∙ used .ensures .0 (neither (used .result .bad) _ (c .before .before .before .before .before .if2 .left) .0) in
+    sym (ap (λ (k : ℕ). anyOf isBadRequestEntry 20 k (drop 40 xs)) count) ∙ used .ensures .0
+    (neither (used .result .bad) _ (c .before .before .before .before .before .if2 .left) .0) in
     let fits = c .before .before .are-plain-packets .ensures (c .before .if3 .taken) in
     let whole : n - 0 ≡ n = omega arith in
     let cfg = c .before .before .before .before .before .before .before .before .before .before .config-at in
     λ e.
-    young-counted xs (front (c .before .before .before .before .before .before .before .before .before .before .before)) (live (c .before .before .before .before .before .before .before .before .before .before .before)) (cfg .ensures ∙ config-there xs) (c .before .before .before .before .iso-max-xfer-size .ensures) (c .before .before .before .iso-ring-size .ensures) all
+    young-counted xs (front (c .before .before .before .before .before .before .before .before .before .before .before))
+    (live (c .before .before .before .before .before .before .before .before .before .before .before)) (cfg .ensures ∙ config-there xs)
+    (c .before .before .before .before .iso-max-xfer-size .ensures) (c .before .before .before .iso-ring-size .ensures) all
     (omega (arith, few (c .before .before .before .before .before))) requests (sym (ap (ltb (room (cfg .result))) whole) ∙ fits .0)
-    (sym (ap (λ (k : ℕ). anyOf (isBadPlanEntry (c .before .before .before .before .iso-max-xfer-size .result) (c .before .before .before .iso-ring-size .result)) 7 k (drop 1320 xs)) whole) ∙ fits .1)
+    (sym (ap (λ (k : ℕ). anyOf (isBadPlanEntry (c .before .before .before .before .iso-max-xfer-size .result) (c .before .before
+    .before .iso-ring-size .result)) 7 k (drop 1320 xs)) whole) ∙ fits .1)
 
 returns-4 : tie.Need-returns-4
 returns-4 c = λ e. absurd (omega arith)

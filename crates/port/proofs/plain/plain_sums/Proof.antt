@@ -46,7 +46,8 @@ numbers c =
     let few : h .count ≤ 64 = subst⁻¹ (λ (k : IsoHead). k .count ≤ 64) head (plain .few) in
     let tests = none (ap isBadConfig config ∙ plain .config) (none (none (two .0) (le-ltb 64 (h .count) few)) (two .1)) in
     let size = c .before .before .before .iso-ring-size .ensures ∙ ap slots config in
-    numbers-test (sessionOf (c .before .before .before .before .before .before .before .before .before .args .bytes .now)) config head (sym (plain .lasting)) size refl (state .ensures) tests
+    numbers-test (sessionOf (c .before .before .before .before .before .before .before .before .before .args .bytes .now)) config head
+    (sym (plain .lasting)) size refl (state .ensures) tests
 
 in-range :
     (c : tie.Else2)
@@ -89,10 +90,12 @@ pending-is c = omega (arith, split c)
 
 requests :
     (c : tie.Else4)
-    → let xs = c .before .before .before .before .before .before .before .before .before .before .before .before .before .before .before .before .before .args .bytes .now in
+    → let xs = c .before .before .before .before .before .before .before .before .before .before .before .before .before .before .before
+    .before .before .args .bytes .now in
     anyOf isBadRequestEntry 20 (sessionOf xs .head .count) (drop 40 xs) ≡ false
 requests c =
-    let xs = c .before .before .before .before .before .before .before .before .before .before .before .before .before .before .before .before .before .args .bytes .now in
+    let xs = c .before .before .before .before .before .before .before .before .before .before .before .before .before .before .before .before
+    .before .args .bytes .now in
     let used = c .before .before .before .before .before .plain-requests in
     let plain = neither (used .result .bad) _ (c .if4 .left) .0 in
     let head = head-is (c .before .before .before .before .before .before .before .before .before .before .before .before) in
@@ -105,22 +108,30 @@ few c =
 
 sums : (c : tie.Then6) → isBadSums (sessionOf (c .before .before .before .before .before .before .before .before .before .before .before .before .before .before .before .before .before .before .before .before .before .before .args .bytes .now)) ≡ false
 sums c =
-    let xs = c .before .before .before .before .before .before .before .before .before .before .before .before .before .before .before .before .before .before .before .before .before .before .args .bytes .now in
-    let config = config-is (c .before .before .before .before .before .before .before .before .before .before .before .before .before .before .before .before .before .before) in
+    let xs = c .before .before .before .before .before .before .before .before .before .before .before .before .before .before .before .before
+    .before .before .before .before .before .before .args .bytes .now in
+    let config = config-is
+    (c .before .before .before .before .before .before .before .before .before .before .before .before .before .before .before .before .before
+    .before) in
     let all = all-is (c .before .before .before .before .before .before .before .before .before .before) in
     let pending = pending-is (c .before .before .before .before .before .before .before .before .before) in
     let within = few (c .before .before .before .before .before) in
     let fits = c .before .are-plain-packets .ensures (c .if6 .taken) .0 in
-    sym (sums-test (sessionOf xs) config all pending refl) ∙ none (le-ltb 1024 (c .before .before .before .before .before .before .before .before .before .before .plain-requests .result .packets) within) fits
+    sym (sums-test (sessionOf xs) config all pending refl) ∙ none
+    (le-ltb 1024 (c .before .before .before .before .before .before .before .before .before .before .plain-requests .result .packets) within) fits
 
 -- the plans, of the completed requests and of the pending ones
 good : (c : tie.Then6) → isUnsound (c .before .before .before .before .before .before .before .before .before .before .before .before .before .before .before .before .before .before .before .before .before .before .args .bytes .now) ≡ false
 good c =
-    let xs = c .before .before .before .before .before .before .before .before .before .before .before .before .before .before .before .before .before .before .before .before .before .before .args .bytes .now in
+    let xs = c .before .before .before .before .before .before .before .before .before .before .before .before .before .before .before .before
+    .before .before .before .before .before .before .args .bytes .now in
     let s = sessionOf xs in
-    let config = config-is (c .before .before .before .before .before .before .before .before .before .before .before .before .before .before .before .before .before .before) in
+    let config = config-is
+    (c .before .before .before .before .before .before .before .before .before .before .before .before .before .before .before .before .before
+    .before) in
     let limit = c .before .before .before .before .iso-max-xfer-size in
-    let size = c .before .before .before .before .before .before .before .before .before .before .before .before .before .before .before .before .iso-ring-size in
+    let size = c .before .before .before .before .before .before .before .before .before .before .before .before .before .before .before
+    .before .iso-ring-size in
     let before = c .before .before .before .before .before .before .before .before .before .packets-before .result in
     let all = c .before .before .before .before .before .before .before .before .before .before .plain-requests .result .packets in
     let parts = split (c .before .before .before .before .before .before .before .before .before) in
@@ -135,7 +146,9 @@ good c =
     let limit-is = limit .ensures ∙ ap (λ (k : IsoConfig). packetLimit (k .speed)) config in
     let size-is = size .ensures ∙ ap slots config in
     let numbers-good = numbers (c .before .before .before .before .before .before .before .before .before .before .before .before .before) in
-    let front-good = front (c .before .before .before .before .before .before .before .before .before .before .before .before .before .before .before .before .before .before .before) .before in
+    let front-good = front
+    (c .before .before .before .before .before .before .before .before .before .before .before .before .before .before .before .before .before
+    .before .before) .before in
     let requests-good = requests (c .before .before .before .before .before) in
     let count = all-is (c .before .before .before .before .before .before .before .before .before .before) in
     by-plans xs numbers-good front-good requests-good (sums c)
@@ -212,8 +225,11 @@ cast-any-bad-plan-entry c =
 any-bad-plan-entry-requires : tie.Need-any-bad-plan-entry-requires
 any-bad-plan-entry-requires c κs =
     let parts = split (c .before .before .before .before .before) in
-    let within = few (c .before) in
-    (c .before .before .before .before .before .before .before .before .before .before .before .before .before .before .before .before .before .before .pre, omega (arith, parts, within))
+    let within = few (c .before) in (
+      c .before .before .before .before .before .before .before .before .before .before .before .before .before .before .before .before .before
+          .before .pre,
+      omega (arith, parts, within),
+    )
 
 bad-sums-requires-4 : tie.Need-bad-sums-requires-4
 bad-sums-requires-4 c κs = search needs
@@ -224,8 +240,12 @@ returns-5 c = λ e. absurd (never (sym (c .bad-sums4 .ensures .0) ∙ e))
 are-plain-packets-requires : tie.Need-are-plain-packets-requires
 are-plain-packets-requires c κs =
     let parts = split (c .before .before .before .before .before .before .before) in
-    let within = few (c .before .before .before) in
-    (c .before .before .before .before .before .before .before .before .before .before .before .before .before .before .before .before .before .before .before .before .pre, omega (arith, parts), within)
+    let within = few (c .before .before .before) in (
+      c .before .before .before .before .before .before .before .before .before .before .before .before .before .before .before .before .before
+          .before .before .before .pre,
+      omega (arith, parts),
+      within,
+    )
 
 cast-good-sums : tie.Need-cast-good-sums
 cast-good-sums c = omega (arith, few (c .before .before .before .before .before .before))
@@ -238,7 +258,8 @@ good-sums-requires-2 c κs = search needs
 
 returns-6 : tie.Need-returns-6
 returns-6 c =
-    let xs = c .before .before .before .before .before .before .before .before .before .before .before .before .before .before .before .before .before .before .before .before .before .before .before .before .args .bytes .now in
+    let xs = c .before .before .before .before .before .before .before .before .before .before .before .before .before .before .before .before
+    .before .before .before .before .before .before .before .before .args .bytes .now in
     let all = all-is (c .before .before .before .before .before .before .before .before .before .before .before .before) in
     let pending = pending-is (c .before .before .before .before .before .before .before .before .before .before .before) in
     let passed = good (c .before .before) in

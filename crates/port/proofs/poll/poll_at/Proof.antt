@@ -22,16 +22,21 @@ way-is :
     ≡ pollWay (sessionOf (c .before .before .before .before .before .before .before .args .bytes .now))
     (c .before .before .before .before .before .before .before .args .event)
 way-is c =
-    let xs = c .before .before .before .before .before .before .before .args .bytes .now in
+    let start = c .before .before .before .before .before .before .before in
+    let xs = start .args .bytes .now in
     c .way-of .ensures
-    ∙ ap₂ (λ (h : IsoHead) (f : IsoFatal). wayOf h f (c .before .before .before .before .before .before .before .args .event))
+    ∙ ap₂ (λ (h : IsoHead) (f : IsoFatal). wayOf h f (start .args .event))
     (c .before .before .before .head-at .ensures ∙ head-there xs) (c .before .reason-at .ensures ∙ reason-there xs)
 
 head-at-requires : tie.Need-head-at-requires
-head-at-requires c κs = long-enough (c .before .before .before .args .bytes .now) refl (c .before .before .before .pre .0)
+head-at-requires c κs =
+    let start = c .before .before .before in
+    long-enough (start .args .bytes .now) refl (start .pre .0)
 
 reason-at-requires : tie.Need-reason-at-requires
-reason-at-requires c κs = long-enough (c .before .before .before .before .before .args .bytes .now) refl (c .before .before .before .before .before .pre .0)
+reason-at-requires c κs =
+    let start = c .before .before .before .before .before in
+    long-enough (start .args .bytes .now) refl (start .pre .0)
 
 way-of-requires : tie.Need-way-of-requires
 way-of-requires c κs = search needs
@@ -46,11 +51,12 @@ enum-known-way : tie.Need-enum-known-way
 enum-known-way c = search needs
 
 end-at-requires : tie.Need-end-at-requires
-end-at-requires c κs = (
-  c .before .before .before .before .before .before .before .before .before .before .before .before .pre .0,
-  c .before .before .before .before .before .before .before .before .before .before .before .before .pre .1,
-  c .before .before .before .before .before .before .before .before .before .before .before .before .pre .2,
-)
+end-at-requires c κs =
+    let start = c .before .before .before .before .before .before .before .before .before .before .before .before in (
+      start .pre .0,
+      start .pre .1,
+      start .pre .2,
+    )
 
 said-requires-2 : tie.Need-said-requires-2
 said-requires-2 c κs = search needs
@@ -74,11 +80,12 @@ enum-known-way-3 : tie.Need-enum-known-way-3
 enum-known-way-3 c = search needs
 
 drain-at-requires : tie.Need-drain-at-requires
-drain-at-requires c κs = (
-  c .before .before .before .before .before .before .before .before .before .before .before .before .pre .0,
-  c .before .before .before .before .before .before .before .before .before .before .before .before .pre .1,
-  c .before .before .before .before .before .before .before .before .before .before .before .before .pre .2,
-)
+drain-at-requires c κs =
+    let start = c .before .before .before .before .before .before .before .before .before .before .before .before in (
+      start .pre .0,
+      start .pre .1,
+      start .pre .2,
+    )
 
 said-requires-5 : tie.Need-said-requires-5
 said-requires-5 c κs = search needs
@@ -88,12 +95,13 @@ same-length c = search needs
 
 returns : tie.Need-returns
 returns c =
-    let xs = c .before .before .before .before .before .before .before .before .before .before .args .bytes .now in
-    let ring = c .before .before .before .before .before .before .before .before .before .before .args .ring .now in
-    acted xs ring {w = pollWay (sessionOf xs) (c .before .before .before .before .before .before .before .before .before .before .args .event)}
+    let start = c .before .before .before .before .before .before .before .before .before .before in
+    let xs = start .args .bytes .now in
+    let ring = start .args .ring .now in
+    acted xs ring {w = pollWay (sessionOf xs) (start .args .event)}
     (sym (c .before .enum-told .given .1) ∙ way-is (c .before .before .before)) (c .said .ensures .0) (c .said .ensures .1)
     (same-bytes xs (octets (c .before .before .before .before .before .before .before .before .before))
-    (c .before .before .before .before .before .before .before .before .before .before .pre .0)) refl
+    (start .pre .0)) refl
 
 same-length-2 : tie.Need-same-length-2
 same-length-2 c = search needs
@@ -103,14 +111,17 @@ same-length-3 c = search needs
 
 returns-2 : tie.Need-returns-2
 returns-2 c =
+    let start = c .before .before .before .before .before .before .before .before .before .before .before .before .before .before .before
+    .before .before .before in
     let xs =
-    c .before .before .before .before .before .before .before .before .before .before .before .before .before .before .before .before .before .before .args .bytes .now in
+    start .args .bytes .now in
     let ring =
-    c .before .before .before .before .before .before .before .before .before .before .before .before .before .before .before .before .before .before .args .ring .now in
+    start .args .ring .now in
     acted xs ring {w = pollWay (sessionOf xs)
-    (c .before .before .before .before .before .before .before .before .before .before .before .before .before .before .before .before .before .before .args .event)}
+    (start .args .event)}
     (sym (c .before .before .before .before .before .before .before .before .before .way .given .1)
-    ∙ way-is (c .before .before .before .before .before .before .before .before .before .before .before)) (c .said2 .ensures .0) (c .said2 .ensures .1)
+    ∙ way-is (c .before .before .before .before .before .before .before .before .before .before
+    .before)) (c .said2 .ensures .0) (c .said2 .ensures .1)
     (c .before .before .before .before .before .end-at .ensures .0) (c .before .before .before .before .before .end-at .ensures .1)
 
 same-length-4 : tie.Need-same-length-4
@@ -118,11 +129,13 @@ same-length-4 c = search needs
 
 returns-3 : tie.Need-returns-3
 returns-3 c =
-    let xs = c .before .before .before .before .before .before .before .before .before .before .before .before .before .before .before .args .bytes .now in
-    let ring = c .before .before .before .before .before .before .before .before .before .before .before .before .before .before .before .args .ring .now in
+    let start = c .before .before .before .before .before .before .before .before .before .before .before .before .before .before .before in
+    let xs = start .args .bytes .now in
+    let ring = start .args .ring .now in
     acted xs ring {w = pollWay (sessionOf xs)
-    (c .before .before .before .before .before .before .before .before .before .before .before .before .before .before .before .args .event)}
-    (sym (c .before .before .before .before .before .before .way2 .given .1) ∙ way-is (c .before .before .before .before .before .before .before .before))
+    (start .args .event)}
+    (sym (c .before .before .before .before .before .before .way2 .given .1) ∙ way-is (c .before .before .before .before .before .before
+    .before .before))
     (c .said3 .ensures .0) (c .said3 .ensures .1)
     (c .before .before .before .halt-at .ensures) refl
 
@@ -131,12 +144,13 @@ same-length-5 c = search needs
 
 returns-4 : tie.Need-returns-4
 returns-4 c =
-    let xs = c .before .before .before .before .before .before .before .before .before .before .args .bytes .now in
-    let ring = c .before .before .before .before .before .before .before .before .before .before .args .ring .now in
-    acted xs ring {w = pollWay (sessionOf xs) (c .before .before .before .before .before .before .before .before .before .before .args .event)}
+    let start = c .before .before .before .before .before .before .before .before .before .before in
+    let xs = start .args .bytes .now in
+    let ring = start .args .ring .now in
+    acted xs ring {w = pollWay (sessionOf xs) (start .args .event)}
     (sym (c .before .enum-told2 .given .1) ∙ way-is (c .before .before .before)) (c .said4 .ensures .0) (c .said4 .ensures .1)
     (same-bytes xs (octets (c .before .before .before .before .before .before .before .before .before))
-    (c .before .before .before .before .before .before .before .before .before .before .pre .0)) refl
+    (start .pre .0)) refl
 
 same-length-6 : tie.Need-same-length-6
 same-length-6 c = search needs
@@ -146,14 +160,17 @@ same-length-7 c = search needs
 
 returns-5 : tie.Need-returns-5
 returns-5 c =
+    let start = c .before .before .before .before .before .before .before .before .before .before .before .before .before .before .before
+    .before .before .before in
     let xs =
-    c .before .before .before .before .before .before .before .before .before .before .before .before .before .before .before .before .before .before .args .bytes .now in
+    start .args .bytes .now in
     let ring =
-    c .before .before .before .before .before .before .before .before .before .before .before .before .before .before .before .before .before .before .args .ring .now in
+    start .args .ring .now in
     acted xs ring {w = pollWay (sessionOf xs)
-    (c .before .before .before .before .before .before .before .before .before .before .before .before .before .before .before .before .before .before .args .event)}
+    (start .args .event)}
     (sym (c .before .before .before .before .before .before .before .before .before .way3 .given .1)
-    ∙ way-is (c .before .before .before .before .before .before .before .before .before .before .before)) (c .said5 .ensures .0) (c .said5 .ensures .1)
+    ∙ way-is (c .before .before .before .before .before .before .before .before .before .before
+    .before)) (c .said5 .ensures .0) (c .said5 .ensures .1)
     (c .before .before .before .before .before .drain-at .ensures .0) (c .before .before .before .before .before .drain-at .ensures .1)
 
 pub poll-at-spec : {M : Type 1} → statement M

@@ -28,7 +28,9 @@ abbrev done-by : IsoChannelState → IsoReply
 done-by s = reply answer.Done false false (ended Disconnected s)
 
 lent-refusal-requires : tie.Need-lent-refusal-requires
-lent-refusal-requires c κs = (long-enough (c .before .before .before .args .bytes .now) refl (c .before .before .before .pre .0), c .before .before .before .pre .1)
+lent-refusal-requires c κs =
+    let start = c .before .before .before in
+    (long-enough (start .args .bytes .now) refl (start .pre .0), start .pre .1)
 
 reply-refused-requires : tie.Need-reply-refused-requires
 reply-refused-requires c κs = search needs
@@ -38,11 +40,12 @@ same-length c = search needs
 
 returns : tie.Need-returns
 returns c =
-    let s = sessionOf (c .before .before .before .before .before .before .args .bytes .now) in
-    let ring = c .before .before .before .before .before .before .args .ring .now in
+    let start = c .before .before .before .before .before .before in
+    let s = sessionOf (start .args .bytes .now) in
+    let ring = start .args .ring .now in
     let both =
-    stays (c .before .before .before .before .before .before .args .bytes .now) (octets (c .before .before .before .before .before))
-    (c .before .before .before .before .before .before .pre .0) (recovered s (length ring))
+    stays (start .args .bytes .now) (octets (c .before .before .before .before .before))
+    (start .pre .0) (recovered s (length ring))
     (lent-refused s (length ring) (c .before .before .lent-refusal .ensures) (λ (n : ℕ). refusedReply n s) (done-by s) (c .before .if1 .taken)) refl
     (c .reply-refused .ensures) in (
       both .0,
@@ -52,10 +55,11 @@ returns c =
 
 end-at-requires : tie.Need-end-at-requires
 end-at-requires c κs =
-    let s = sessionOf (c .before .before .before .before .before .before .before .args .bytes .now) in
-    let ring = c .before .before .before .before .before .before .before .args .ring .now in
+    let start = c .before .before .before .before .before .before .before in
+    let s = sessionOf (start .args .bytes .now) in
+    let ring = start .args .ring .now in
     let passed = lent-passed s (length ring) (c .before .before .before .lent-refusal .ensures) (c .before .before .if1 .left) in
-    (c .before .before .before .before .before .before .before .pre .0, passed .1, ltb-false (length ring) (ringWords (s .cfg)) (passed .0))
+    (start .pre .0, passed .1, ltb-false (length ring) (ringWords (s .cfg)) (passed .0))
 
 reply-port-requires : tie.Need-reply-port-requires
 reply-port-requires c κs = search needs
@@ -68,14 +72,15 @@ same-length-3 c = search needs
 
 returns-2 : tie.Need-returns-2
 returns-2 c =
-    let s = sessionOf (c .before .before .before .before .before .before .before .before .before .before .before .before .before .args .bytes .now) in
-    let ring = c .before .before .before .before .before .before .before .before .before .before .before .before .before .args .ring .now in
+    let start = c .before .before .before .before .before .before .before .before .before .before .before .before .before in
+    let s = sessionOf (start .args .bytes .now) in
+    let ring = start .args .ring .now in
     let passed =
     lent-passed s (length ring) (c .before .before .before .before .before .before .before .before .before .lent-refusal .ensures)
     (c .before .before .before .before .before .before .before .before .if1 .left) in
     let whole = lent-done s ring (done-by s) (endedRing s ring) (passed .0) (passed .1) in
     let both =
-    becomes (c .before .before .before .before .before .before .before .before .before .before .before .before .before .args .bytes .now)
+    becomes (start .args .bytes .now)
     (recovered s (length ring)) (whole .0) (c .reply-port .ensures) (c .before .before .before .before .before .end-at .ensures .0) in
     (both .0, both .1, c .before .before .before .before .before .end-at .ensures .1 ∙ sym (whole .1))
 

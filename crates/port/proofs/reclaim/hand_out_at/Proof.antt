@@ -35,10 +35,12 @@ in-table c = omega (arith, in-use c, good c .count-in)
 
 request-is :
     (c : tie.After-request-at)
-    → c .request-at .result ≡ getD (requestsOf (c .before .before .before .before .args .bytes .now)) (c .before .before .before .before .args .at) blankRequest
+    → c .request-at .result ≡ getD (requestsOf (c .before .before .before .before .args .bytes .now))
+    (c .before .before .before .before .args .at) blankRequest
 request-is c =
+    let start = c .before .before .before .before in
     c .request-at .ensures
-    ∙ request-there (c .before .before .before .before .args .bytes .now) (c .before .before .before .before .args .at) blankRequest
+    ∙ request-there (start .args .bytes .now) (start .args .at) blankRequest
     (in-table (c .before .before .before .before))
 
 to-is :
@@ -50,12 +52,13 @@ to-is c = omega (arith, c .before .before .packets-before .ensures, c .packets-a
 
 to-in : (c : tie.After-packets-at) → c .before .before .packets-before .result + c .packets-at .result ≤ 1024
 to-in c =
+    let start = c .before .before .before .before .before .before .before .before in
     let g = good (c .before .before .before .before .before .before .before .before) in
     omega (
       arith,
       to-is c,
-      plans-in (sessionOf (c .before .before .before .before .before .before .before .before .args .bytes .now)) g
-          (c .before .before .before .before .before .before .before .before .args .at)
+      plans-in (sessionOf (start .args .bytes .now)) g
+          (start .args .at)
           (in-use (c .before .before .before .before .before .before .before .before)),
       g .all-few,
     )
@@ -96,9 +99,10 @@ is-done-requires c κs = search needs
 
 hand-results-at-requires : tie.Need-hand-results-at-requires
 hand-results-at-requires c κs =
+    let start = c .before .before .before .before .before .before .before .before .before .before .before in
     let few =
     good (c .before .before .before .before .before .before .before .before .before .before .before) .request
-    (c .before .before .before .before .before .before .before .before .before .before .before .args .at)
+    (start .args .at)
     (in-use (c .before .before .before .before .before .before .before .before .before .before .before)) .few in (
       long (c .before .before .before .before .before .before .before .before .before .before .before),
       omega arith,
@@ -107,20 +111,21 @@ hand-results-at-requires c κs =
         arith,
         few,
         c .before .before .before .packets-at .ensures .0,
-        c .before .before .before .before .before .before .before .before .before .before .before .pre .3,
+        start .pre .3,
       ),
       clear (c .before .before .before),
     )
 
 remove-at-requires : tie.Need-remove-at-requires
-remove-at-requires c κs = (
-  c .before .before .before .before .before .before .before .before .before .before .before .before .before .before .before .pre .0,
-  c .before .before .before .before .before .before .before .before .before .before .before .before .before .before .before .pre .1,
-  c .before .before .before .before .before .before .before .before .before .before .before .before .before .before .before .pre .2,
-  c .before .before .before .before .before .before .before .before .before .packets-before .ensures,
-  to-is (c .before .before .before .before .before .before .before),
-  c .before .before .before .before .before .before .before .before .before .before .before .before .before .before .before .pre .4,
-)
+remove-at-requires c κs =
+    let start = c .before .before .before .before .before .before .before .before .before .before .before .before .before .before .before in (
+      start .pre .0,
+      start .pre .1,
+      start .pre .2,
+      c .before .before .before .before .before .before .before .before .before .packets-before .ensures,
+      to-is (c .before .before .before .before .before .before .before),
+      start .pre .4,
+    )
 
 handed-answer-requires : tie.Need-handed-answer-requires
 handed-answer-requires c κs = search needs
@@ -134,8 +139,10 @@ same-length-2 c = search needs
 returns : tie.Need-returns
 returns c =
     let a =
-    c .before .before .before .before .before .before .before .before .before .before .before .before .before .before .before .before .before .before .before .args in
-    let read = request-is (c .before .before .before .before .before .before .before .before .before .before .before .before .before .before .before) in (
+    c .before .before .before .before .before .before .before .before .before .before .before .before .before .before .before .before .before
+    .before .before .args in
+    let read = request-is
+    (c .before .before .before .before .before .before .before .before .before .before .before .before .before .before .before) in (
       c .handed-answer .ensures ∙ ap handedAnswer read,
       c .before .before .before .remove-at .ensures,
       handed-in-place (sessionOf (a .bytes .now)) (a .at)

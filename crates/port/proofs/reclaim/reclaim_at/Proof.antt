@@ -46,12 +46,13 @@ test-short :
     (length (c .before .before .before .before .before .before .args .results .now))
     ≡ b
 test-short c e =
+    let start = c .before .before .before .before .before .before in
     let words =
     c .ring-words .ensures .0
-    ∙ ap ringWords (c .before .config-at .ensures ∙ config-there (c .before .before .before .before .before .before .args .bytes .now)) in
+    ∙ ap ringWords (c .before .config-at .ensures ∙ config-there (start .args .bytes .now)) in
     ap (λ (n : ℕ).
-    ltb (length (c .before .before .before .before .before .before .args .ring .now)) n
-    || ltb (length (c .before .before .before .before .before .before .args .results .now)) 255) (sym words)
+    ltb (length (start .args .ring .now)) n
+    || ltb (length (start .args .results .now)) 255) (sym words)
     ∙ e
 
 head-is : (c : tie.After-head-at) → c .head-at .result ≡ sessionOf (c .before .before .before .before .before .before .before .before .before .before .args .bytes .now) .head
@@ -59,7 +60,9 @@ head-is c = c .head-at .ensures ∙ head-there (c .before .before .before .befor
 
 place-is : (c : tie.After-place-at) → c .place-at .result ≡ requestAt (c .before .before .before .before .before .before .before .before .before .before .before .before .args .id) (sessionOf (c .before .before .before .before .before .before .before .before .before .before .before .before .args .bytes .now))
 place-is c =
-    c .place-at .ensures ∙ ap (λ (h : IsoHead). placeOf (c .before .before .before .before .before .before .before .before .before .before .before .before .args .id) (slice 0 (h .count) (requestsOf (c .before .before .before .before .before .before .before .before .before .before .before .before .args .bytes .now)))) (head-is (c .before .before))
+    let start = c .before .before .before .before .before .before .before .before .before .before .before .before in
+    c .place-at .ensures ∙ ap (λ (h : IsoHead). placeOf (start .args .id) (slice 0 (h .count) (requestsOf (start .args .bytes .now))))
+    (head-is (c .before .before))
 
 config-at-requires : tie.Need-config-at-requires
 config-at-requires c κs = long (c .before .before .before .before)
@@ -77,9 +80,11 @@ returns : tie.Need-returns
 returns c =
     let a = c .before .before .before .before .before .before .before .before .args in
     let told =
-    reclaim-short (sessionOf (a .bytes .now)) (a .id) (a .event) (a .ring .now) (a .results .now) (test-short (c .before .before) (c .before .if1 .taken))
+    reclaim-short (sessionOf (a .bytes .now)) (a .id) (a .event) (a .ring .now) (a .results .now)
+    (test-short (c .before .before) (c .before .if1 .taken))
     refl in
-    refused-in-place (a .bytes .now) (a .ring .now) (a .results .now) (a .id) (a .event) (same (c .before .before .before .before .before .before .before))
+    refused-in-place (a .bytes .now) (a .ring .now) (a .results .now) (a .id) (a .event)
+    (same (c .before .before .before .before .before .before .before))
     (c .reclaim-refused .ensures) told
 
 reclaim-refused-requires-2 : tie.Need-reclaim-refused-requires-2
@@ -90,8 +95,9 @@ same-length-2 c = search needs
 
 returns-2 : tie.Need-returns-2
 returns-2 c =
-    let a = c .before .before .before .before .before .before .before .before .before .args in
-    let bad = sym (c .before .before .before .before .before .before .before .before .before .pre .1 .bad (c .before .before .before .before .before .before .before .before .before .pre .0)) ∙ c .before .if2 .taken in
+    let start = c .before .before .before .before .before .before .before .before .before in
+    let a = start .args in
+    let bad = sym (start .pre .1 .bad (start .pre .0)) ∙ c .before .if2 .taken in
     let told =
     reclaim-bad (sessionOf (a .bytes .now)) (a .id) (a .event) (a .ring .now) (a .results .now)
     (test-short (c .before .before .before) (c .before .before .if1 .left)) bad refl in
@@ -109,13 +115,14 @@ place-at-requires c κs =
 
 look-at-requires : tie.Need-look-at-requires
 look-at-requires c κs =
-    let a = c .before .before .before .before .before .before .before .before .before .before .before .before .before .before .args in
+    let start = c .before .before .before .before .before .before .before .before .before .before .before .before .before .before in
+    let a = start .args in
     let s = sessionOf (a .bytes .now) in
     let enough =
     neither (ltb (length (a .ring .now)) (ringWords (s .cfg))) (ltb (length (a .results .now)) 255)
     (test-short (c .before .before .before .before .before .before .before .before) (c .before .before .before .before .before .before .before .if1 .left)) in (
-      c .before .before .before .before .before .before .before .before .before .before .before .before .before .before .pre .0,
-      sym (c .before .before .before .before .before .before .before .before .before .before .before .before .before .before .pre .1 .bad (c .before .before .before .before .before .before .before .before .before .before .before .before .before .before .pre .0)) ∙ c .before .before .before .before .before .before .if2 .left,
+      start .pre .0,
+      sym (start .pre .1 .bad (start .pre .0)) ∙ c .before .before .before .before .before .before .if2 .left,
       ltb-false (length (a .ring .now)) (ringWords (s .cfg)) (enough .0),
     )
 
@@ -124,20 +131,26 @@ cast-look-again-at c = search needs
 
 look-again-at-requires : tie.Need-look-again-at-requires
 look-again-at-requires c κs =
-    let start = (c .before .before .before .before .before .before .before .before .before .before .before .before .before .before .before .before .before .before .before .before .before .before) in
+    let start =
+    (c .before .before .before .before .before .before .before .before .before .before .before .before .before .before .before .before .before
+    .before .before .before .before .before) in
     let a = start .args in
     let xs = a .bytes .now in
     let enough =
     neither (ltb (length (a .ring .now)) (ringWords (sessionOf xs .cfg))) (ltb (length (a .results .now)) 255)
     (test-short (c .before .before .before .before .before .before .before .before .before .before .before .before .before .before .before .before)
     (c .before .before .before .before .before .before .before .before .before .before .before .before .before .before .before .if1 .left)) in
-    let g = good start (sym (start .pre .1 .bad (start .pre .0)) ∙ c .before .before .before .before .before .before .before .before .before .before .before .before .before .before .if2 .left) in
+    let g = good start
+    (sym (start .pre .1 .bad (start .pre .0)) ∙ c .before .before .before .before .before .before .before .before .before .before .before
+    .before .before .before .if2 .left) in
     let place = place-is (c .before .before .before .before .before .before .before .before .before .before) in
     let act = c .before .before .before .before .before .before .before .look-at .ensures .0 in (
       looked-layout xs (a .ring .now) (a .results .now) (a .id) (a .event) (start .pre .0) g place act,
       looked-good xs (a .ring .now) (a .results .now) (a .id) (a .event) (start .pre .0) g place act,
       ltb-false (length (a .results .now)) 255 (enough .1),
-      start .pre .1 .all (c .before .before .before .before .before .before .before .before .before .before .before .before .before .before .if2 .left) ∙ sym (looked-all xs (a .ring .now) (a .results .now) (a .id) (a .event) (start .pre .0) g place act),
+      start .pre .1 .all
+          (c .before .before .before .before .before .before .before .before .before .before .before .before .before .before .if2 .left) ∙ sym
+          (looked-all xs (a .ring .now) (a .results .now) (a .id) (a .event) (start .pre .0) g place act),
     )
 
 reclaim-port-requires : tie.Need-reclaim-port-requires
@@ -154,16 +167,23 @@ same-length-5 c = search needs
 
 returns-3 : tie.Need-returns-3
 returns-3 c =
-    let start = (c .before .before .before .before .before .before .before .before .before .before .before .before .before .before .before .before .before .before .before .before .before .before .before .before .before .before .before .before) in
+    let start =
+    (c .before .before .before .before .before .before .before .before .before .before .before .before .before .before .before .before .before
+    .before .before .before .before .before .before .before .before .before .before .before) in
     let a = start .args in
     let fine =
     sym (start .pre .1 .bad (start .pre .0))
-    ∙ c .before .before .before .before .before .before .before .before .before .before .before .before .before .before .before .before .before .before .before .before .if2 .left in
+    ∙ c .before .before .before .before .before .before .before .before .before .before .before .before .before .before .before .before
+    .before .before .before .before .if2 .left in
     let look = c .before .before .before .before .before .before .before .before .before .before .before .before .before .look-at .ensures in
     let again = c .before .before .before .before .before .look-again-at .ensures in
-    done-in-place (a .bytes .now) (a .ring .now) (a .results .now) (a .id) (a .event) (start .pre .0) (good start fine) (place-is (c .before .before .before .before .before .before .before .before .before .before .before .before .before .before .before .before)) (look .0)
-    (test-short (c .before .before .before .before .before .before .before .before .before .before .before .before .before .before .before .before .before .before .before .before .before .before)
-    (c .before .before .before .before .before .before .before .before .before .before .before .before .before .before .before .before .before .before .before .before .before .if1 .left))
+    done-in-place (a .bytes .now) (a .ring .now) (a .results .now) (a .id) (a .event) (start .pre .0) (good start fine)
+    (place-is (c .before .before .before .before .before .before .before .before .before .before .before .before .before .before .before .before))
+    (look .0)
+    (test-short (c .before .before .before .before .before .before .before .before .before .before .before .before .before .before .before
+    .before .before .before .before .before .before .before)
+    (c .before .before .before .before .before .before .before .before .before .before .before .before .before .before .before .before .before
+    .before .before .before .before .if1 .left))
     fine (look .1) (again .0) (again .1) (again .2) (c .reclaim-port .ensures)
 
 pub reclaim-at-spec : {M : Type 1} → statement M

@@ -27,9 +27,11 @@ head-is c = c .head-at .ensures ∙ head-there (c .before .before .before .args 
 
 all-is :
     (c : tie.After-head-at)
-    → c .before .before .before .args .all ≡ packetsOf (slice 0 (c .head-at .result .count) (requestsOf (c .before .before .before .args .bytes .now)))
+    → c .before .before .before .args .all ≡ packetsOf
+    (slice 0 (c .head-at .result .count) (requestsOf (c .before .before .before .args .bytes .now)))
 all-is c =
-    c .before .before .before .pre .5 ∙ ap (λ (h : IsoHead). packetsOf (slice 0 (h .count) (requestsOf (c .before .before .before .args .bytes .now)))) (sym (head-is c))
+    let start = c .before .before .before in
+    start .pre .5 ∙ ap (λ (h : IsoHead). packetsOf (slice 0 (h .count) (requestsOf (start .args .bytes .now)))) (sym (head-is c))
 
 count-in : (c : tie.After-head-at) → c .head-at .result .count ≤ 64
 count-in c = omega (arith, ap (λ (h : IsoHead). h .count) (head-is c), good (c .before .before .before) .count-in)
@@ -92,7 +94,8 @@ returns c =
     let eh = head-is (c .before .before .before .before .before .before .before .before .before .before .before .before .before) in
     let plans = c .before .before .before .before .before .before .before .before .before .before .before .close-plans-at in
     let requests = c .before .before .before .before .before .before .before .close-requests-at in
-    bytes-removed (a .bytes .now) (a .at) (a .from) (a .to) (a .all) (start .pre .0) (good start .count-in) eh (start .pre .3) (start .pre .4) (all-is (c .before .before .before .before .before .before .before .before .before .before .before .before .before))
+    bytes-removed (a .bytes .now) (a .at) (a .from) (a .to) (a .all) (start .pre .0) (good start .count-in) eh (start .pre .3) (start .pre .4)
+    (all-is (c .before .before .before .before .before .before .before .before .before .before .before .before .before))
     (plans .ensures) (requests .ensures) (c .before .before .before .one-less .ensures) (c .before .before .put-head .ensures)
 
 pub remove-at-spec : {M : Type 1} → statement M

@@ -40,16 +40,18 @@ mul-result-2 c = search needs
 
 add-result-2 : tie.Need-add-result-2
 add-result-2 c =
-    let a = c .before .before .before .before .args in
-    omega (arith, c .before .u16-at .ok, c .u16-at2 .ok, status-few (a .bytes .now) (a .at) (c .before .before .byte-at .ensures) (c .before .before .before .before .pre .1))
+    let start = c .before .before .before .before in
+    let a = start .args in
+    omega (arith, c .before .u16-at .ok, c .u16-at2 .ok, status-few (a .bytes .now) (a .at) (c .before .before .byte-at .ensures) (start .pre .1))
 
 cast-result-3 : tie.Need-cast-result-3
 cast-result-3 c = search needs
 
 returns : tie.Need-returns
 returns c =
-    let a = c .before .before .before .before .args in
-    result-is (a .bytes .now) (a .at) (c .before .before .byte-at .ensures) (c .before .before .before .before .pre .1) (c .before .u16-at .ensures) (c .u16-at2 .ensures)
+    let start = c .before .before .before .before in
+    let a = start .args in
+    result-is (a .bytes .now) (a .at) (c .before .before .byte-at .ensures) (start .pre .1) (c .before .u16-at .ensures) (c .u16-at2 .ensures)
 
 pub result-at-spec : {M : Type 1} → statement M
 result-at-spec =

@@ -16,9 +16,10 @@ same-length c = search needs
 
 returns : tie.Need-returns
 returns c =
-    submit-refused (c .before .before .before .before .before .before .before .before .args .session .now)
-    (c .before .before .before .before .before .before .before .before .args .transfer) (c .before .before .before .before .before .before .before .before .args .lengths .now)
-    (c .before .before .before .before .before .before .before .before .args .ring .now) (c .before .before .before .verdict-at .ensures .refusal) (c .before .if1 .taken)
+    let start = c .before .before .before .before .before .before .before .before in
+    submit-refused (start .args .session .now)
+    (start .args .transfer) (start .args .lengths .now)
+    (start .args .ring .now) (c .before .before .before .verdict-at .ensures .refusal) (c .before .if1 .taken)
     (c .submit-refused .ensures)
 
 submit-refused-requires-2 : tie.Need-submit-refused-requires-2
@@ -29,10 +30,11 @@ same-length-2 c = search needs
 
 returns-2 : tie.Need-returns-2
 returns-2 c =
-    submit-kind (c .before .before .before .before .before .before .before .before .before .before .args .session .now)
-    (c .before .before .before .before .before .before .before .before .before .before .args .transfer)
-    (c .before .before .before .before .before .before .before .before .before .before .args .lengths .now)
-    (c .before .before .before .before .before .before .before .before .before .before .args .ring .now) (c .before .before .before .before .before .verdict-at .ensures .refusal)
+    let start = c .before .before .before .before .before .before .before .before .before .before in
+    submit-kind (start .args .session .now)
+    (start .args .transfer)
+    (start .args .lengths .now)
+    (start .args .ring .now) (c .before .before .before .before .before .verdict-at .ensures .refusal)
     (c .before .before .before .if1 .left) (c .before .if2 .taken)
     (c .submit-refused2 .ensures)
 
@@ -52,11 +54,13 @@ same-length-4 c = search needs
 
 returns-3 : tie.Need-returns-3
 returns-3 c =
+    let start = c .before .before .before .before .before .before .before .before .before .before .before .before .before .before .before
+    .before .before in
     submit-done
-    (c .before .before .before .before .before .before .before .before .before .before .before .before .before .before .before .before .before .args .session .now)
-    (c .before .before .before .before .before .before .before .before .before .before .before .before .before .before .before .before .before .args .transfer)
-    (c .before .before .before .before .before .before .before .before .before .before .before .before .before .before .before .before .before .args .lengths .now)
-    (c .before .before .before .before .before .before .before .before .before .before .before .before .before .before .before .before .before .args .ring .now)
+    (start .args .session .now)
+    (start .args .transfer)
+    (start .args .lengths .now)
+    (start .args .ring .now)
     (c .before .before .before .before .before .before .before .before .before .before .before .before .verdict-at .ensures .refusal)
     (c .before .before .before .before .before .before .before .before .before .before .if1 .left)
     (c .before .before .before .before .before .before .before .before .if2 .left)

@@ -29,24 +29,29 @@ some c =
     let xs = c .before .before .before .before .before .before .before .before .args .bytes .now in
     ap (λ (b : Bool). not (eqb (c .before .before .before .before .head-at .result .count) 0) || b)
     (c .has-reason .ensures ∙ ap hasReason (c .before .before .reason-at .ensures ∙ reason-there xs))
-    ∙ ap (λ (h : IsoHead). not (eqb (h .count) 0) || hasReason (sessionOf xs .fatal)) (c .before .before .before .before .head-at .ensures ∙ head-there xs)
+    ∙ ap (λ (h : IsoHead). not (eqb (h .count) 0) || hasReason (sessionOf xs .fatal))
+    (c .before .before .before .before .head-at .ensures ∙ head-there xs)
 
 reply-refused-requires : tie.Need-reply-refused-requires
 reply-refused-requires c κs = search needs
 
 returns : tie.Need-returns
 returns c =
-    let xs = c .before .before .before .args .bytes .now in
-    stays xs (octets (c .before .before)) (c .before .before .before .pre .0) (resetReply (sessionOf xs))
-    (reset-bad (sessionOf xs) (sym (c .before .before .before .pre .1) ∙ c .before .if1 .taken)) refl (c .reply-refused .ensures)
+    let start = c .before .before .before in
+    let xs = start .args .bytes .now in
+    stays xs (octets (c .before .before)) (start .pre .0) (resetReply (sessionOf xs))
+    (reset-bad (sessionOf xs) (sym (start .pre .1) ∙ c .before .if1 .taken)) refl (c .reply-refused .ensures)
 
 head-at-requires : tie.Need-head-at-requires
-head-at-requires c κs = long-enough (c .before .before .before .args .bytes .now) refl (c .before .before .before .pre .0)
+head-at-requires c κs =
+    let start = c .before .before .before in
+    long-enough (start .args .bytes .now) refl (start .pre .0)
 
 reason-at-requires : tie.Need-reason-at-requires
 reason-at-requires c κs =
-    long-enough (c .before .before .before .before .before .args .bytes .now) refl
-    (c .before .before .before .before .before .pre .0)
+    let start = c .before .before .before .before .before in
+    long-enough (start .args .bytes .now) refl
+    (start .pre .0)
 
 has-reason-requires : tie.Need-has-reason-requires
 has-reason-requires c κs = search needs
@@ -59,15 +64,19 @@ same-length c = search needs
 
 returns-2 : tie.Need-returns-2
 returns-2 c =
-    let xs = c .before .before .before .before .before .before .before .before .before .before .args .bytes .now in
+    let start = c .before .before .before .before .before .before .before .before .before .before in
+    let xs = start .args .bytes .now in
     stays xs (octets (c .before .before .before .before .before .before .before .before .before))
-    (c .before .before .before .before .before .before .before .before .before .before .pre .0) (resetReply (sessionOf xs))
-    (reset-full (sessionOf xs) (sym (c .before .before .before .before .before .before .before .before .before .before .pre .1)
-    ∙ c .before .before .before .before .before .before .before .before .if1 .left) (ap not (sym (some (c .before .before)) ∙ c .before .if2 .taken))) refl
+    (start .pre .0) (resetReply (sessionOf xs))
+    (reset-full (sessionOf xs) (sym (start .pre .1)
+    ∙ c .before .before .before .before .before .before .before .before .if1 .left) (ap not
+    (sym (some (c .before .before)) ∙ c .before .if2 .taken))) refl
     (c .reply-refused2 .ensures)
 
 put-u16-requires : tie.Need-put-u16-requires
-put-u16-requires c κs = omega (arith, long-enough (c .before .before .before .before .before .before .before .before .before .before .args .bytes .now) refl (c .before .before .before .before .before .before .before .before .before .before .pre .0))
+put-u16-requires c κs =
+    let start = c .before .before .before .before .before .before .before .before .before .before in
+    omega (arith, long-enough (start .args .bytes .now) refl (start .pre .0))
 
 reply-port-requires : tie.Need-reply-port-requires
 reply-port-requires c κs = search needs
@@ -77,14 +86,17 @@ same-length-2 c = search needs
 
 returns-3 : tie.Need-returns-3
 returns-3 c =
+    let start = c .before .before .before .before .before .before .before .before .before .before .before .before .before .before in
     let xs =
-    c .before .before .before .before .before .before .before .before .before .before .before .before .before .before .args .bytes .now in
+    start .args .bytes .now in
     let s = sessionOf xs in
     becomes xs (resetReply s)
-    (reset-done s (sym (c .before .before .before .before .before .before .before .before .before .before .before .before .before .before .pre .1)
+    (reset-done s (sym (start .pre .1)
     ∙ c .before .before .before .before .before .before .before .before .before .before .before .before .if1 .left)
-    (ap not (sym (some (c .before .before .before .before .before .before)) ∙ c .before .before .before .before .before .if2 .left))) (c .reply-port .ensures)
-    (cursor-here xs (octets (c .before .before .before .before .before .before .before .before .before .before .before .before .before)) (c .before .before .before .before .before .before .before .before .before .before .before .before .before .before .pre .0) 0 (c .before .before .before .put-u16 .ensures))
+    (ap not (sym (some (c .before .before .before .before .before .before)) ∙ c .before .before .before .before
+    .before .if2 .left))) (c .reply-port .ensures)
+    (cursor-here xs (octets (c .before .before .before .before .before .before .before .before .before .before .before .before
+    .before)) (start .pre .0) 0 (c .before .before .before .put-u16 .ensures))
 
 pub reset-at-spec : {M : Type 1} → statement M
 reset-at-spec =

@@ -31,10 +31,13 @@ same-length c = search needs
 returns : tie.Need-returns
 returns c =
     let a =
-    c .before .before .before .before .before .before .before .before .before .before .before .before .before .before .before .before .before .before .before .before .args in
+    c .before .before .before .before .before .before .before .before .before .before .before .before .before .before .before .before .before
+    .before .before .before .args in
     config-put (a .bytes .now) (a .cfg)
-    (c .before .before .before .before .before .before .before .before .before .before .before .before .before .before .before .before .before .speed-tag .ensures)
-    (c .before .before .before .before .before .before .before .before .before .before .before .before .before .before .before .before .direction-tag .ensures)
+    (c .before .before .before .before .before .before .before .before .before .before .before .before .before .before .before .before
+    .before .speed-tag .ensures)
+    (c .before .before .before .before .before .before .before .before .before .before .before .before .before .before .before
+    .before .direction-tag .ensures)
     (c .before .before .before .before .before .before .before .before .before .before .before .before .before .before .before .mode-tag .ensures)
     (c .before .before .before .before .before .before .before .before .before .before .before .before .before .before .put-three .ensures)
     (c .before .before .before .before .before .before .before .before .before .before .put-u16 .ensures)

@@ -24,10 +24,12 @@ abbrev μ-loop : tie.MeasureT-loop
 here :
     (c : tie.After-is-bad-plan Inv-loop μ-loop)
     → let a = c .before .before .before .before .before .before .args in
-    (c .before .before .is-bad-plan-at .result || c .is-bad-plan .result) ≡ isBadPlanEntry (a .limit) (a .slots) (drop (c .before .before .before .before .loop .at) (a .bytes .now))
+    (c .before .before .is-bad-plan-at .result || c .is-bad-plan .result) ≡ isBadPlanEntry (a .limit) (a .slots)
+    (drop (c .before .before .before .before .loop .at) (a .bytes .now))
 here c =
     let a = c .before .before .before .before .before .before .args in
-    ap₂ (λ (x y : Bool). x || y) (c .before .before .is-bad-plan-at .ensures) (c .is-bad-plan .ensures ∙ ap (isBadPlan (a .limit) (a .slots)) (c .before .plan-at .ensures))
+    ap₂ (λ (x y : Bool). x || y) (c .before .before .is-bad-plan-at .ensures)
+    (c .is-bad-plan .ensures ∙ ap (isBadPlan (a .limit) (a .slots)) (c .before .plan-at .ensures))
 
 loop-holds : tie.Need-loop-holds Inv-loop μ-loop
 loop-holds c =

@@ -40,7 +40,8 @@ numbers-are c b e =
     let xs = c .before .before .before .before .before .before .before .before .before .before .before .args .bytes .now in
     let config = config-is (c .before .before .before .before .before .before .before) in
     let head = head-is (c .before .before .before .before .before .before) in
-    numbers-test (sessionOf xs) config head (c .before .reason-at .ensures ∙ reason-there xs) (c .before .before .before .before .before .iso-ring-size .ensures ∙ ap slots config)
+    numbers-test (sessionOf xs) config head (c .before .reason-at .ensures ∙ reason-there xs)
+    (c .before .before .before .before .before .iso-ring-size .ensures ∙ ap slots config)
     (c .before .before .is-bad-config .ensures) (c .is-bad-state .ensures) e
 
 numbers : (c : tie.Else2) → isBadNumbers (sessionOf (c .before .before .before .before .before .before .before .before .before .before .before .before .args .bytes .now)) ≡ false
@@ -49,34 +50,41 @@ numbers c = numbers-are (c .before) false (c .if2 .left)
 in-range : (c : tie.Else2) → let head = c .before .before .before .before .before .before .before .head-at .result in (head .done ≤ head .count) × (head .count ≤ 64)
 in-range c =
     let head = head-is (c .before .before .before .before .before .before .before) in
-    let within = counts (c .before .before .before .before .before .before .before .before .before .before .before .before .args .bytes .now) (numbers c) in
+    let within = counts (c .before .before .before .before .before .before .before .before .before .before .before .before .args .bytes .now)
+    (numbers c) in
     subst⁻¹ (λ (h : IsoHead). (h .done ≤ h .count) × (h .count ≤ 64)) head within
 
 -- the requests, and their packets
 requests-are :
     (c : tie.After-requests-checked)
-    → let xs = c .before .before .before .before .before .before .before .before .before .before .before .before .before .before .before .args .bytes .now in
+    → let xs = c .before .before .before .before .before .before .before .before .before .before .before .before .before .before
+    .before .args .bytes .now in
     c .requests-checked .result .bad ≡ anyOf isBadRequestEntry 20 (sessionOf xs .head .count) (drop 40 xs)
 requests-are c =
-    let xs = c .before .before .before .before .before .before .before .before .before .before .before .before .before .before .before .args .bytes .now in
+    let xs = c .before .before .before .before .before .before .before .before .before .before .before .before .before .before
+    .before .args .bytes .now in
     let head = head-is (c .before .before .before .before .before .before .before .before .before .before) in
     c .requests-checked .ensures .0 ∙ ap (λ (h : IsoHead). anyOf isBadRequestEntry 20 (h .count) (drop 40 xs)) head
 
 all-is :
     (c : tie.Else4)
-    → let xs = c .before .before .before .before .before .before .before .before .before .before .before .before .before .before .before .before .args .bytes .now in
+    → let xs = c .before .before .before .before .before .before .before .before .before .before .before .before .before .before .before
+    .before .args .bytes .now in
     c .before .requests-checked .result .packets ≡ allPackets (sessionOf xs)
 all-is c =
-    let xs = c .before .before .before .before .before .before .before .before .before .before .before .before .before .before .before .before .args .bytes .now in
+    let xs = c .before .before .before .before .before .before .before .before .before .before .before .before .before .before .before
+    .before .args .bytes .now in
     let head = head-is (c .before .before .before .before .before .before .before .before .before .before .before) in
     c .before .requests-checked .ensures .1 (c .if4 .left) ∙ ap (λ (h : IsoHead). packetsOf (slice 0 (h .count) (sessionOf xs .requests))) head
 
 split :
     (c : tie.After-packets-before)
-    → let xs = c .before .before .before .before .before .before .before .before .before .before .before .before .before .before .before .before .before .args .bytes .now in
+    → let xs = c .before .before .before .before .before .before .before .before .before .before .before .before .before .before .before
+    .before .before .args .bytes .now in
     c .before .before .requests-checked .result .packets ≡ c .packets-before .result + pendingPackets (sessionOf xs)
 split c =
-    let xs = c .before .before .before .before .before .before .before .before .before .before .before .before .before .before .before .before .before .args .bytes .now in
+    let xs = c .before .before .before .before .before .before .before .before .before .before .before .before .before .before .before .before
+    .before .args .bytes .now in
     let s = sessionOf xs in
     let head = head-is (c .before .before .before .before .before .before .before .before .before .before .before .before) in
     let within = counts xs (numbers (c .before .before .before .before .before)) in
@@ -87,48 +95,64 @@ split c =
 
 pending-is :
     (c : tie.After-packets-before)
-    → let xs = c .before .before .before .before .before .before .before .before .before .before .before .before .before .before .before .before .before .args .bytes .now in
+    → let xs = c .before .before .before .before .before .before .before .before .before .before .before .before .before .before .before
+    .before .before .args .bytes .now in
     c .before .before .requests-checked .result .packets - c .packets-before .result ≡ pendingPackets (sessionOf xs)
 pending-is c = omega (arith, split c)
 
 sums-are :
     (c : tie.After-is-over-room)
-    → let xs = c .before .before .before .before .before .before .before .before .before .before .before .before .before .before .before .before .before .before .before .before .args .bytes .now in
+    → let xs = c .before .before .before .before .before .before .before .before .before .before .before .before .before .before .before
+    .before .before .before .before .before .args .bytes .now in
     (ltb 1024 (c .before .before .before .before .before .requests-checked .result .packets) || c .is-over-room .result) ≡ isBadSums (sessionOf xs)
 sums-are c =
-    let xs = c .before .before .before .before .before .before .before .before .before .before .before .before .before .before .before .before .before .before .before .before .args .bytes .now in
-    let config = config-is (c .before .before .before .before .before .before .before .before .before .before .before .before .before .before .before .before) in
+    let xs = c .before .before .before .before .before .before .before .before .before .before .before .before .before .before .before .before
+    .before .before .before .before .args .bytes .now in
+    let config = config-is
+    (c .before .before .before .before .before .before .before .before .before .before .before .before .before .before .before .before) in
     sums-test (sessionOf xs) config (all-is (c .before .before .before .before)) (pending-is (c .before .before .before)) (c .is-over-room .ensures)
 
 sums :
     (c : tie.Else5)
-    → let xs = c .before .before .before .before .before .before .before .before .before .before .before .before .before .before .before .before .before .before .before .before .before .args .bytes .now in
+    → let xs = c .before .before .before .before .before .before .before .before .before .before .before .before .before .before .before
+    .before .before .before .before .before .before .args .bytes .now in
     isBadSums (sessionOf xs) ≡ false
 sums c = sym (sums-are (c .before)) ∙ c .if5 .left
 
 few : (c : tie.Else5) → c .before .before .before .before .before .before .requests-checked .result .packets ≤ 1024
 few c =
-    let xs = c .before .before .before .before .before .before .before .before .before .before .before .before .before .before .before .before .before .before .before .before .before .args .bytes .now in
+    let xs = c .before .before .before .before .before .before .before .before .before .before .before .before .before .before .before .before
+    .before .before .before .before .before .args .bytes .now in
     subst⁻¹ (λ (n : ℕ). n ≤ 1024) (all-is (c .before .before .before .before .before)) (sums-few (sessionOf xs) (sums c))
 
 -- the plans, which decide
 plans-are :
     (c : tie.After-any-bad-plan-entry)
-    → let xs = c .before .before .before .before .before .before .before .before .before .before .before .before .before .before .before .before .before .before .before .before .before .before .before .before .args .bytes .now in
+    → let xs = c .before .before .before .before .before .before .before .before .before .before .before .before .before .before .before
+    .before .before .before .before .before .before .before .before .before .args .bytes .now in
     c .any-bad-plan-entry .result ≡ isUnsound xs
 plans-are c =
-    let xs = c .before .before .before .before .before .before .before .before .before .before .before .before .before .before .before .before .before .before .before .before .before .before .before .before .args .bytes .now in
+    let xs = c .before .before .before .before .before .before .before .before .before .before .before .before .before .before .before .before
+    .before .before .before .before .before .before .before .before .args .bytes .now in
     let s = sessionOf xs in
-    let config = config-is (c .before .before .before .before .before .before .before .before .before .before .before .before .before .before .before .before .before .before .before .before) in
+    let config = config-is
+    (c .before .before .before .before .before .before .before .before .before .before .before .before .before .before .before .before .before
+    .before .before .before) in
     let limit = c .before .iso-max-xfer-size .ensures ∙ ap (λ (k : IsoConfig). packetLimit (k .speed)) config in
-    let size = c .before .before .before .before .before .before .before .before .before .before .before .before .before .before .before .before .before .before .iso-ring-size .ensures ∙ ap slots config in
-    let front = before (c .before .before .before .before .before .before .before .before .before .before .before .before .before .before .before .before .before .before .before .before .before) in
+    let size = c .before .before .before .before .before .before .before .before .before .before .before .before .before .before .before
+    .before .before .before .iso-ring-size .ensures ∙ ap slots config in
+    let front = before
+    (c .before .before .before .before .before .before .before .before .before .before .before .before .before .before .before .before .before
+    .before .before .before .before) in
     let used = c .before .before .before .before .before .before .before .before .before .requests-checked .result in
-    let requests = sym (requests-are (c .before .before .before .before .before .before .before .before .before)) ∙ c .before .before .before .before .before .before .before .before .if4 .left in
+    let requests = sym (requests-are (c .before .before .before .before .before .before .before .before .before))
+    ∙ c .before .before .before .before .before .before .before .before .if4 .left in
     c .any-bad-plan-entry .ensures
     ∙ ap₂ (λ (l z : ℕ). anyOf (isBadPlanEntry l z) 7 (used .packets) (drop 1320 xs)) limit size
-    ∙ ap (λ (n : ℕ). anyOf (isBadPlanEntry (packetLimit (s .cfg .speed)) (slots (s .cfg))) 7 n (drop 1320 xs)) (all-is (c .before .before .before .before .before .before .before .before))
-    ∙ sym (by-plans xs (numbers (c .before .before .before .before .before .before .before .before .before .before .before .before)) front requests (sums (c .before .before .before)))
+    ∙ ap (λ (n : ℕ). anyOf (isBadPlanEntry (packetLimit (s .cfg .speed)) (slots (s .cfg))) 7 n (drop 1320 xs))
+    (all-is (c .before .before .before .before .before .before .before .before))
+    ∙ sym (by-plans xs (numbers (c .before .before .before .before .before .before .before .before .before .before .before
+    .before)) front requests (sums (c .before .before .before)))
 
 is-bad-front-requires : tie.Need-is-bad-front-requires
 is-bad-front-requires c κs = search needs
@@ -139,7 +163,8 @@ bad-sums-requires c κs = search needs
 returns : tie.Need-returns
 returns c =
     let xs = c .before .before .before .before .args .bytes .now in
-    bad-sounded xs (c .bad-sums .result) (c .bad-sums .ensures .0) (bad-before xs (sym (c .before .before .is-bad-front .ensures) ∙ c .before .if1 .taken))
+    bad-sounded xs (c .bad-sums .result) (c .bad-sums .ensures .0)
+    (bad-before xs (sym (c .before .before .is-bad-front .ensures) ∙ c .before .if1 .taken))
 
 config-at-requires : tie.Need-config-at-requires
 config-at-requires c κs = search needs
@@ -172,11 +197,13 @@ good-sums-requires c κs = search needs
 
 returns-3 : tie.Need-returns-3
 returns-3 c =
-    let xs = c .before .before .before .before .before .before .before .before .before .before .before .before .before .before .before .args .bytes .now in
+    let xs = c .before .before .before .before .before .before .before .before .before .before .before .before .before .before
+    .before .args .bytes .now in
     let head = head-is (c .before .before .before .before .before .before .before .before .before .before) in
     let front = before (c .before .before .before .before .before .before .before .before .before .before .before .before) in
     let idle = sym (ap (λ (h : IsoHead). h .count) head) ∙ c .before .if3 .taken in
-    good-sounded xs (c .good-sums .result) (c .good-sums .ensures) (idle-all xs idle) (idle-pending xs idle) (idle-good xs idle (numbers (c .before .before .before)) front)
+    good-sounded xs (c .good-sums .result) (c .good-sums .ensures) (idle-all xs idle) (idle-pending xs idle)
+    (idle-good xs idle (numbers (c .before .before .before)) front)
 
 requests-checked-requires : tie.Need-requests-checked-requires
 requests-checked-requires c κs = (c .before .before .before .before .before .before .before .before .before .before .before .before .before .before .pre, in-range (c .before .before) .1)
@@ -186,7 +213,8 @@ bad-sums-requires-3 c κs = search needs
 
 returns-4 : tie.Need-returns-4
 returns-4 c =
-    let xs = c .before .before .before .before .before .before .before .before .before .before .before .before .before .before .before .before .before .args .bytes .now in
+    let xs = c .before .before .before .before .before .before .before .before .before .before .before .before .before .before .before .before
+    .before .args .bytes .now in
     let bad = sym (requests-are (c .before .before)) ∙ c .before .if4 .taken in
     bad-sounded xs (c .bad-sums3 .result) (c .bad-sums3 .ensures .0) (bad-request xs (numbers (c .before .before .before .before .before)) bad)
 
@@ -204,7 +232,8 @@ bad-sums-requires-4 c κs = search needs
 
 returns-5 : tie.Need-returns-5
 returns-5 c =
-    let xs = c .before .before .before .before .before .before .before .before .before .before .before .before .before .before .before .before .before .before .before .before .before .before .args .bytes .now in
+    let xs = c .before .before .before .before .before .before .before .before .before .before .before .before .before .before .before .before
+    .before .before .before .before .before .before .args .bytes .now in
     bad-sounded xs (c .bad-sums4 .result) (c .bad-sums4 .ensures .0) (bad-sums xs (sym (sums-are (c .before .before)) ∙ c .before .if5 .taken))
 
 cast-all : tie.Need-cast-all
@@ -221,7 +250,8 @@ bad-sums-requires-5 c κs = search needs
 
 returns-6 : tie.Need-returns-6
 returns-6 c =
-    let xs = c .before .before .before .before .before .before .before .before .before .before .before .before .before .before .before .before .before .before .before .before .before .before .before .before .before .before .args .bytes .now in
+    let xs = c .before .before .before .before .before .before .before .before .before .before .before .before .before .before .before .before
+    .before .before .before .before .before .before .before .before .before .before .args .bytes .now in
     bad-sounded xs (c .bad-sums5 .result) (c .bad-sums5 .ensures .0) (sym (plans-are (c .before .before)) ∙ c .before .if6 .taken)
 
 cast-good-sums : tie.Need-cast-good-sums
@@ -232,7 +262,8 @@ good-sums-requires-2 c κs = search needs
 
 returns-7 : tie.Need-returns-7
 returns-7 c =
-    let xs = c .before .before .before .before .before .before .before .before .before .before .before .before .before .before .before .before .before .before .before .before .before .before .before .before .before .before .args .bytes .now in
+    let xs = c .before .before .before .before .before .before .before .before .before .before .before .before .before .before .before .before
+    .before .before .before .before .before .before .before .before .before .before .args .bytes .now in
     let all = all-is (c .before .before .before .before .before .before .before .before .before .before) in
     let pending = pending-is (c .before .before .before .before .before .before .before .before .before) in
     good-sounded xs (c .good-sums2 .result) (c .good-sums2 .ensures) all pending (sym (plans-are (c .before .before)) ∙ c .before .if6 .left)

@@ -25,9 +25,10 @@ octets c i = omega (arith, c .slice-known .given i)
 -- the parts that were read, with the tables
 abbrev read : tie.After-fatal-of → IsoChannelState
 read c =
+    let start = c .before .before .before .before .before .before .before .before .before .before in
     whole (c .before .before .before .before .before .config-at .result) (c .before .before .before .head-at .result) (c .fatal-of .result)
-    (sessionOf (c .before .before .before .before .before .before .before .before .before .before .args .bytes .now) .requests)
-    (sessionOf (c .before .before .before .before .before .before .before .before .before .before .args .bytes .now) .plans)
+    (sessionOf (start .args .bytes .now) .requests)
+    (sessionOf (start .args .bytes .now) .plans)
 
 read-is : (c : tie.After-fatal-of) → read c ≡ sessionOf (c .before .before .before .before .before .before .before .before .before .before .args .bytes .now)
 read-is c =
@@ -43,12 +44,14 @@ asked :
     (c .before .before .before .before .before .before .before .before .before .before .before .before .before .args .ring .now) (c .scan-of .result)
 asked c =
     let a = c .before .before .before .before .before .before .before .before .before .before .before .before .before .args in
-    subst⁻¹ (λ (s : IsoChannelState). Asked s (a .transfer) (a .lengths .now) (a .ring .now) (c .scan-of .result)) (read-is (c .before .before .before))
+    subst⁻¹ (λ (s : IsoChannelState). Asked s (a .transfer) (a .lengths .now) (a .ring .now) (c .scan-of .result))
+    (read-is (c .before .before .before))
     (c .scan-of .ensures)
 
 parted :
     (c : tie.After-submit-parts)
-    → Parted (sessionOf (c .before .before .before .before .before .before .before .before .before .before .before .before .before .before .before .args .bytes .now))
+    → Parted (sessionOf (c .before .before .before .before .before .before .before .before .before .before .before .before .before .before
+    .before .args .bytes .now))
     (c .before .before .before .before .before .before .before .before .before .before .before .before .before .before .before .args .transfer)
     (c .before .before .before .before .before .before .before .before .before .before .before .before .before .before .before .args .lengths .now)
     (c .before .before .before .before .before .before .before .before .before .before .before .before .before .before .before .args .ring .now)
@@ -56,7 +59,8 @@ parted :
 parted c =
     let a = c .before .before .before .before .before .before .before .before .before .before .before .before .before .before .before .args in
     let s = sessionOf (a .bytes .now) in
-    subst (λ (s : IsoChannelState). Parted s (a .transfer) (a .lengths .now) (a .ring .now) (c .submit-parts .result)) (read-is (c .before .before .before .before .before))
+    subst (λ (s : IsoChannelState). Parted s (a .transfer) (a .lengths .now) (a .ring .now) (c .submit-parts .result))
+    (read-is (c .before .before .before .before .before))
     (c .submit-parts .ensures (s .requests) (s .plans) (asked (c .before .before)) .0)
 
 config-at-requires : tie.Need-config-at-requires
@@ -83,7 +87,8 @@ submit-parts-requires c κs = search needs
 put-added-requires : tie.Need-put-added-requires
 put-added-requires c κs =
     let p = parted (c .before .before .before) in (
-      c .before .before .before .before .before .before .before .before .before .before .before .before .before .before .before .before .before .before .pre .0,
+      c .before .before .before .before .before .before .before .before .before .before .before .before .before .before .before .before
+          .before .before .pre .0,
       ap (λ (s : IsoChannelState). s .head) (read-is (c .before .before .before .before .before .before .before .before)),
       p .some-slots,
       p .fitting,
@@ -94,7 +99,8 @@ put-head-requires : tie.Need-put-head-requires
 put-head-requires c κs =
     omega (
       arith,
-      long (c .before .before .before .before .before .before .before .before .before .before .before .before .before .before .before .before .before .before .before .before .before .before .before),
+      long (c .before .before .before .before .before .before .before .before .before .before .before .before .before .before .before .before
+          .before .before .before .before .before .before .before),
       c .before .before .before .before .put-added .kept .0,
     )
 
@@ -109,18 +115,25 @@ same-length-2 c = search needs
 
 returns : tie.Need-returns
 returns c =
-    let a = c .before .before .before .before .before .before .before .before .before .before .before .before .before .before .before .before .before .before .before .before .before .before .before .before .before .before .before .before .args in
+    let start = c .before .before .before .before .before .before .before .before .before .before .before .before .before .before .before
+    .before .before .before .before .before .before .before .before .before .before .before .before .before in
+    let a = start .args in
     let s = sessionOf (a .bytes .now) in
     let r = c .before .before .before .before .before .before .before .before .before .before .before .before .before .submit-parts in
     let p = parted (c .before .before .before .before .before .before .before .before .before .before .before .before .before) in (
       c .submit-port .ensures ∙ ap submittedPort (p .joins),
       numbers-put (a .bytes .now)
-          (octets (c .before .before .before .before .before .before .before .before .before .before .before .before .before .before .before .before .before .before .before .before .before .before .before .before .before .before .before))
-          (c .before .before .before .before .before .before .before .before .before .before .before .before .before .before .before .before .before .before .before .before .before .before .before .before .before .before .before .before .pre .0)
-          (a .lengths .now) (r .result) (a .transfer) (a .ring .now) (c .before .before .before .before .before .before .before .before .before .put-added .ensures) (c .before .before .before .before .put-head .ensures) (p .joins),
-      r .ensures (s .requests) (s .plans) (asked (c .before .before .before .before .before .before .before .before .before .before .before .before .before .before .before)) .1
+          (octets (c .before .before .before .before .before .before .before .before .before .before .before .before .before .before .before
+          .before .before .before .before .before .before .before .before .before .before .before .before))
+          (start .pre .0)
+          (a .lengths .now) (r .result) (a .transfer) (a .ring .now)
+          (c .before .before .before .before .before .before .before .before .before .put-added .ensures)
+          (c .before .before .before .before .put-head .ensures) (p .joins),
+      r .ensures (s .requests) (s .plans)
+          (asked (c .before .before .before .before .before .before .before .before .before .before .before .before .before .before .before)) .1
           ∙ ap (λ (s : IsoChannelState). submittedRing s (a .transfer) (a .lengths .now) (a .ring .now))
-          (read-is (c .before .before .before .before .before .before .before .before .before .before .before .before .before .before .before .before .before .before)),
+          (read-is (c .before .before .before .before .before .before .before .before .before .before .before .before .before .before .before
+          .before .before .before)),
     )
 
 pub submit-at-spec : {M : Type 1} → statement M

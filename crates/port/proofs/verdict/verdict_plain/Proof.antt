@@ -17,7 +17,10 @@ good-requires : tie.Need-good-requires
 good-requires c κs = search needs
 
 returns-2 : tie.Need-returns-2
-returns-2 c = let sums = c .before .before .plain-sums in told-good (c .before .before .before .before .args .bytes .now) (c .before .before .before .before .pre) (sums .result) (sums .ensures (c .before .if1 .left)) (c .before .if1 .left) (c .good2 .ensures)
+returns-2 c =
+    let start = c .before .before .before .before in
+    let sums = c .before .before .plain-sums in told-good (start .args .bytes .now) (start .pre) (sums .result) (sums .ensures (c .before .if1 .left))
+    (c .before .if1 .left) (c .good2 .ensures)
 
 pub verdict-plain-spec : {M : Type 1} → statement M
 verdict-plain-spec =

@@ -17,15 +17,19 @@ refused-requires c κs = search needs
 
 returns : tie.Need-returns
 returns c =
+    let start = c .before .before .before .before .before in
     let sums = c .before .before .before .sums-at in
-    told-bad (c .before .before .before .before .before .args .bytes .now) (c .before .before .before .before .before .pre) (sums .result) (sums .ensures) (c .before .before .if1 .taken)
+    told-bad (start .args .bytes .now) (start .pre) (sums .result) (sums .ensures) (c .before .before .if1 .taken)
     (c .refused .ensures ∙ ap refusedNumber (c .before .layout-refusal .ensures))
 
 good-requires : tie.Need-good-requires
 good-requires c κs = search needs
 
 returns-2 : tie.Need-returns-2
-returns-2 c = let sums = c .before .before .sums-at in told-good (c .before .before .before .before .args .bytes .now) (c .before .before .before .before .pre) (sums .result) (sums .ensures) (c .before .if1 .left) (c .good2 .ensures)
+returns-2 c =
+    let start = c .before .before .before .before in
+    let sums = c .before .before .sums-at in told-good (start .args .bytes .now) (start .pre) (sums .result) (sums .ensures) (c .before .if1 .left)
+    (c .good2 .ensures)
 
 pub verdict-whole-spec : {M : Type 1} → statement M
 verdict-whole-spec =
