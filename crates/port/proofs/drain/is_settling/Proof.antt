@@ -31,16 +31,24 @@ done-is c = c .u16-at .ensures ∙ done-there (c .before .before .before .args .
 count-is : (c : tie.After-u16-at2) → c .u16-at2 .result ≡ sessionOf (c .before .before .before .before .args .bytes .now) .head .count
 count-is c = c .u16-at2 .ensures ∙ count-there (c .before .before .before .before .args .bytes .now)
 
-pending : (c : tie.Else1) → sessionOf (c .before .before .before .before .before .args .bytes .now) .head .done < sessionOf (c .before .before .before .before .before .args .bytes .now) .head .count
+pending :
+    (c : tie.Else1)
+    → let head = sessionOf (c .before .before .before .before .before .args .bytes .now) .head in head .done < head .count
 pending c = omega (arith, done-is (c .before .before), count-is (c .before), c .if1 .left)
 
-ends : (c : tie.After-packets-at) → c .before .before .before .before .before .before .args .before + c .packets-at .result ≡ oldestTo (sessionOf (c .before .before .before .before .before .before .args .bytes .now))
+ends :
+    (c : tie.After-packets-at)
+    → let start = c .before .before .before .before .before .before in start .args .before + c .packets-at .result
+    ≡ oldestTo (sessionOf (start .args .bytes .now))
 ends c =
     let start = c .before .before .before .before .before .before in
     oldest-ends (sessionOf (start .args .bytes .now)) (start .args .before) (c .before .before .before .u16-at .result) (c .packets-at .result)
     (start .pre .2) (done-is (c .before .before .before)) (c .packets-at .ensures .0)
 
-ends-in : (c : tie.After-packets-at) → (0 < oldestTo (sessionOf (c .before .before .before .before .before .before .args .bytes .now))) × (oldestTo (sessionOf (c .before .before .before .before .before .before .args .bytes .now)) ≤ 1024)
+ends-in :
+    (c : tie.After-packets-at)
+    → let start = c .before .before .before .before .before .before in (0 < oldestTo (sessionOf (start .args .bytes .now)))
+    × (oldestTo (sessionOf (start .args .bytes .now)) ≤ 1024)
 ends-in c =
     let s = sessionOf (c .before .before .before .before .before .before .args .bytes .now) in
     let g = good (c .before .before .before .before .before .before) in
@@ -63,7 +71,10 @@ cast-packets-at : tie.Need-cast-packets-at
 cast-packets-at c = search needs
 
 packets-at-requires : tie.Need-packets-at-requires
-packets-at-requires c κs = (long (c .before .before .before .before .before), omega (arith, done-is (c .before .before), pending c, good (c .before .before .before .before .before) .count-in))
+packets-at-requires c κs = (
+  long (c .before .before .before .before .before),
+  omega (arith, done-is (c .before .before), pending c, good (c .before .before .before .before .before) .count-in),
+)
 
 add-to : tie.Need-add-to
 add-to c = omega (arith, ends c, ends-in c .1)

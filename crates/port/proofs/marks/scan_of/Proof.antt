@@ -49,7 +49,9 @@ add-plan-at : tie.Need-add-plan-at
 add-plan-at c = search needs
 
 plan-at-requires : tie.Need-plan-at-requires
-plan-at-requires c κs = let start = c .before .before .before .before .before in omega (arith, newest-below c, long-enough (start .args .bytes .now) refl (start .pre .0))
+plan-at-requires c κs =
+    let start = c .before .before .before .before .before in
+    omega (arith, newest-below c, long-enough (start .args .bytes .now) refl (start .pre .0))
 
 insert-of-requires : tie.Need-insert-of-requires
 insert-of-requires c κs = search needs
@@ -59,8 +61,7 @@ clash-at-requires c κs =
     let start = c .before .before .before .before .before .before .before in
     let left = c .before .before .before .if1 .left in (
       long-enough (start .args .bytes .now) refl (start .pre .0),
-      good (c .before .before
-          .before),
+      good (c .before .before .before),
       start .pre .1 .all left,
       start .pre .1 .pending left,
     )

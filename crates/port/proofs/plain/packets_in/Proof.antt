@@ -33,7 +33,10 @@ count-is : (c : tie.After-u16-at) → c .u16-at .result ≡ sessionOf (c .before
 count-is c = c .u16-at .ensures ∙ count-there (c .before .before .before .before .before .before .args .bytes .now)
 
 few : (c : tie.Else2) → c .before .before .before .plain-requests .result .packets ≤ 255
-few c = let used = c .before .before .before .plain-requests .result in ltb-false 255 (used .packets) (neither (used .bad) (ltb 255 (used .packets)) (c .if2 .left) .1)
+few c =
+    let used = c .before .before .before .plain-requests .result in
+    ltb-false 255 (used .packets)
+    (neither (used .bad) (ltb 255 (used .packets)) (c .if2 .left) .1)
 
 is-fresh-front-requires : tie.Need-is-fresh-front-requires
 is-fresh-front-requires c κs = search needs
@@ -51,7 +54,8 @@ u16-at-requires : tie.Need-u16-at-requires
 u16-at-requires c κs = search needs
 
 plain-requests-requires : tie.Need-plain-requests-requires
-plain-requests-requires c κs = (c .before .before .before .before .before .before .pre, omega (arith, count-is c, front (c .before .before) .plain .few))
+plain-requests-requires c κs =
+    (c .before .before .before .before .before .before .pre, omega (arith, count-is c, front (c .before .before) .plain .few))
 
 returns-2 : tie.Need-returns-2
 returns-2 c = λ e. absurd (omega arith)
@@ -63,7 +67,11 @@ iso-ring-size-requires : tie.Need-iso-ring-size-requires
 iso-ring-size-requires c κs = search needs
 
 are-plain-packets-requires : tie.Need-are-plain-packets-requires
-are-plain-packets-requires c κs = (c .before .before .before .before .before .before .before .before .before .before .before .before .pre, omega arith, omega (arith, few (c .before .before)))
+are-plain-packets-requires c κs = (
+  c .before .before .before .before .before .before .before .before .before .before .before .before .pre,
+  omega arith,
+  omega (arith, few (c .before .before)),
+)
 
 cast-result : tie.Need-cast-result
 cast-result c = omega (arith, few (c .before .before .before .before .before))

@@ -35,7 +35,9 @@ head-is : (c : tie.After-head-at) → c .head-at .result ≡ sessionOf (c .befor
 head-is c = c .head-at .ensures ∙ head-there (c .before .before .before .before .before .args .bytes .now)
 
 -- the configuration, the counts and the state
-numbers : (c : tie.Else2) → isBadNumbers (sessionOf (c .before .before .before .before .before .before .before .before .before .args .bytes .now)) ≡ false
+numbers :
+    (c : tie.Else2)
+    → isBadNumbers (sessionOf (c .before .before .before .before .before .before .before .before .before .args .bytes .now)) ≡ false
 numbers c =
     let plain = front (c .before .before .before .before .before .before) in
     let config = config-is (c .before .before .before .before .before) in
@@ -106,7 +108,10 @@ few c =
     let used = c .before .before .before .before .before .plain-requests .result in
     ltb-false 1024 (used .packets) (neither (used .bad) (ltb 1024 (used .packets)) (c .if4 .left) .1)
 
-sums : (c : tie.Then6) → isBadSums (sessionOf (c .before .before .before .before .before .before .before .before .before .before .before .before .before .before .before .before .before .before .before .before .before .before .args .bytes .now)) ≡ false
+sums :
+    (c : tie.Then6)
+    → isBadSums (sessionOf (c .before .before .before .before .before .before .before .before .before .before .before .before .before .before
+    .before .before .before .before .before .before .before .before .args .bytes .now)) ≡ false
 sums c =
     let xs = c .before .before .before .before .before .before .before .before .before .before .before .before .before .before .before .before
     .before .before .before .before .before .before .args .bytes .now in
@@ -121,7 +126,10 @@ sums c =
     (le-ltb 1024 (c .before .before .before .before .before .before .before .before .before .before .plain-requests .result .packets) within) fits
 
 -- the plans, of the completed requests and of the pending ones
-good : (c : tie.Then6) → isUnsound (c .before .before .before .before .before .before .before .before .before .before .before .before .before .before .before .before .before .before .before .before .before .before .args .bytes .now) ≡ false
+good :
+    (c : tie.Then6)
+    → isUnsound (c .before .before .before .before .before .before .before .before .before .before .before .before .before .before .before
+    .before .before .before .before .before .before .before .args .bytes .now) ≡ false
 good c =
     let xs = c .before .before .before .before .before .before .before .before .before .before .before .before .before .before .before .before
     .before .before .before .before .before .before .args .bytes .now in
@@ -199,10 +207,14 @@ returns-3 c =
     good-sounded xs (sums .result) (sums .ensures) (idle-all xs idle) (idle-pending xs idle) (idle-good xs idle numbers-good front-good)
 
 plain-requests-requires : tie.Need-plain-requests-requires
-plain-requests-requires c κs = (c .before .before .before .before .before .before .before .before .before .before .before .pre, in-range (c .before .before) .1)
+plain-requests-requires c κs =
+    (c .before .before .before .before .before .before .before .before .before .before .before .pre, in-range (c .before .before) .1)
 
 packets-before-requires : tie.Need-packets-before-requires
-packets-before-requires c κs = (c .before .before .before .before .before .before .before .before .before .before .before .before .pre, omega (arith, in-range (c .before .before .before)))
+packets-before-requires c κs = (
+  c .before .before .before .before .before .before .before .before .before .before .before .before .pre,
+  omega (arith, in-range (c .before .before .before)),
+)
 
 sub-pending : tie.Need-sub-pending
 sub-pending c = omega (arith, split (c .before))

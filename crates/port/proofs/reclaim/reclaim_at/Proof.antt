@@ -55,10 +55,15 @@ test-short c e =
     || ltb (length (start .args .results .now)) 255) (sym words)
     ∙ e
 
-head-is : (c : tie.After-head-at) → c .head-at .result ≡ sessionOf (c .before .before .before .before .before .before .before .before .before .before .args .bytes .now) .head
+head-is :
+    (c : tie.After-head-at)
+    → c .head-at .result ≡ sessionOf (c .before .before .before .before .before .before .before .before .before .before .args .bytes .now) .head
 head-is c = c .head-at .ensures ∙ head-there (c .before .before .before .before .before .before .before .before .before .before .args .bytes .now)
 
-place-is : (c : tie.After-place-at) → c .place-at .result ≡ requestAt (c .before .before .before .before .before .before .before .before .before .before .before .before .args .id) (sessionOf (c .before .before .before .before .before .before .before .before .before .before .before .before .args .bytes .now))
+place-is :
+    (c : tie.After-place-at)
+    → let start = c .before .before .before .before .before .before .before .before .before .before .before .before in c .place-at .result
+    ≡ requestAt (start .args .id) (sessionOf (start .args .bytes .now))
 place-is c =
     let start = c .before .before .before .before .before .before .before .before .before .before .before .before in
     c .place-at .ensures ∙ ap (λ (h : IsoHead). placeOf (start .args .id) (slice 0 (h .count) (requestsOf (start .args .bytes .now))))

@@ -44,10 +44,15 @@ numbers-are c b e =
     (c .before .before .before .before .before .iso-ring-size .ensures ∙ ap slots config)
     (c .before .before .is-bad-config .ensures) (c .is-bad-state .ensures) e
 
-numbers : (c : tie.Else2) → isBadNumbers (sessionOf (c .before .before .before .before .before .before .before .before .before .before .before .before .args .bytes .now)) ≡ false
+numbers :
+    (c : tie.Else2)
+    → isBadNumbers (sessionOf (c .before .before .before .before .before .before .before .before .before .before .before .before .args .bytes .now))
+    ≡ false
 numbers c = numbers-are (c .before) false (c .if2 .left)
 
-in-range : (c : tie.Else2) → let head = c .before .before .before .before .before .before .before .head-at .result in (head .done ≤ head .count) × (head .count ≤ 64)
+in-range :
+    (c : tie.Else2)
+    → let head = c .before .before .before .before .before .before .before .head-at .result in (head .done ≤ head .count) × (head .count ≤ 64)
 in-range c =
     let head = head-is (c .before .before .before .before .before .before .before) in
     let within = counts (c .before .before .before .before .before .before .before .before .before .before .before .before .args .bytes .now)
@@ -206,7 +211,10 @@ returns-3 c =
     (idle-good xs idle (numbers (c .before .before .before)) front)
 
 requests-checked-requires : tie.Need-requests-checked-requires
-requests-checked-requires c κs = (c .before .before .before .before .before .before .before .before .before .before .before .before .before .before .pre, in-range (c .before .before) .1)
+requests-checked-requires c κs = (
+  c .before .before .before .before .before .before .before .before .before .before .before .before .before .before .pre,
+  in-range (c .before .before) .1,
+)
 
 bad-sums-requires-3 : tie.Need-bad-sums-requires-3
 bad-sums-requires-3 c κs = search needs
@@ -219,7 +227,10 @@ returns-4 c =
     bad-sounded xs (c .bad-sums3 .result) (c .bad-sums3 .ensures .0) (bad-request xs (numbers (c .before .before .before .before .before)) bad)
 
 packets-before-requires : tie.Need-packets-before-requires
-packets-before-requires c κs = (c .before .before .before .before .before .before .before .before .before .before .before .before .before .before .before .before .pre, omega (arith, in-range (c .before .before .before .before)))
+packets-before-requires c κs = (
+  c .before .before .before .before .before .before .before .before .before .before .before .before .before .before .before .before .pre,
+  omega (arith, in-range (c .before .before .before .before)),
+)
 
 sub-pending : tie.Need-sub-pending
 sub-pending c = omega (arith, split (c .before))
@@ -243,7 +254,11 @@ iso-max-xfer-size-requires : tie.Need-iso-max-xfer-size-requires
 iso-max-xfer-size-requires c κs = search needs
 
 any-bad-plan-entry-requires : tie.Need-any-bad-plan-entry-requires
-any-bad-plan-entry-requires c κs = (c .before .before .before .before .before .before .before .before .before .before .before .before .before .before .before .before .before .before .before .before .before .before .before .pre, few (c .before .before))
+any-bad-plan-entry-requires c κs = (
+  c .before .before .before .before .before .before .before .before .before .before .before .before .before .before .before .before .before
+      .before .before .before .before .before .before .pre,
+  few (c .before .before),
+)
 
 bad-sums-requires-5 : tie.Need-bad-sums-requires-5
 bad-sums-requires-5 c κs = search needs

@@ -18,7 +18,9 @@ is-idle-requires : tie.Need-is-idle-requires
 is-idle-requires c κs = search needs
 
 returns-2 : tie.Need-returns-2
-returns-2 c = told-counted (c .before .before .before .before .before .before .args .bytes .now) (c .before .before .before .before .if1 .left) 0 (c .before .is-idle .ensures (c .if3 .taken)) refl
+returns-2 c =
+    told-counted (c .before .before .before .before .before .before .args .bytes .now) (c .before .before .before .before .if1 .left) 0
+    (c .before .is-idle .ensures (c .if3 .taken)) refl
 
 young-packets-requires : tie.Need-young-packets-requires
 young-packets-requires c κs = search needs
@@ -27,7 +29,10 @@ good-requires : tie.Need-good-requires
 good-requires c κs = search needs
 
 returns-3 : tie.Need-returns-3
-returns-3 c = told-counted (c .before .before .before .before .before .before .before .before .before .args .bytes .now) (c .before .before .before .before .before .before .before .if1 .left) (c .before .before .young-packets .result) (c .before .before .young-packets .ensures (c .before .if4 .taken)) (c .good2 .ensures)
+returns-3 c =
+    told-counted (c .before .before .before .before .before .before .before .before .before .args .bytes .now)
+    (c .before .before .before .before .before .before .before .if1 .left) (c .before .before .young-packets .result)
+    (c .before .before .young-packets .ensures (c .before .if4 .taken)) (c .good2 .ensures)
 
 verdict-more-requires : tie.Need-verdict-more-requires
 verdict-more-requires c κs = search needs
