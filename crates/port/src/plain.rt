@@ -70,7 +70,7 @@ fn is_fresh_front(bytes: &[u8]) -> bool
 }
 
 // No request, completed or pending, and no reason to end.
-pub(crate) fn is_idle(bytes: &[u8]) -> bool
+pub(crate) fn is_empty(bytes: &[u8]) -> bool
     requires { ⌜ 8488 ≤ length (now bytes) ⌝ }
     ensures { λ r. ⌜ (r ≡ true → Counted (now (bytes .entry)) 0) ⌝ }
 {

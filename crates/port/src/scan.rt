@@ -111,7 +111,7 @@ pub(crate) fn any_bad_plan_entry(bytes: &[u8], all: u32, limit: u16, slots: u16)
     false
 }
 
-// Both checks of a session's bytes, of the layout and of the record, and the packets counted where both are passed. An idle session has
+// Both checks of a session's bytes, of the layout and of the record, and the packets counted where both are passed. An empty session has
 // no entry to look at.
 pub(crate) fn sums_at(bytes: &[u8]) -> RequestSums
     requires { ⌜ 8488 ≤ length (now bytes) ⌝ }

@@ -10,7 +10,7 @@ ghost use lib.ListN.{length};
 ghost use Rattle.port.specs.Scan.{goodNumber, refusedNumber, notGood, verdictOf, Told};
 use crate::load::layout_refusal;
 use crate::numbers::u16_at;
-use crate::plain::is_idle;
+use crate::plain::is_empty;
 use crate::plain::plain_sums;
 use crate::plain::young_packets;
 use crate::scan::sums_at;
@@ -97,7 +97,7 @@ pub(crate) fn verdict_more(bytes: &[u8]) -> u64
     verdict_plain(&bytes[0..])
 }
 
-// Short enough to be inlined into each call, so that an idle session is told there.
+// Short enough to be inlined into each call, so that a session without requests is told there.
 fn verdict_number(bytes: &[u8]) -> u64
     ensures { λ r. ⌜ Told (now (bytes .entry)) (verdictOf r) ⌝ }
 {
@@ -105,7 +105,7 @@ fn verdict_number(bytes: &[u8]) -> u64
         return refused(17);
     }
     if u16_at(bytes, 30) == 0 {
-        if is_idle(bytes) {
+        if is_empty(bytes) {
             return 0;
         }
         let packets = young_packets(bytes);

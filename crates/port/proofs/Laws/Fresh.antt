@@ -17,7 +17,7 @@ use Rattle.port.specs.Bytes.{byteOf, u16Of, u32Of}
 use Rattle.port.specs.Tags.{flagOf}
 use Rattle.port.specs.Layout.{headOf, anyOf, sessionOf}
 use Rattle.port.specs.Scan.{isBadRequestEntry, isBadPlanEntry, PlainFront, FreshFront, Counted}
-use Rattle.port.proofs.Laws.Sounds.{isBadNumbers, by-plans, idle-all, idle-pending, idle-good}
+use Rattle.port.proofs.Laws.Sounds.{isBadNumbers, by-plans, empty-all, empty-pending, empty-good}
 
 module _ (xs : List ℕ) where
   -- the cursor and the count of completed requests behind it, as one number
@@ -51,14 +51,14 @@ module _ (xs : List ℕ) (front : FreshFront xs) where
   all-pending : allPackets s ≡ pendingPackets s
   all-pending = ap (λ (n : ℕ). packetsOf (slice n (s .head .count) (s .requests))) (sym (front .none-done))
 
-  pub idle-counted : s .head .count ≡ 0 → Counted xs 0
-  idle-counted idle =
-      let waits : ltb (s .head .done) (s .head .count) ≡ false = le-ltb (s .head .done) (s .head .count) (omega (arith, idle)) in
+  pub empty-counted : s .head .count ≡ 0 → Counted xs 0
+  empty-counted empty =
+      let waits : ltb (s .head .done) (s .head .count) ≡ false = le-ltb (s .head .done) (s .head .count) (omega (arith, empty)) in
       let lasts : hasReason (s .fatal) ≡ false = ap hasReason (front .plain .lasting) in
       record {
-        good = idle-good xs idle (numbers (second-false (not (s .head .live)) (none waits lasts))) (front .plain .before);
-        all = idle-all xs idle;
-        pending = idle-pending xs idle;
+        good = empty-good xs empty (numbers (second-false (not (s .head .live)) (none waits lasts))) (front .plain .before);
+        all = empty-all xs empty;
+        pending = empty-pending xs empty;
       }
 
   -- with a live channel: the entries passed their tests, and there is room for `n` packets

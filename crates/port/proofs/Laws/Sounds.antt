@@ -250,23 +250,23 @@ module _ (xs : List ℕ) where
           ∙ ap₂ (λ (m p : Bool). m || p) sums all-plans
 
   -- without requests there are no packets, and no entry is asked
-  module _ (idle : sessionOf xs .head .count ≡ 0) where
-    pub idle-all : 0 ≡ allPackets (sessionOf xs)
-    idle-all = let s : IsoChannelState = sessionOf xs in sym (packets-past 0 (s .head .count) (s .requests) (omega (arith, idle)))
+  module _ (empty : sessionOf xs .head .count ≡ 0) where
+    pub empty-all : 0 ≡ allPackets (sessionOf xs)
+    empty-all = let s : IsoChannelState = sessionOf xs in sym (packets-past 0 (s .head .count) (s .requests) (omega (arith, empty)))
 
-    pub idle-pending : 0 ≡ pendingPackets (sessionOf xs)
-    idle-pending =
+    pub empty-pending : 0 ≡ pendingPackets (sessionOf xs)
+    empty-pending =
         let s : IsoChannelState = sessionOf xs in
-        sym (packets-past (s .head .done) (s .head .count) (s .requests) (omega (arith, idle)))
+        sym (packets-past (s .head .done) (s .head .count) (s .requests) (omega (arith, empty)))
 
-    pub idle-good : isBadNumbers (sessionOf xs) ≡ false → (isBadMark xs || isBadHead xs) ≡ false → isUnsound xs ≡ false
-    idle-good numbers before =
+    pub empty-good : isBadNumbers (sessionOf xs) ≡ false → (isBadMark xs || isBadHead xs) ≡ false → isUnsound xs ≡ false
+    empty-good numbers before =
         let s : IsoChannelState = sessionOf xs in
-        let few : allPackets s ≤ 1024 = omega (arith, idle-all) in
-        let fits : pendingPackets s ≤ room (s .cfg) = omega (arith, idle-pending) in
-        by-plans numbers before (no-entry isBadRequestEntry 20 (s .head .count) (drop 40 xs) idle)
+        let few : allPackets s ≤ 1024 = omega (arith, empty-all) in
+        let fits : pendingPackets s ≤ room (s .cfg) = omega (arith, empty-pending) in
+        by-plans numbers before (no-entry isBadRequestEntry 20 (s .head .count) (drop 40 xs) empty)
         (none (le-ltb 1024 (allPackets s) few) (le-ltb (room (s .cfg)) (pendingPackets s) fits))
-        ∙ no-entry (isBadPlanEntry (packetLimit (s .cfg .speed)) (slots (s .cfg))) 7 (allPackets s) (drop 1320 xs) (sym idle-all)
+        ∙ no-entry (isBadPlanEntry (packetLimit (s .cfg .speed)) (slots (s .cfg))) 7 (allPackets s) (drop 1320 xs) (sym empty-all)
 
   -- ---- what is answered
 

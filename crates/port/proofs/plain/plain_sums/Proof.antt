@@ -20,7 +20,7 @@ use Rattle.port.specs.Layout.{anyOf, sessionOf}
 use Rattle.port.specs.Scan.{isBadRequestEntry, isBadPlanEntry, isUnsound, PlainFront}
 use Rattle.port.proofs.Laws.Placed.{config-there, head-there, requests-many}
 use Rattle.port.proofs.Laws.Scans.{never}
-use Rattle.port.proofs.Laws.Sounds.{isBadNumbers, numbers-test, sums-test, counts, by-plans, idle-all, idle-pending, idle-good, good-sounded}
+use Rattle.port.proofs.Laws.Sounds.{isBadNumbers, numbers-test, sums-test, counts, by-plans, empty-all, empty-pending, empty-good, good-sounded}
 use Rattle.port.proofs.Laws.Tables.{any-split}
 use Rattle.port.proofs.plain.plain_sums.Statement.{statement}
 use Rattle.port.proofs.plain.plain_sums.Tie as tie
@@ -199,12 +199,12 @@ returns-3 : tie.Need-returns-3
 returns-3 c =
     let xs = c .before .before .before .before .before .before .before .before .before .before .before .before .args .bytes .now in
     let head = head-is (c .before .before .before .before .before .before .before) in
-    let idle = sym (ap (λ (h : IsoHead). h .count) head) ∙ c .before .if3 .taken in
+    let empty = sym (ap (λ (h : IsoHead). h .count) head) ∙ c .before .if3 .taken in
     let numbers-good = numbers (c .before .before .before) in
     let front-good = front (c .before .before .before .before .before .before .before .before .before) .before in
     let sums = c .good-sums in
     λ e.
-    good-sounded xs (sums .result) (sums .ensures) (idle-all xs idle) (idle-pending xs idle) (idle-good xs idle numbers-good front-good)
+    good-sounded xs (sums .result) (sums .ensures) (empty-all xs empty) (empty-pending xs empty) (empty-good xs empty numbers-good front-good)
 
 plain-requests-requires : tie.Need-plain-requests-requires
 plain-requests-requires c κs =

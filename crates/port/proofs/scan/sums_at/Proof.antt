@@ -17,7 +17,7 @@ use Rattle.port.specs.Layout.{anyOf, isBadMark, isBadHead, sessionOf}
 use Rattle.port.specs.Scan.{isBadRequestEntry, isBadPlanEntry, isUnsound}
 use Rattle.port.proofs.Laws.Placed.{config-there, head-there, reason-there, requests-many}
 use Rattle.port.proofs.Laws.Sounds.{isBadNumbers, numbers-test, sums-test, sums-few, counts, bad-before, bad-numbers, bad-request, bad-sums}
-use Rattle.port.proofs.Laws.Sounds.{by-plans, idle-all, idle-pending, idle-good, bad-sounded, good-sounded}
+use Rattle.port.proofs.Laws.Sounds.{by-plans, empty-all, empty-pending, empty-good, bad-sounded, good-sounded}
 use Rattle.port.proofs.scan.sums_at.Statement.{statement}
 use Rattle.port.proofs.scan.sums_at.Tie as tie
 
@@ -206,9 +206,9 @@ returns-3 c =
     .before .args .bytes .now in
     let head = head-is (c .before .before .before .before .before .before .before .before .before .before) in
     let front = before (c .before .before .before .before .before .before .before .before .before .before .before .before) in
-    let idle = sym (ap (λ (h : IsoHead). h .count) head) ∙ c .before .if3 .taken in
-    good-sounded xs (c .good-sums .result) (c .good-sums .ensures) (idle-all xs idle) (idle-pending xs idle)
-    (idle-good xs idle (numbers (c .before .before .before)) front)
+    let empty = sym (ap (λ (h : IsoHead). h .count) head) ∙ c .before .if3 .taken in
+    good-sounded xs (c .good-sums .result) (c .good-sums .ensures) (empty-all xs empty) (empty-pending xs empty)
+    (empty-good xs empty (numbers (c .before .before .before)) front)
 
 requests-checked-requires : tie.Need-requests-checked-requires
 requests-checked-requires c κs = (

@@ -14,13 +14,13 @@ returns c = told-short (c .before .before .before .args .bytes .now) (c .before 
 u16-at-requires : tie.Need-u16-at-requires
 u16-at-requires c κs = search needs
 
-is-idle-requires : tie.Need-is-idle-requires
-is-idle-requires c κs = search needs
+is-empty-requires : tie.Need-is-empty-requires
+is-empty-requires c κs = search needs
 
 returns-2 : tie.Need-returns-2
 returns-2 c =
     told-counted (c .before .before .before .before .before .before .args .bytes .now) (c .before .before .before .before .if1 .left) 0
-    (c .before .is-idle .ensures (c .if3 .taken)) refl
+    (c .before .is-empty .ensures (c .if3 .taken)) refl
 
 young-packets-requires : tie.Need-young-packets-requires
 young-packets-requires c κs = search needs
@@ -47,7 +47,7 @@ verdict-number-spec =
     refused-requires
     returns
     u16-at-requires
-    is-idle-requires
+    is-empty-requires
     returns-2
     young-packets-requires
     good-requires
