@@ -10,6 +10,7 @@ use lifted::host::hub::Speed;
 use lifted::rust_plan::{self, Planner, SMALL_ARRAY};
 use lifted::transfer::Direction;
 use lifted::{rust_session, rust_sums};
+use std::arch::asm;
 use std::hint::black_box;
 
 const BASE: u64 = 0x1000_0000;
@@ -136,11 +137,33 @@ fn inputs() -> Vec<Input> {
     (0..INPUTS).map(input).collect()
 }
 
+/// moves the code behind it by so many bytes or, where an instruction has four, by four times as many
+#[inline(always)]
+fn shift<const BY: usize>() {
+    // SAFETY: instructions that do nothing
+    unsafe { asm!(".rept {by}", "nop", ".endr", by = const BY, options(nomem, nostack, preserves_flags)) }
+}
+
 /// a thousand calls in one timed stretch, over the same inputs
+#[inline(never)]
+fn stretch<const BY: usize>(probe: &mut Probe, inputs: &[Input], mut call: impl FnMut(&Input) -> u64) -> u64 {
+    probe.calls_of(CALLS as u64, || {
+        shift::<BY>();
+        (0..CALLS).fold(0, |sum: u64, i| sum.wrapping_mul(31).wrapping_add(call(&inputs[i % INPUTS])))
+    })
+}
+
+/// the loop stands at four places of a cache line in turn: where it stands is a cycle of the five or six that a sum takes
 fn many(mut call: impl FnMut(&Input) -> u64 + 'static) -> Once {
-    let inputs = inputs();
+    let (inputs, mut turn) = (inputs(), 0);
     Box::new(move |probe| {
-        probe.calls_of(CALLS as u64, || (0..CALLS).fold(0, |sum: u64, i| sum.wrapping_mul(31).wrapping_add(call(&inputs[i % INPUTS]))))
+        turn += 1;
+        match turn % 4 {
+            0 => stretch::<0>(probe, &inputs, &mut call),
+            1 => stretch::<16>(probe, &inputs, &mut call),
+            2 => stretch::<32>(probe, &inputs, &mut call),
+            _ => stretch::<48>(probe, &inputs, &mut call),
+        }
     })
 }
 
