@@ -1,6 +1,6 @@
 -- Which way a poll goes in the common cases, and when nothing is settled.
 use mathlib.Core.Path.{_≡_, _∙_, sym, ap}
-use mathlib.Core.Bool.{Bool, true, false, not, _||_, cond}
+use mathlib.Core.Bool.{Bool, true, false, not, _||_}
 use mathlib.Core.List.{List}
 use Prim.Native.Nat.{ℕ, _+_, _/_, _%_}
 use native.Mathlib.Omega.{arith}
@@ -24,6 +24,7 @@ use Rattle.session.specs.Settle.{oldestFrom}
 use Rattle.session.proofs.Laws.Record.{Sound}
 use Rattle.session.proofs.Laws.Replies.{lent-done}
 use Rattle.session.proofs.Laws.Sums.{packets-split}
+use Rattle.session.proofs.Laws.Tests.{first, second}
 use Rattle.port.specs.declared.answers.PortReply.{PortReply}
 use Rattle.port.specs.Tags.{flagTag}
 use Rattle.port.specs.Layout.{sessionOf}
@@ -48,8 +49,7 @@ calm-bits w low high =
 
 module _ (s : IsoChannelState) (e : IsoEvent) where
   pub quiet-way : (not (s .head .live) || not (e .reported)) ≡ true → way.Nothing ≡ pollWay s e
-  quiet-way q =
-      sym (ap (λ (b : Bool). cond b way.Nothing (cond (e .unplugged) (way.End outcome.Disconnected) (wayByFault (hcintFault (e .hcint)) (s .fatal) (e .hcint)))) q)
+  quiet-way q = sym (first (not (s .head .live) || not (e .reported)) way.Nothing _ q)
 
   pub calm-way :
       (not (s .head .live) || not (e .reported)) ≡ false → e .unplugged ≡ false → hcintFault (e .hcint) ≡ fault.Nothing → isSet halted (e .hcint) ≡ false
@@ -58,11 +58,11 @@ module _ (s : IsoChannelState) (e : IsoEvent) where
   calm-way q u f h n =
       let w : ℕ = e .hcint in
       sym
-      (ap (λ (b : Bool). cond b way.Nothing (cond (e .unplugged) (way.End outcome.Disconnected) (wayByFault (hcintFault w) (s .fatal) w))) q
-      ∙ ap (λ (b : Bool). cond b (way.End outcome.Disconnected) (wayByFault (hcintFault w) (s .fatal) w)) u
+      (second (not (s .head .live) || not (e .reported)) way.Nothing _ q
+      ∙ second (e .unplugged) (way.End outcome.Disconnected) _ u
       ∙ ap (λ (k : HcintFault). wayByFault k (s .fatal) w) f
       ∙ ap (λ (r : IsoFatal). wayByReason r w) n
-      ∙ ap (λ (b : Bool). cond b (way.End (outcome.UnexpectedHalt w)) (way.Settle (isSet complete w))) h)
+      ∙ second (isSet halted w) (way.End (outcome.UnexpectedHalt w)) (way.Settle (isSet complete w)) h)
 
 -- a poll past both tests answers and leaves what its way does
 module _ (xs ring : List ℕ) (e : IsoEvent) (fits : ltb (length ring) (ringWords (sessionOf xs .cfg)) ≡ false) (good : isBadRecord (sessionOf xs) ≡ false) where

@@ -1,6 +1,6 @@
 -- The invariant: what is left to move, moved in the bytes as they are now, gives the goal. The measure is how many turns are left.
 use mathlib.Core.Path.{_≡_, refl, _∙_}
-use Prim.Native.Nat.{_+_, _*_, _≤_}
+use Prim.Native.Nat.{_+_, _*_}
 use native.Mathlib.Omega.{arith}
 use lib.ListN.{length}
 use lib.Seq.{slice, sets}
