@@ -42,12 +42,14 @@ pub fn iso_schinfo(speed: Speed, interval: u16) -> u32
     at_speed(speed, microframes(interval), 0xff)
 }
 
-// The bits 0, i, 2i, .. below 8 at high speed.
+// The bits 0, i, 2i, .. below 8 at high speed. An interval of 0 counts as 1, and has an arm of its own: with one number to each arm the
+// compiler makes one table of the eight.
 fn microframes(interval: u16) -> u32
     ensures { λ r. ⌜ r ≡ microframeBits interval ⌝ }
 {
     match interval {
-        0 | 1 => 0b1111_1111,
+        0 => 0b1111_1111,
+        1 => 0b1111_1111,
         2 => 0b0101_0101,
         3 => 0b0100_1001,
         4 => 0b0001_0001,
