@@ -19,6 +19,11 @@ atSpeed High high full = high
 atSpeed Full high full = full
 atSpeed Low high full = full
 
+abbrev pub isHigh : Speed → Bool
+isHigh High = true
+isHigh Full = false
+isHigh Low = false
+
 -- "Ring R: 256 slots at high speed, 64 at full"
 abbrev pub ringSize : Speed → ℕ
 ringSize speed = atSpeed speed 256 64
