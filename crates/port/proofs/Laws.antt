@@ -3,6 +3,7 @@ pub mod Back
 pub mod Calls
 pub mod Closing
 pub mod Entries
+pub mod First
 pub mod Fresh
 pub mod Head
 pub mod InUse

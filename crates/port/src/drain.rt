@@ -53,7 +53,7 @@ pub(crate) fn packets_before(bytes: &[u8], end: u16) -> usize
 }
 
 // The slot of the plan at a place.
-fn slot_at(bytes: &[u8], i: usize) -> u16
+pub(crate) fn slot_at(bytes: &[u8], i: usize) -> u16
     requires { ⌜ (8488 ≤ length (now bytes)) × (i < 1024) ⌝ }
     ensures { λ r. ⌜ r ≡ getD (plansOf (now (bytes .entry))) i blankPlan .«desc_index» ⌝ }
 {
@@ -61,7 +61,7 @@ fn slot_at(bytes: &[u8], i: usize) -> u16
 }
 
 // 1 where the packet failed on the bus.
-fn error_tag(status: u32) -> u8
+pub(crate) fn error_tag(status: u32) -> u8
     ensures { λ r. ⌜ r ≡ statusTag (statusOf (isPacketError status)) ⌝ }
 {
     let failed = DmaDescriptor { status, paddr: 0 }.iso_status_error();
@@ -110,7 +110,7 @@ fn settle_plans_at(
 }
 
 // Both words of the slots of the plans from `from` to `to`, which are in the ring, become zero.
-fn clear_slots_at(bytes: &[u8], from: usize, to: usize, ring: &mut [u32])
+pub(crate) fn clear_slots_at(bytes: &[u8], from: usize, to: usize, ring: &mut [u32])
     requires { ⌜ (8488 ≤ length (now bytes))
         × (to ≤ 1024)
         × ((k : ℕ) → from ≤ k → k < to → 2 * getD (plansOf (now bytes)) k blankPlan .«desc_index» + 1 < length (now ring)) ⌝ }
@@ -167,7 +167,7 @@ fn one_more(head: IsoHead) -> IsoHead
 }
 
 // The last descriptor of the request whose plans end at `to` is no longer the controller's.
-fn is_served_at(bytes: &[u8], to: usize, ring: &[u32]) -> bool
+pub(crate) fn is_served_at(bytes: &[u8], to: usize, ring: &[u32]) -> bool
     requires { ⌜ (8488 ≤ length (now bytes)) × (0 < to) × (to ≤ 1024) ⌝ }
     ensures { λ r. ⌜ r ≡ not (isSet active (getD (now (ring .entry)) (2 * getD (plansOf (now (bytes .entry))) (to - 1) blankPlan .«desc_index») 0)) ⌝ }
 {

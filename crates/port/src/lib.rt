@@ -5,6 +5,7 @@ mod cancel;
 mod drain;
 mod end;
 mod entries;
+mod first;
 mod load;
 mod marks;
 mod numbers;

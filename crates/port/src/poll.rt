@@ -119,7 +119,7 @@ fn said(taken: bool, halt: bool) -> PollSaid
 }
 
 // No fault, and not halted, by two tests in the place of seven: the bits 1 to 3 and 7 to 10 together.
-fn is_calm(hcint: u32) -> bool
+pub(crate) fn is_calm(hcint: u32) -> bool
     ensures { λ r. ⌜ (r ≡ true → (hcintFault hcint ≡ Nothing) × (isSet halted hcint ≡ false)) ⌝ }
 {
     (hcint / 2 % 8 == 0) & (hcint / 128 % 16 == 0)

@@ -19,6 +19,8 @@ use crate::cancel::place_at;
 use crate::drain::packets_at;
 use crate::drain::packets_before;
 use crate::entries::request_at;
+use crate::first::is_first_only;
+use crate::first::reclaim_first;
 use crate::load::config_at;
 use crate::load::head_at;
 use crate::numbers::byte_at;
@@ -36,7 +38,7 @@ use session::is_done;
 use session::ring_words;
 
 // The entries from `from` to `to` move down to `into`, as plain bytes: an entry in use is written as it was read. So for requests and for plans.
-fn close_requests_at(bytes: &mut [u8], into: usize, from: usize, to: usize)
+pub(crate) fn close_requests_at(bytes: &mut [u8], into: usize, from: usize, to: usize)
     requires { ⌜ (layoutNumber (now bytes) ≡ 0) × (into ≤ from) × (to ≤ requestsIn (sessionOf (now bytes))) ⌝ }
     ensures { λ _. ⌜ Left (now (bytes .entry)) (now (bytes .exit))
         (withRequests (sessionOf (now (bytes .entry))) (closedUp into from to (requestsOf (now (bytes .entry))))) ⌝ }
@@ -46,7 +48,7 @@ fn close_requests_at(bytes: &mut [u8], into: usize, from: usize, to: usize)
     }
 }
 
-fn close_plans_at(bytes: &mut [u8], into: usize, from: usize, to: usize)
+pub(crate) fn close_plans_at(bytes: &mut [u8], into: usize, from: usize, to: usize)
     requires { ⌜ (layoutNumber (now bytes) ≡ 0) × (into ≤ from) × (to ≤ plansIn (sessionOf (now bytes))) ⌝ }
     ensures { λ _. ⌜ Left (now (bytes .entry)) (now (bytes .exit))
         (withPlans (sessionOf (now (bytes .entry))) (closedUp into from to (plansOf (now (bytes .entry))))) ⌝ }
@@ -206,7 +208,11 @@ pub(crate) fn reclaim_at(
     }
     let head = head_at(bytes);
     let at = place_at(bytes, head.count, id);
+    let all = verdict.all as usize;
+    if is_first_only(bytes, at, all, event, ring) {
+        return reclaim_first(bytes, all, ring, results);
+    }
     let look = look_at(bytes, at, event, ring);
-    let answer = look_again_at(bytes, at, verdict.all as usize, results);
+    let answer = look_again_at(bytes, at, all, results);
     reclaim_port(answer, look.taken, look.halt)
 }

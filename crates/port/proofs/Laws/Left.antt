@@ -180,6 +180,21 @@ cursor-bytes : (h : IsoHead) (k : ℕ) (rest : List ℕ) → sets (headBytes h +
 unfolding headBytes u64Bytes u32Bytes u16Bytes
 cursor-bytes h k rest = refl
 
+abbrev pub withCount : ℕ → IsoHead → IsoHead
+withCount k h =
+    record {
+      «next_request_id» = h .«next_request_id»;
+      live = h .live;
+      «td_last» = h .«td_last»;
+      «start_full_frame» = h .«start_full_frame»;
+      done = h .done;
+      count = k;
+    }
+
+count-bytes : (h : IsoHead) (k : ℕ) (rest : List ℕ) → sets (headBytes h ++ rest) 17 (u16Bytes k) ≡ headBytes (withCount k h) ++ rest
+unfolding headBytes u64Bytes u32Bytes u16Bytes
+count-bytes h k rest = refl
+
 module _ (n m : ℕ) (xs : List ℕ) (s : IsoChannelState) where
   head-put : (h : IsoHead) → sets (kept n m xs s) 15 (headBytes h) ≡ kept n m xs (whole (s .cfg) h (s .fatal) (s .requests) (s .plans))
   unfolding front
@@ -194,19 +209,22 @@ module _ (n m : ℕ) (xs : List ℕ) (s : IsoChannelState) where
       ∙ sym (apart (headBytes h))
       ∙ sym (parts n m xs t)
 
-  -- the cursor alone
-  cursor-put : (k : ℕ) → sets (kept n m xs s) 28 (u16Bytes k) ≡ kept n m xs (whole (s .cfg) (withCursor k (s .head)) (s .fatal) (s .requests) (s .plans))
+  -- a field of the head alone, `at` bytes into it
+  field-put :
+      (at off : ℕ) (vs : List ℕ) (h : IsoHead) → 15 + at ≡ off
+      → ((rest : List ℕ) → sets (headBytes (s .head) ++ rest) at vs ≡ headBytes h ++ rest)
+      → sets (kept n m xs s) off vs ≡ kept n m xs (whole (s .cfg) h (s .fatal) (s .requests) (s .plans))
   unfolding front
-  cursor-put k =
-      let t : IsoChannelState = whole (s .cfg) (withCursor k (s .head)) (s .fatal) (s .requests) (s .plans) in
+  field-put at off vs h eo eh =
+      let t : IsoChannelState = whole (s .cfg) h (s .fatal) (s .requests) (s .plans) in
       let a : List ℕ = markBytes ++ configBytes (s .cfg) in
       let r : List ℕ = taggedBytes (fatalTagged (s .fatal)) in
       let l : List ℕ = R n m xs s ++ (P n m xs s ++ E n m xs s) in
       let apart : (b : List ℕ) → a ++ b ++ r ++ l ≡ a ++ (b ++ (r ++ l)) = λ b. append-assoc (a ++ b) r l ∙ append-assoc a b (r ++ l) in
-      ap (λ (ys : List ℕ). sets ys 28 (u16Bytes k)) (parts n m xs s ∙ apart (headBytes (s .head)))
-      ∙ sets-behind a (headBytes (s .head) ++ (r ++ l)) 13 28 (u16Bytes k) (omega (arith, length-to-head s))
-      ∙ ap (λ (ys : List ℕ). a ++ ys) (cursor-bytes (s .head) k (r ++ l))
-      ∙ sym (apart (headBytes (withCursor k (s .head))))
+      ap (λ (ys : List ℕ). sets ys off vs) (parts n m xs s ∙ apart (headBytes (s .head)))
+      ∙ sets-behind a (headBytes (s .head) ++ (r ++ l)) at off vs (omega (arith, length-to-head s))
+      ∙ ap (λ (ys : List ℕ). a ++ ys) (eh (r ++ l))
+      ∙ sym (apart (headBytes h))
       ∙ sym (parts n m xs t)
 
   reason-put : (f : IsoFatal) → sets (kept n m xs s) 34 (taggedBytes (fatalTagged f)) ≡ kept n m xs (whole (s .cfg) (s .head) f (s .requests) (s .plans))
@@ -298,16 +316,25 @@ module _ {n m : ℕ} {xs now next : List ℕ} {s : IsoChannelState} (long : 8488
             ((was-plans long k) ∙ sym (ap plansOf e ∙ plans-stay now 15 (headBytes h) (omega arith)) ∙ plans-read next);
       }
 
-  pub kept-cursor :
-      (c : ℕ) → next ≡ sets now 28 (u16Bytes c) → Kept n m xs next (whole (s .cfg) (withCursor c (s .head)) (s .fatal) (s .requests) (s .plans))
-  kept-cursor c e =
-      let h : IsoHead = withCursor c (s .head) in
+  kept-field :
+      (at off : ℕ) (vs : List ℕ) (h : IsoHead) → 15 + at ≡ off → ((rest : List ℕ) → sets (headBytes (s .head) ++ rest) at vs ≡ headBytes h ++ rest)
+      → next ≡ sets now off vs
+      → Kept n m xs next (whole (s .cfg) h (s .fatal) (s .requests) (s .plans))
+  kept-field at off vs h eo eh e =
       kept-head h
       (e
-      ∙ ap (λ (l : List ℕ). sets l 28 (u16Bytes c)) (k .bytes)
-      ∙ cursor-put n m xs s c
+      ∙ ap (λ (l : List ℕ). sets l off vs) (k .bytes)
+      ∙ field-put n m xs s at off vs h eo eh
       ∙ sym (head-put n m xs s h)
       ∙ ap (λ (l : List ℕ). sets l 15 (headBytes h)) (sym (k .bytes)))
+
+  pub kept-cursor :
+      (c : ℕ) → next ≡ sets now 28 (u16Bytes c) → Kept n m xs next (whole (s .cfg) (withCursor c (s .head)) (s .fatal) (s .requests) (s .plans))
+  kept-cursor c = kept-field 13 28 (u16Bytes c) (withCursor c (s .head)) refl (cursor-bytes (s .head) c)
+
+  pub kept-count :
+      (c : ℕ) → next ≡ sets now 32 (u16Bytes c) → Kept n m xs next (whole (s .cfg) (withCount c (s .head)) (s .fatal) (s .requests) (s .plans))
+  kept-count c = kept-field 17 32 (u16Bytes c) (withCount c (s .head)) refl (count-bytes (s .head) c)
 
   pub kept-reason :
       (f : IsoFatal) → next ≡ sets now 34 (taggedBytes (fatalTagged f)) → Kept n m xs next (whole (s .cfg) (s .head) f (s .requests) (s .plans))

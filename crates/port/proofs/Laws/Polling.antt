@@ -1,5 +1,5 @@
 -- Which way a poll goes in the common cases, and when nothing is settled.
-use mathlib.Core.Path.{_≡_, _∙_, sym, ap}
+use mathlib.Core.Path.{_≡_, _∙_, sym, ap, ap₂}
 use mathlib.Core.Bool.{Bool, true, false, not, _||_}
 use mathlib.Core.List.{List}
 use Prim.Native.Nat.{ℕ, _+_, _/_, _%_}
@@ -46,6 +46,10 @@ calm-bits w low high =
       ),
       clear (w / 2 % 2) (omega arith),
     )
+
+-- an event that a live channel takes
+pub taken-is : (live reported : Bool) → live ≡ true → reported ≡ true → (not live || not reported) ≡ false
+taken-is live reported l r = ap₂ (λ (a b : Bool). not a || not b) l r
 
 module _ (s : IsoChannelState) (e : IsoEvent) where
   pub quiet-way : (not (s .head .live) || not (e .reported)) ≡ true → way.Nothing ≡ pollWay s e

@@ -1,19 +1,23 @@
 -- Reclaiming in place: the answer, the bytes and the lent words at each exit, where the code looked, and looked again at what that left.
-use mathlib.Core.Path.{_≡_, refl, _∙_, sym, ap, subst, subst⁻¹}
-use mathlib.Core.Bool.{Bool, false}
+use mathlib.Core.Path.{_≡_, refl, _∙_, sym, ap, ap₂, subst, subst⁻¹}
+use mathlib.Core.Bool.{Bool, true, false, cond}
 use mathlib.Core.List.{List}
-use Prim.Native.Nat.{ℕ}
-use lib.ListN.{length}
+use Prim.Native.Nat.{ℕ, _+_}
+use lib.Dec.{ltb}
+use lib.ListN.{length, getD}
 use Rattle.session.specs.declared.types.IsoChannelState.{IsoChannelState}
 use Rattle.session.specs.declared.reply.IsoEvent.{IsoEvent}
 use Rattle.session.specs.declared.reply.IsoReply.{IsoReply}
+use Rattle.session.specs.declared.reply.IsoAnswer.the-variants.{Done}
 use Rattle.session.specs.declared.reply.ReclaimAnswer.{ReclaimAnswer}
-use Rattle.session.specs.declared.reply.ReclaimAnswer.the-variants.{Refused}
+use Rattle.session.specs.declared.reply.ReclaimAnswer.the-variants.{NotYet, Refused}
 use Rattle.session.specs.declared.reply.Reclaimed.{Reclaimed}
-use Rattle.session.specs.Session.{allPackets}
+use Rattle.session.specs.Session.{blankRequest, allPackets}
 use Rattle.session.specs.Record.{isBadRecord}
 use Rattle.session.specs.Cancel.{requestAt}
-use Rattle.session.specs.Reclaim.{lookedAt, lookedRingAt, looked, reclaimReply, lookedAgainAt, lookedResultsAt, lookedAgain, lookedResults, isShort, reclaimed, reclaimedRing, reclaimedResults}
+use Rattle.session.specs.Settle.{settledSession, settledRing}
+use Rattle.session.specs.Poll.{reply, pollWay, polledBy, polledRingBy}
+use Rattle.session.specs.Reclaim.{lookedAt, lookedRingAt, looked, lookedRing, requestOf, removed, handedAnswer, handedResults, reclaimReply, lookedAgainAt, lookedResultsAt, lookedAgain, lookedResults, isShort, reclaimed, reclaimedRing, reclaimedResults}
 use Rattle.session.proofs.Laws.Record.{Sound, not-bad}
 use Rattle.session.proofs.Laws.Reclaims.{reclaim-done, looked-sound}
 use Rattle.port.specs.declared.answers.PortReclaimed.{PortReclaimed}
@@ -22,8 +26,9 @@ use Rattle.port.specs.Tags.{flagTag}
 use Rattle.port.specs.Layout.{layoutNumber, sessionOf, leftBytes}
 use Rattle.port.specs.Calls.{bytesBy, wordsBy, reclaimPort, reclaimRefused, reclaimedPort, reclaimBy}
 use Rattle.port.specs.Places.{Acted, Left}
+use Rattle.port.specs.First.{FirstOnly}
 use Rattle.port.proofs.Laws.Calls.{long-enough, refused, done}
-use Rattle.port.proofs.Laws.InUse.{kept-layout, looked-in-use, same-place}
+use Rattle.port.proofs.Laws.InUse.{InUse, kept-layout, looked-in-use, same-place}
 use Rattle.port.proofs.Laws.Left.{left-is, left-over}
 
 module _ (xs ring results : List ℕ) (id : ℕ) (e : IsoEvent) where
@@ -97,6 +102,38 @@ module _ (xs ring results : List ℕ) (id : ℕ) (e : IsoEvent) where
           told .1,
           told .2,
         )
+
+  -- the first request, settled and handed out in one
+  pub first-in-place :
+      {c words after : List ℕ} {p : PortReclaimed} → Sound s → isShort s (length ring) (length results) ≡ false → isBadRecord s ≡ false
+      → 0 ≡ requestAt id s
+      → FirstOnly s e ring
+      → p ≡ reclaimPort (handedAnswer (getD (settledSession s ring .requests) 0 blankRequest)) 1 0
+      → Left xs c (removed 0 (settledSession s ring))
+      → words ≡ settledRing s ring
+      → after ≡ handedResults 0 (settledSession s ring) results
+      → Told p c words after
+  first-in-place {c} g h k place f ep ec ew ea =
+      let t : IsoChannelState = settledSession s ring in
+      let x : IsoReply = reply Done true false t in
+      let off : ltb (requestAt id s) (s .head .done) ≡ false = ap₂ ltb (sym place) (f .none-done) in
+      let look : x ≡ looked id e s ring =
+      sym (f .polled) ∙ sym (ap (λ (b : Bool). cond b (reply Done false false s) (polledBy (pollWay s e) s ring)) off) in
+      let words-looked : settledRing s ring ≡ lookedRing id e s ring =
+      sym (f .cleared) ∙ sym (ap (λ (b : Bool). cond b ring (polledRingBy (pollWay s e) s ring)) off) in
+      let in-use : InUse s t = subst⁻¹ (λ (r : IsoReply). InUse s (r .session)) look (looked-in-use id e s ring g) in
+      let still : 0 ≡ requestAt id t = place ∙ sym (same-place id s t in-use) in
+      let on : ltb 0 (t .head .done) ≡ true = ap (λ (d : ℕ). ltb 0 (d + 1)) (f .none-done) in
+      let again : reclaimReply (handedAnswer (requestOf 0 t)) true false (removed 0 t) ≡ lookedAgain id true false t =
+      sym
+      (ap (λ (b : Bool).
+      cond b (reclaimReply (handedAnswer (requestOf 0 t)) true false (removed 0 t))
+      (reclaimReply (cond (ltb 0 (t .head .count)) NotYet (Refused 15)) true false t)) on)
+      ∙ ap (λ (n : ℕ). lookedAgainAt n true false t) still in
+      let handed : handedResults 0 t results ≡ lookedResults id t results =
+      sym (ap (λ (b : Bool). cond b (handedResults 0 t results) results) on) ∙ ap (λ (n : ℕ). lookedResultsAt n t results) still in
+      let told = reclaim-done s id e ring results {first-look = x} h k look again (ew ∙ words-looked) (ea ∙ handed) in
+      (ep ∙ ap reclaimedPort (told .0), left-is ec (ap (λ (y : Reclaimed). y .session) (told .0)), told .1, told .2)
 
 -- ---- the call by bytes
 

@@ -2,7 +2,7 @@
 -- itself.
 use mathlib.Core.Path.{_≡_, refl, _∙_, sym, ap, ap₂}
 use mathlib.Core.List.{List, [], _∷_, _++_}
-use Prim.Native.Nat.{ℕ, zero, suc, _+_, _-_, _≤_}
+use Prim.Native.Nat.{ℕ, zero, suc, _+_, _-_, _*_, _≤_}
 use native.Mathlib.Nat.{add-zero}
 use native.Mathlib.Omega.{arith}
 use lib.ListN.{length, getD, take, drop, set, length-append, take-append-drop, drop-of-length-le}
@@ -78,6 +78,23 @@ module _ {A : Type 0} where
 -- ---- a part of a list, and how it moves down in it
 
 module _ {A : Type 0} where
+  -- what moves down over a front that was written, and covers it, leaves nothing of what was written
+  slice-sets-after : (vs l : List A) (i f t : ℕ) → i + length vs ≤ f → f ≤ t → slice f t (sets l i vs) ≡ slice f t l
+  slice-sets-after [] l i f t h k = refl
+  slice-sets-after (v ∷ vs) l i f t h k =
+      slice-sets-after vs (set l i v) (suc i) f t (omega arith) k ∙ slice-after-set f t i l v (omega arith) (omega arith)
+
+  pub closed-over :
+      (vs l : List A) (t : ℕ) → 2 * length vs ≤ t → t ≤ length l
+      → sets (sets l 0 vs) 0 (slice (length vs) t (sets l 0 vs)) ≡ sets l 0 (slice (length vs) t l)
+  closed-over vs l t h k =
+      let ws : List A = slice (length vs) t l in
+      let many : length ws ≡ t - length vs = length-slice (length vs) t l k in
+      ap (sets (sets l 0 vs) 0) (slice-sets-after vs l 0 (length vs) t (omega arith) (omega arith))
+      ∙ sets-eq ws (sets l 0 vs) 0 (omega (arith, many, length-sets l 0 vs))
+      ∙ ap (λ (r : List A). ws ++ r) (drop-sets (0 + length ws) l 0 vs (omega (arith, many)))
+      ∙ sym (sets-eq ws l 0 (omega (arith, many)))
+
   pub slice-take : (f n : ℕ) (l : List A) → f ≤ length l → take n (drop f l) ≡ slice f (f + n) l
   slice-take f n l h = sym (ap (drop f) (take-add f n l) ∙ drop-at (take f l) (take n (drop f l)) f (length-take-le f l h))
 

@@ -35,9 +35,9 @@ use Rattle.port.proofs.Laws.Walks.{requests-in}
 
 -- ---- one plan: its planned length and its slot stand there already, so the three bytes behind them are the whole entry
 
-planned-there : (ys : List ℕ) → u16Of ys ≡ planOf ys .planned
+planned-read : (ys : List ℕ) → u16Of ys ≡ planOf ys .planned
 unfolding planOf
-planned-there ys = refl
+planned-read ys = refl
 
 module _ (xs : List ℕ) (at : ℕ) (octets : Octets xs) (long : at + 7 ≤ length xs) where
   abbrev there : IsoPacketPlan
@@ -75,7 +75,7 @@ module _ (xs : List ℕ) (at : ℕ) (octets : Octets xs) (long : at + 7 ≤ leng
   plan-settled dir status planned actual tag ep ea p q r =
       let failed : TransferStatus = statusOf (isPacketError status) in
       let moved : actual ≡ movedLength dir (there .planned) status =
-      ea ∙ ap (λ (n : ℕ). movedLength dir n status) (ep ∙ planned-there (drop at xs)) in (
+      ea ∙ ap (λ (n : ℕ). movedLength dir n status) (ep ∙ planned-read (drop at xs)) in (
         moved,
         plan-amended actual tag failed p q r
             ∙ ap (λ (n : ℕ). sets xs at (planBytes (plan (there .planned) (there .«desc_index») n failed))) moved,

@@ -41,6 +41,10 @@ packets-there xs i h =
     let on : 52 + 20 * i ≡ 40 + 20 * i + 12 = omega arith in
     ap (λ (n : ℕ). u16Of (drop n xs)) on ∙ field u16Of 12 (40 + 20 * i) xs ∙ ap (λ (r : IsoRequest). r .packets) (request-there xs i blankRequest h)
 
+pub planned-there : (xs : List ℕ) (i : ℕ) → i < 1024 → u16Of (drop (1320 + 7 * i) xs) ≡ getD (plansOf xs) i blankPlan .planned
+unfolding planOf
+planned-there xs i h = ap (λ (p : IsoPacketPlan). p .planned) (plan-there xs i blankPlan h)
+
 pub slot-there : (xs : List ℕ) (i : ℕ) → i < 1024 → u16Of (drop (1322 + 7 * i) xs) ≡ getD (plansOf xs) i blankPlan .«desc_index»
 unfolding planOf
 slot-there xs i h =
