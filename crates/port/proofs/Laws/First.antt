@@ -15,8 +15,8 @@ use Rattle.session.specs.declared.types.IsoRequest.{IsoRequest}
 use Rattle.session.specs.declared.types.IsoPacketPlan.{IsoPacketPlan}
 use Rattle.session.specs.declared.types.IsoChannelState.{IsoChannelState}
 use Rattle.session.specs.Session.{blankRequest, blankPlan, packetsOf, allPackets}
-use Rattle.session.specs.Settle.{settledPlan, oldest, oldestFrom, oldestTo, oldestPlans, settledPlans, movedTotal, settledRequest, settledSession, slotsCleared, settledRing, isServed, drained}
-use Rattle.session.specs.Reclaim.{isDone, resultWord, requestOf, plansBegin, plansEnd, closedUp, removed, handedResults}
+use Rattle.session.specs.Settle.{settledPlan, oldest, oldestFrom, oldestTo, oldestPlans, settledPlans, settledRequest, settledSession, slotsCleared, settledRing, isServed, drained}
+use Rattle.session.specs.Reclaim.{isDone, resultWord, plansBegin, plansEnd, closedUp, removed, handedResults}
 use Rattle.session.specs.Scan.{whole}
 use Rattle.session.proofs.Laws.Lists.{slice-sets, getD-slice, getD-sets-after}
 use Rattle.session.proofs.Laws.Record.{Sound}
@@ -27,7 +27,6 @@ use Rattle.port.specs.Layout.{layoutNumber, sessionOf}
 use Rattle.port.specs.Places.{requestsOf, withRequests, withPlans, Left}
 use Rattle.port.proofs.Laws.Calls.{long-enough}
 use Rattle.port.proofs.Laws.Left.{withCount, kept-count, left-is, left-over}
-use Rattle.port.proofs.Laws.Placed.{plans-many, requests-many}
 use Rattle.port.proofs.Laws.Runs.{closed-over}
 use Rattle.port.proofs.Laws.Settling.{settled-from}
 

@@ -1,13 +1,13 @@
 -- The first request is settled, by the bit or since it is served, and the second is not: its slot is none of those that are cleared.
 use mathlib.Core.Path.{_≡_, refl, _∙_, sym, ap}
 use mathlib.Core.Bool.{Bool, not, _||_}
-use Prim.Native.Nat.{ℕ, _+_, _-_, _*_, _≤_, _<_}
+use Prim.Native.Nat.{ℕ, _-_, _*_, _≤_, _<_}
 use native.Mathlib.Omega.{arith}
 use lib.ListN.{length, getD}
 use borrow.Author.Tests.{not-false}
 use Rattle.words.specs.Words.{isSet, active}
 use Rattle.words.proofs.Laws.Tests.{neither}
-use Rattle.session.specs.Session.{blankPlan, allPackets}
+use Rattle.session.specs.Session.{blankPlan}
 use Rattle.session.specs.Settle.{isServed}
 use Rattle.session.proofs.Laws.Record.{Sound, sound}
 use Rattle.port.specs.Layout.{sessionOf}
@@ -49,10 +49,20 @@ sub-slot-at : tie.Need-sub-slot-at
 sub-slot-at c = let e = ends (c .before .before .before .before .before) in omega (arith, e .0, e .1)
 
 slot-at-requires : tie.Need-slot-at-requires
-slot-at-requires c κs = let e = ends (c .before .before .before .before .before) in (long (c .before .before .before .before .before), omega (arith, e .0, e .1, e .2))
+slot-at-requires c κs =
+    let e = ends (c .before .before .before .before .before) in (long (c .before .before .before .before .before), omega (arith, e .0, e .1, e .2))
 
 is-apart-requires : tie.Need-is-apart-requires
-is-apart-requires c κs = let e = ends (c .before .before .before .before .before .before) in (long (c .before .before .before .before .before .before), omega (arith, e .1, e .2))
+is-apart-requires c κs =
+    let e = ends (c .before .before .before .before .before .before) in (
+      long (c .before .before .before .before .before .before),
+      omega (
+        arith,
+        e
+            .1,
+        e .2,
+      ),
+    )
 
 returns-2 : tie.Need-returns-2
 returns-2 c =
@@ -61,7 +71,8 @@ returns-2 c =
     let s = sessionOf (a .bytes .now) in
     let ring = a .ring .now in
     let g = good start in
-    let two = neither (not (a .bit || c .before .before .before .before .is-served-at .result)) (c .before .before .before .is-served-at2 .result) (c .before .before .if1 .left) in
+    let two = neither (not (a .bit || c .before .before .before .before .is-served-at .result)) (c .before .before .before .is-served-at2 .result) (c
+    .before .before .if1 .left) in
     let served : c .before .before .before .before .is-served-at .result ≡ isServed s ring =
     c .before .before .before .before .is-served-at .ensures
     ∙ ap (λ (n : ℕ). not (isSet active (getD ring (2 * getD (plansOf (a .bytes .now)) (n - 1) blankPlan .«desc_index») 0)))

@@ -1,9 +1,7 @@
 -- The invariant: none of the plans that were passed has the slot. The measure is how many are left.
-use mathlib.Core.Path.{_≡_, sym, _∙_}
-use Prim.Native.Nat.{ℕ, _-_, _≤_, _<_}
+use mathlib.Core.Path.{_≡_, _∙_}
+use Prim.Native.Nat.{ℕ, _-_, _≤_}
 use native.Mathlib.Omega.{arith}
-use lib.ListN.{getD}
-use Rattle.session.specs.Session.{blankPlan}
 use Rattle.port.specs.Places.{plansOf}
 use Rattle.port.proofs.Laws.First.{Apart, apart-next}
 use Rattle.port.proofs.first.is_apart.Statement.{statement}
@@ -31,7 +29,11 @@ loop-less : tie.Need-loop-less Inv-loop μ-loop
 loop-less c = omega arith
 
 loop-again : tie.Need-loop-again Inv-loop μ-loop
-loop-again c = (omega arith, apart-next (c .before .before .before .before .before .args .slot) (c .before .before .before .loop .i) (plansOf (c .before .before .before .before .before .args .bytes .now)) (c .before .before .before .loop .inv .1) (λ e. c .if1 .left (c .before .slot-at .ensures ∙ e)))
+loop-again c = (
+  omega arith,
+  apart-next (c .before .before .before .before .before .args .slot) (c .before .before .before .loop .i) (plansOf (c .before .before
+      .before .before .before .args .bytes .now)) (c .before .before .before .loop .inv .1) (λ e. c .if1 .left (c .before .slot-at .ensures ∙ e)),
+)
 
 returns-2 : tie.Need-returns-2 Inv-loop μ-loop
 returns-2 c = λ e k h. c .before .loop .inv .1 k (omega arith)

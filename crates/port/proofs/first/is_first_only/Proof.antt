@@ -1,7 +1,7 @@
 -- The way settles, and of the requests the first alone.
 use mathlib.Core.Path.{_≡_, refl, _∙_, sym, ap}
-use mathlib.Core.Bool.{Bool, true, false, not, _&&_}
-use Prim.Native.Nat.{ℕ, _+_, _*_, _≤_, _<_}
+use mathlib.Core.Bool.{Bool, true, false, _&&_}
+use Prim.Native.Nat.{ℕ, _+_, _≤_, _<_}
 use native.Mathlib.Omega.{arith}
 use lib.Dec.{eqb, ltb}
 use lib.ListN.{length}
@@ -14,7 +14,6 @@ use Rattle.session.specs.Settle.{Drained}
 use Rattle.session.specs.Poll.{reply, pollWay, polledBy, polledRingBy}
 use Rattle.session.proofs.Laws.Record.{Sound, sound}
 use Rattle.port.specs.Layout.{sessionOf}
-use Rattle.port.specs.First.{FirstOnly}
 use Rattle.port.proofs.Laws.Calls.{long-enough}
 use Rattle.port.proofs.Laws.Kept.{both}
 use Rattle.port.proofs.Laws.Placed.{requests-many, plans-many}
@@ -79,8 +78,16 @@ hcint-xfercompl-requires c κs = search needs
 
 is-alone-requires : tie.Need-is-alone-requires
 is-alone-requires c κs =
-    let first = told (c .before .before .before .before) in
-    (c .before .before .before .before .before .before .before .before .before .before .pre .0, c .before .before .before .before .before .before .before .before .before .before .pre .1, first .0, first .1, c .before .before .before .packets-at .ensures .0, ap (λ (n : ℕ). c .before .before .before .packets-at .result + n) (c .before .packets-at2 .ensures .0))
+    let first = told (c .before .before .before .before) in (
+      c .before .before .before .before .before .before .before .before .before .before .pre .0,
+      c .before .before .before .before .before .before
+          .before .before .before .before .pre .1,
+      first .0,
+      first .1,
+      c .before .before .before .packets-at .ensures .0,
+      ap (λ (n : ℕ). c .before .before
+          .before .packets-at .result + n) (c .before .packets-at2 .ensures .0),
+    )
 
 returns-3 : tie.Need-returns-3
 returns-3 c =

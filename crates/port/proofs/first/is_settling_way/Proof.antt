@@ -1,6 +1,6 @@
 -- The tests of the way that settles, each by what it read.
-use mathlib.Core.Path.{_≡_, _∙_, sym, ap}
-use mathlib.Core.Bool.{Bool, true, false, not, _||_, _&&_}
+use mathlib.Core.Path.{_∙_, sym, ap}
+use mathlib.Core.Bool.{not, _&&_}
 use lib.ListN.{drop}
 use borrow.Author.Needs.{needs}
 use borrow.Author.Tests.{eqb-true, not-true}
@@ -27,12 +27,14 @@ returns c =
     let xs = c .before .before .before .before .before .before .before .args .bytes .now in
     let live = ap (λ (h : IsoHead). h .live) (c .before .before .before .before .before .head-at .ensures ∙ head-there xs) in
     λ e.
-    let halves = both (c .before .before .before .before .before .head-at .result .live && (c .before .before .before .before .before .before .before .args .event .reported && not (c .before .before .before .before .before .before .before .args .event .unplugged))) _ e in
+    let halves = both (c .before .before .before .before .before .head-at .result .live && (c .before .before .before .before .before .before .before
+    .args .event .reported && not (c .before .before .before .before .before .before .before .args .event .unplugged))) _ e in
     let on = both (c .before .before .before .before .before .head-at .result .live) _ (halves .0) in
     let taken = both (c .before .before .before .before .before .before .before .args .event .reported) _ (on .1) in
     let calm = both (c .before .is-calm .result) _ (halves .1) in
     let bits = c .before .is-calm .ensures (calm .0) in
-    calm-way (sessionOf xs) (c .before .before .before .before .before .before .before .args .event) (taken-is (sessionOf xs .head .live) (c .before .before .before .before .before .before .before .args .event .reported) (sym live ∙ on .0) (taken .0))
+    calm-way (sessionOf xs) (c .before .before .before .before .before .before .before .args .event) (taken-is (sessionOf xs .head .live) (c .before
+    .before .before .before .before .before .before .args .event .reported) (sym live ∙ on .0) (taken .0))
     (not-true (c .before .before .before .before .before .before .before .args .event .unplugged) (taken .1)) (bits .0) (bits .1)
     (sym (reason-there xs) ∙ no-reason (drop 34 xs) (sym (c .byte-at .ensures) ∙ eqb-true _ _ (calm .1)))
 

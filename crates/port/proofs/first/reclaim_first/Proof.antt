@@ -1,8 +1,7 @@
 -- The answer is that of the settled request.
 use mathlib.Core.Path.{_≡_, refl, _∙_, sym, ap, ap₂}
-use Prim.Native.Nat.{_≤_}
 use native.Mathlib.Omega.{arith}
-use lib.ListN.{length, getD}
+use lib.ListN.{getD}
 use borrow.Author.Needs.{needs}
 use Rattle.session.specs.declared.types.IsoOutcome.the-variants.{Done}
 use Rattle.session.specs.declared.reply.ReclaimAnswer.{ReclaimAnswer}
@@ -23,7 +22,8 @@ good : (c : tie.Start) → Sound (sessionOf (c .args .bytes .now))
 good c = let xs = c .args .bytes .now in sound (sessionOf xs) (requests-many xs) (plans-many xs) (c .pre .1)
 
 packets-at-requires : tie.Need-packets-at-requires
-packets-at-requires c κs = (long-enough (c .before .before .before .before .args .bytes .now) refl (c .before .before .before .before .pre .0), omega arith)
+packets-at-requires c κs =
+    (long-enough (c .before .before .before .before .args .bytes .now) refl (c .before .before .before .before .pre .0), omega arith)
 
 take-first-requires : tie.Need-take-first-requires
 take-first-requires c κs = search needs
@@ -50,8 +50,11 @@ returns c =
     let ring = start .args .ring .now in
     let g = good start in
     let n-is = c .before .before .before .before .before .before .before .before .before .before .before .packets-at .ensures .0 in
-    let answer : Completed Done (c .before .before .before .before .before .before .before .take-first .result) (c .before .before .before .before .before .before .before .before .before .before .before .packets-at .result) ≡ handedAnswer (getD (settledSession s ring .requests) 0 blankRequest) =
-    ap₂ (Completed Done) (c .before .before .before .before .before .before .before .take-first .ensures .0) (sym (first-packets s ring g (start .pre .2) (start .pre .3) n-is))
+    let answer : Completed Done (c .before .before .before .before .before .before .before .take-first .result) (c .before .before .before .before
+    .before .before .before .before .before .before .before .packets-at .result) ≡ handedAnswer (getD (settledSession s ring .requests) 0
+    blankRequest) =
+    ap₂ (Completed Done) (c .before .before .before .before .before .before .before .take-first .ensures .0) (sym (first-packets s ring g (start .pre
+    .2) (start .pre .3) n-is))
     ∙ sym (ap handedAnswer (first-request s ring g (start .pre .2) (start .pre .3) n-is)) in (
       c .reclaim-port .ensures ∙ ap (λ (a : ReclaimAnswer). reclaimPort a 1 0) answer,
       c .before .before .before .before .before .before .before .take-first .ensures .1,

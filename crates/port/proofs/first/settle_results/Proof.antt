@@ -5,7 +5,7 @@ use mathlib.Core.List.{List, _∷_, map}
 use Prim.Native.Nat.{ℕ, _+_, _-_, _*_, _≤_, _<_}
 use native.Mathlib.Nat.{zero-add}
 use native.Mathlib.Omega.{arith}
-use lib.ListN.{length, getD, drop, set, length-set}
+use lib.ListN.{length, getD, length-set}
 use lib.Seq.{slice, sets}
 use borrow.Author.Needs.{needs}
 use Rattle.words.specs.Words.{isPacketError, movedLength}
@@ -41,8 +41,15 @@ cast-status : tie.Need-cast-status Inv-loop μ-loop
 cast-status c = search needs
 
 -- the word that is read
-in-ring : (c : tie.After-slot-at Inv-loop μ-loop) → 2 * c .slot-at .result < length (c .before .before .before .before .before .before .args .ring .now)
-in-ring c = omega (arith, c .slot-at .ensures, c .before .before .before .before .before .before .pre .3 (c .before .before .loop .i) (omega arith) (omega arith))
+in-ring : (c : tie.After-slot-at Inv-loop μ-loop) → 2 * c .slot-at .result < length (c .before .before .before .before .before .before .args .ring
+    .now)
+in-ring c =
+    omega (
+      arith,
+      c .slot-at .ensures,
+      c .before .before .before .before .before .before .pre .3 (c .before .before .loop .i) (omega arith) (omega
+          arith),
+    )
 
 mul-status : tie.Need-mul-status Inv-loop μ-loop
 mul-status c = omega (arith, in-ring c)

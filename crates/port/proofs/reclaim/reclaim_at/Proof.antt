@@ -141,11 +141,19 @@ cast-all : tie.Need-cast-all
 cast-all c = search needs
 
 is-first-only-requires : tie.Need-is-first-only-requires
-is-first-only-requires c κs = let start = (c .before .before .before .before .before .before .before .before .before .before .before .before .before .before .before) in (start .pre .0, passed (c .before .before .before .before .before .before .before) .1, start .pre .1 .all (c .before .before .before .before .before .before .before .if2 .left))
+is-first-only-requires c κs =
+    let start = (c .before .before .before .before .before .before .before .before .before .before .before .before .before .before .before) in (
+      start
+          .pre .0,
+      passed (c .before .before .before .before .before .before .before) .1,
+      start .pre .1 .all (c .before .before .before .before .before
+          .before .before .if2 .left),
+    )
 
 reclaim-first-requires : tie.Need-reclaim-first-requires
 reclaim-first-requires c κs =
-    let start = (c .before .before .before .before .before .before .before .before .before .before .before .before .before .before .before .before .before .before .before .before) in
+    let start = (c .before .before .before .before .before .before .before .before .before .before .before .before .before .before .before .before
+    .before .before .before .before) in
     let past = passed (c .before .before .before .before .before .before .before .before .before .before .before .before) in
     let all = start .pre .1 .all (c .before .before .before .before .before .before .before .before .before .before .before .before .if2 .left) in
     let first = c .before .before .before .before .is-first-only .ensures (c .before .before .before .if3 .taken) .1 in
@@ -162,30 +170,43 @@ same-length-5 c = search needs
 
 returns-3 : tie.Need-returns-3
 returns-3 c =
-    let start = (c .before .before .before .before .before .before .before .before .before .before .before .before .before .before .before .before .before .before .before .before .before .before .before .before .before .before .before) in
+    let start = (c .before .before .before .before .before .before .before .before .before .before .before .before .before .before .before .before
+    .before .before .before .before .before .before .before .before .before .before .before) in
     let a = start .args in
-    let past = passed (c .before .before .before .before .before .before .before .before .before .before .before .before .before .before .before .before .before .before .before) in
-    let told = c .before .before .before .before .before .before .before .before .before .before .before .is-first-only .ensures (c .before .before .before .before .before .before .before .before .before .before .if3 .taken) in
+    let past = passed (c .before .before .before .before .before .before .before .before .before .before .before .before .before .before .before
+    .before .before .before .before) in
+    let told = c .before .before .before .before .before .before .before .before .before .before .before .is-first-only .ensures (c .before .before
+    .before .before .before .before .before .before .before .before .if3 .taken) in
     let left = c .before .before .before .before .before .before .reclaim-first .ensures in
     first-in-place (a .bytes .now) (a .ring .now) (a .results .now) (a .id) (a .event) (good start (past .1)) (past .0) (past .1)
-    (sym (told .0) ∙ place-is (c .before .before .before .before .before .before .before .before .before .before .before .before .before .before .before)) (told .1) (left .0) (left .1) (left .2) (left .3)
+    (sym (told .0) ∙ place-is (c .before .before .before .before .before .before .before .before .before .before .before .before .before .before
+    .before)) (told .1) (left .0) (left .1) (left .2) (left .3)
 
 look-at-requires : tie.Need-look-at-requires
-look-at-requires c κs = let past = passed (c .before .before .before .before .before .before .before .before .before .before .before) in (c .before .before .before .before .before .before .before .before .before .before .before .before .before .before .before .before .before .before .before .pre .0, past .1, past .2)
+look-at-requires c κs =
+    let past = passed (c .before .before .before .before .before .before .before .before .before .before .before) in (
+      c .before .before .before
+          .before .before .before .before .before .before .before .before .before .before .before .before .before .before .before .before .pre .0,
+      past .1,
+      past .2,
+    )
 
 look-again-at-requires : tie.Need-look-again-at-requires
 look-again-at-requires c κs =
-    let start = (c .before .before .before .before .before .before .before .before .before .before .before .before .before .before .before .before .before .before .before .before .before .before .before .before .before .before) in
+    let start = (c .before .before .before .before .before .before .before .before .before .before .before .before .before .before .before .before
+    .before .before .before .before .before .before .before .before .before .before) in
     let a = start .args in
     let xs = a .bytes .now in
-    let past = passed (c .before .before .before .before .before .before .before .before .before .before .before .before .before .before .before .before .before .before) in
+    let past = passed (c .before .before .before .before .before .before .before .before .before .before .before .before .before .before .before
+    .before .before .before) in
     let g = good start (past .1) in
     let place = place-is (c .before .before .before .before .before .before .before .before .before .before .before .before .before .before) in
     let act = c .before .before .before .before .before .before .look-at .ensures .0 in (
       looked-layout xs (a .ring .now) (a .results .now) (a .id) (a .event) (start .pre .0) g place act,
       looked-good xs (a .ring .now) (a .results .now) (a .id) (a .event) (start .pre .0) g place act,
       past .3,
-      start .pre .1 .all (c .before .before .before .before .before .before .before .before .before .before .before .before .before .before .before .before .before .before .if2 .left)
+      start .pre .1 .all (c .before .before .before .before .before .before .before .before .before .before .before .before .before .before .before
+          .before .before .before .if2 .left)
           ∙ sym (looked-all xs (a .ring .now) (a .results .now) (a .id) (a .event) (start .pre .0) g place act),
     )
 
@@ -203,12 +224,16 @@ same-length-8 c = search needs
 
 returns-4 : tie.Need-returns-4
 returns-4 c =
-    let start = (c .before .before .before .before .before .before .before .before .before .before .before .before .before .before .before .before .before .before .before .before .before .before .before .before .before .before .before .before .before .before .before .before) in
+    let start = (c .before .before .before .before .before .before .before .before .before .before .before .before .before .before .before .before
+    .before .before .before .before .before .before .before .before .before .before .before .before .before .before .before .before) in
     let a = start .args in
-    let past = passed (c .before .before .before .before .before .before .before .before .before .before .before .before .before .before .before .before .before .before .before .before .before .before .before .before) in
+    let past = passed (c .before .before .before .before .before .before .before .before .before .before .before .before .before .before .before
+    .before .before .before .before .before .before .before .before .before) in
     let look = c .before .before .before .before .before .before .before .before .before .before .before .before .look-at .ensures in
     let again = c .before .before .before .before .before .look-again-at .ensures in
-    done-in-place (a .bytes .now) (a .ring .now) (a .results .now) (a .id) (a .event) (start .pre .0) (good start (past .1)) (place-is (c .before .before .before .before .before .before .before .before .before .before .before .before .before .before .before .before .before .before .before .before)) (look .0)
+    done-in-place (a .bytes .now) (a .ring .now) (a .results .now) (a .id) (a .event) (start .pre .0) (good start (past .1)) (place-is (c .before
+    .before .before .before .before .before .before .before .before .before .before .before .before .before .before .before .before .before .before
+    .before)) (look .0)
     (past .0) (past .1) (look .1) (again .0) (again .1) (again .2) (c .reclaim-port .ensures)
 
 pub reclaim-at-spec : {M : Type 1} → statement M
