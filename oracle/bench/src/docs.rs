@@ -1,7 +1,7 @@
 //! docs/SPEED.md and its plots. A table stands in SPEED.md between two comments that name it; the words around it stay.
 
 use crate::counts::{Counts, Parts};
-use crate::least::{LEAST, LEAST_SETUP, PLOT, WORDS_READ};
+use crate::least::PLOT;
 use crate::rows::{Figures, Spread};
 use crate::svg;
 use std::fs;
@@ -117,30 +117,21 @@ fn growth(curves: &[Measured], counts: &Counts) -> String {
     out
 }
 
-/// what a check costs at the least, beside the Rust's whole calls in the same state
+/// what a call costs at the least, beside the port's and the Rust's; of a call that does nothing there is no other
 fn least(figures: &[Figures], curves: &[Measured]) -> String {
-    let curve = |name: &str| &curves.iter().find(|c| c.name == name).expect("a curve of a check").points;
-    let rust = |name: String| figures.iter().find(|f| f.name == name).map_or("–".into(), |f| time(rust_ns(f)));
-    let mut out =
-        String::from("| Pending | words read | least check | the port's check | Rust: poll, no event | poll, none served | cancel |\n");
-    out.push_str("|--:|--:|--:|--:|--:|--:|--:|\n");
-    for ((count, read), (_, check)) in curve(WORDS_READ).iter().zip(curve(LEAST)) {
-        let calls = [
-            rust(format!("poll, no event, {count} pending")),
-            rust(format!("poll, none served, {count} pending")),
-            count.checked_sub(1).map_or("–".into(), |others| rust(format!("cancel, {others} others pending"))),
-        ];
-        let own = [rust_ns(read), rust_ns(check), port_ns(check)].map(time);
-        out.push_str(&format!("| {count} | {} | {} |\n", own.join(" | "), calls.join(" | ")));
+    let rust = |name: &str| figures.iter().find(|f| f.name == name).map(rust_ns);
+    let mut out = String::from("| Call | least | least / Rust | port | port / Rust | Rust |\n|---|--:|--:|--:|--:|--:|\n");
+    for (_, f) in curves.iter().filter(|c| c.plot == PLOT).flat_map(|c| &c.points) {
+        let cells = match rust(&f.name) {
+            Some(rust) => {
+                let of = |ns: f64| format!("{} | {:.2}", time(ns), ns / rust);
+                format!("{} | {} | {}", of(rust_ns(f)), of(port_ns(f)), time(rust))
+            }
+            None => format!("{} | – | – | – | –", time(rust_ns(f))),
+        };
+        out.push_str(&format!("| {} | {cells} |\n", f.name));
     }
-    let setup = &curve(LEAST_SETUP)[0].1;
-    let told = [rust_ns(setup), port_ns(setup)].map(time);
-    out + &format!(
-        "\n`setup_packet_bytes`: the least {}, the port's {}, the Rust's {}.\n",
-        told[0],
-        told[1],
-        rust("setup_packet_bytes".into())
-    )
+    out
 }
 
 fn plots(folder: &Path, figures: &[Figures], curves: &[Measured]) {

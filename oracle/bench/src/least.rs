@@ -1,110 +1,182 @@
-//! What a check of refusal 18 costs at the least, on the port's own bytes (docs/LAYOUT.md): their words read with nothing asked of them, and
-//! a check as one would write it with no promise to keep and no bound to test. Both know only sessions of which nothing is completed.
-//! And what a setup packet costs at the least where it is asked for by the port's seven numbers.
+//! What a poll and a cancel cost at the least on the port's own bytes (docs/LAYOUT.md): the tests of refusal 18 and the call, as one would
+//! write them with no promise to keep and no bound to test. They know high-speed sessions alone of which nothing is completed, and hand any other
+//! to the port. Beside them a call that does nothing, and a setup packet asked for by the port's seven numbers.
 
 use crate::other_rows;
-use crate::port::{SetupPacket, dwc2_setup_packet_bytes};
+use crate::port::{self, RING_WORDS, Reply, SESSION_BYTES, SetupPacket, dwc2_setup_packet_bytes};
+use crate::probe::Probe;
 use crate::rows::{Once, Row};
 use crate::session_rows::{Curve, pending};
 use crate::sides::{PortSession, port_after};
 use std::hint::black_box;
 
-const REQUESTS: usize = 40;
+const PACKETS: usize = 52;
 const PLANS: usize = 1_320;
-/// the packets that a high-speed ring takes at interval 1
-const CAPACITY: u64 = 255;
+const SLOTS: u64 = 256;
+const LIMIT: u64 = 3_072;
+/// requests that are tested one by one; more have their bits put together
+const FEW: u64 = 8;
 
-/// the numbers at an offset
+/// the number at an offset
 #[inline(always)]
-fn two(s: &PortSession, at: usize) -> u64 {
-    // SAFETY: every offset here is that of an entry of a session, which `s` holds whole
-    unsafe { s.bytes.as_ptr().add(at).cast::<u16>().read_unaligned().into() }
+fn at<T: Copy>(bytes: *const u8, offset: usize) -> T {
+    // SAFETY: every offset here is that of an entry of a session, which the bytes hold whole
+    unsafe { bytes.add(offset).cast::<T>().read_unaligned() }
 }
 
+/// mark, version and names, high speed; limits; a cursor in the ring and nothing completed
 #[inline(always)]
-fn four(s: &PortSession, at: usize) -> u64 {
-    // SAFETY: as above
-    unsafe { s.bytes.as_ptr().add(at).cast::<u32>().read_unaligned().into() }
+fn is_good_front(bytes: *const u8) -> bool {
+    let names = at::<u64>(bytes, 0) & 0xfefe_ffff_ffff_ffff ^ 0x0153_5744;
+    let limits = at::<u64>(bytes, 8) & 0xfefc_80f0_f800_0000;
+    names | limits | u64::from(at::<u32>(bytes, 28) & !0xff) == 0
 }
 
+/// the packets of all requests, where each has some and no outcome
 #[inline(always)]
-fn eight(s: &PortSession, at: usize) -> u64 {
-    // SAFETY: as above
-    unsafe { s.bytes.as_ptr().add(at).cast::<u64>().read_unaligned() }
-}
-
-/// the bits of the requests' states put together, and the sum of their packets
-#[inline(always)]
-fn requests(s: &PortSession, count: u64) -> (u64, u64) {
-    let at = |i: u64| REQUESTS + 20 * i as usize + 12;
-    (0..count).fold((0, 0), |(bits, sum), i| (bits | eight(s, at(i)).wrapping_sub(1), sum + two(s, at(i))))
-}
-
-#[inline(always)]
-fn plans(s: &PortSession, packets: u64) -> u64 {
-    (0..packets).fold(0, |bits, i| bits | eight(s, PLANS + 7 * i as usize - 1))
-}
-
-/// every word that a check reads, of requests of one packet each
-#[inline(never)]
-fn read(s: &PortSession) -> u64 {
-    let count = two(s, 32).min(64);
-    let front = [0, 8, 28, 32].map(|at| eight(s, at)).into_iter().fold(0, |bits, word| bits | word);
-    let requests = (0..count).fold(front, |bits, i| bits | eight(s, REQUESTS + 20 * i as usize + 12));
-    requests | plans(s, count)
-}
-
-/// mark, version, names and limits; a cursor in the ring and nothing completed; no reason to end; each request with packets and without an
-/// outcome; the packets fit; each plan within the limit, in the ring and not settled
-#[inline(never)]
-fn check(s: &PortSession) -> u64 {
-    let count = eight(s, 32);
-    let front = (four(s, 0) == 0x0153_5744)
-        & (four(s, 4) & 0xfefe_feff == 0x0000_0000)
-        & (four(s, 8) >> 16 < 2_048)
-        & (four(s, 12) & 0xfefc_80f0 == 0);
-    let high = four(s, 4) >> 8 & 0xff == 0;
-    let slots = if high { 256 } else { 64 };
-    if !front | (four(s, 28) >= slots) | (count > 64) {
-        return 18;
+fn packets_of(bytes: *const u8, count: u64) -> Option<u64> {
+    let word = |i: u64| at::<u64>(bytes, PACKETS + 20 * i as usize);
+    if count < FEW {
+        return (0..count).try_fold(0, |sum, i| (word(i).wrapping_sub(1) < 255).then(|| sum + word(i)));
     }
+    let (bits, sum) = (0..count).fold((0, 0), |(bits, sum), i| (bits | word(i).wrapping_sub(1), sum + (word(i) & 0xffff)));
+    (bits < 255).then_some(sum)
+}
+
+/// each plan within the limit, in the ring and not settled
+#[inline(always)]
+fn are_good_plans(bytes: *const u8, packets: u64) -> bool {
+    let word = |i: u64| at::<u64>(bytes, PLANS - 1 + 7 * i as usize);
+    let in_ring = |bits: u64| bits >> 24 < SLOTS;
+    let bits = if packets < FEW {
+        (0..packets).try_fold(0, |bits, i| Some(bits | word(i)).filter(|bits| in_ring(*bits)))
+    } else {
+        Some((0..packets).fold(0, |bits, i| bits | word(i))).filter(|bits| in_ring(*bits))
+    };
+    bits.is_some_and(|bits| bits >> 8 & 0xffff <= LIMIT)
+}
+
+/// the tests of 17 and 18; the count of requests and the reason to end are one number up to 64 where there is no reason
+#[inline(always)]
+fn is_good(bytes: *const u8, len: usize) -> bool {
+    if len < SESSION_BYTES || !is_good_front(bytes) {
+        return false;
+    }
+    let count = at::<u64>(bytes, 32);
     if count == 0 {
-        return 0;
+        return true;
     }
-    let (bits, sum) = requests(s, count);
-    if (s.bytes[15] != 1) | (bits > 254) | (sum > CAPACITY) | (two(s, 8) != 1) {
-        return 18;
+    if count > 64 || at::<u8>(bytes, 15) != 1 {
+        return false;
     }
-    let limit = if high { 3_072 } else { 1_023 };
-    let bits = plans(s, sum);
-    if (bits >> 24 >= slots) | (bits >> 8 & 0xffff > limit) { 18 } else { 0 }
+    let interval = u64::from(at::<u16>(bytes, 8)).max(1);
+    packets_of(bytes, count).is_some_and(|packets| (packets + 1) * interval <= SLOTS && are_good_plans(bytes, packets))
 }
 
-/// the least check lets nothing through that the port refuses: each byte in use is damaged in turn
-fn compare(s: &PortSession) {
-    let (count, packets) = (two(s, 32) as usize, requests(s, two(s, 32)).1 as usize);
-    for at in (0..REQUESTS).chain(REQUESTS..REQUESTS + 20 * count).chain(PLANS..PLANS + 7 * packets) {
+/// the oldest request's last slot is still the controller's, or there is no request
+#[inline(always)]
+fn waits(bytes: *const u8, ring: *const u32) -> bool {
+    if at::<u16>(bytes, 32) == 0 {
+        return true;
+    }
+    let slot: u16 = at(bytes, PLANS + 2 + 7 * (usize::from(at::<u16>(bytes, PACKETS)) - 1));
+    // SAFETY: the record was found good, so that the slot is one of the ring
+    unsafe { ring.add(2 * usize::from(slot)).read() >> 31 == 1 }
+}
+
+#[inline(never)]
+extern "C" fn poll(bytes: *mut u8, len: usize, ring: *mut u32, words: usize, reported: u32, unplugged: u32, hcint: u32) -> Reply {
+    if words >= RING_WORDS && is_good(bytes, len) {
+        let taken = reported != 0 && at::<u8>(bytes, 15) == 1;
+        if !taken || (unplugged | hcint & 0x78f == 0 && waits(bytes, ring)) {
+            return Reply { refusal: 0, taken: taken.into(), halt: 0 };
+        }
+    }
+    // SAFETY: as the caller's
+    unsafe { port::dwc2_iso_poll(bytes, len, ring, words, reported, unplugged, hcint) }
+}
+
+#[inline(never)]
+extern "C" fn cancel(bytes: *mut u8, len: usize, id: u64) -> Reply {
+    if is_good(bytes, len) {
+        let count = u64::from(at::<u16>(bytes, 32));
+        if (0..count).any(|i| at::<u64>(bytes, 40 + 20 * i as usize) == id) {
+            // SAFETY: the six bytes of the reason lie in the session
+            unsafe {
+                bytes.add(34).cast::<u16>().write_unaligned(1);
+                bytes.add(36).cast::<u32>().write_unaligned(0);
+            }
+            return Reply { refusal: 0, taken: 0, halt: 1 };
+        }
+    }
+    // SAFETY: as the caller's
+    unsafe { port::dwc2_iso_cancel(bytes, len, id) }
+}
+
+#[inline(never)]
+extern "C" fn nothing(_: *mut u8, _: usize, _: *mut u32, _: usize, _: u32, _: u32, _: u32) -> Reply {
+    Reply::default()
+}
+
+type Poll = extern "C" fn(*mut u8, usize, *mut u32, usize, u32, u32, u32) -> Reply;
+type Cancel = extern "C" fn(*mut u8, usize, u64) -> Reply;
+
+/// what the compiler is not told of, as it is not of what lies in the port's archive: else it would fit a call to its one caller
+#[inline(always)]
+fn call_poll(call: Poll, s: &mut PortSession, event: Option<u32>) -> Reply {
+    let (bytes, ring) = (s.bytes.as_mut_ptr(), s.ring.as_mut_ptr());
+    call(bytes, SESSION_BYTES, ring, RING_WORDS, event.is_some().into(), 0, event.unwrap_or(0))
+}
+
+/// the least call answers and leaves what the port's does, with each bit in use damaged in turn
+fn compare(start: &PortSession, least: impl Fn(&mut PortSession) -> Reply, port: impl Fn(&mut PortSession) -> Reply) {
+    let number = |offset: usize| usize::from(u16::from_le_bytes([start.bytes[offset], start.bytes[offset + 1]]));
+    let count = number(32);
+    let packets: usize = (0..count).map(|i| number(PACKETS + 20 * i)).sum();
+    for byte in (0..40).chain(40..40 + 20 * count).chain(PLANS..PLANS + 7 * packets) {
         for bit in 0..8 {
-            let mut bad = s.clone();
-            bad.bytes[at] ^= 1 << bit;
-            assert!(check(&bad) != 0 || bad.check() == 0, "bit {bit} of byte {at}: the least check passes what the port refuses");
+            let mut damaged = start.clone();
+            damaged.bytes[byte] ^= 1 << bit;
+            let (mut one, mut other) = (damaged.clone(), damaged);
+            let told = |r: Reply| (r.refusal, r.taken, r.halt);
+            let replies = (told(least(&mut one)), told(port(&mut other)));
+            assert!(replies.0 == replies.1 && one.bytes == other.bytes, "bit {bit} of byte {byte}: the least call is another");
         }
     }
 }
 
-fn row(name: &str, count: usize, least: fn(&PortSession) -> u64, answer: fn(u64) -> u64) -> Row {
+fn side(start: &PortSession, act: impl Fn(&mut PortSession) -> Reply + 'static) -> Once {
+    let (start, mut work) = (start.clone(), start.clone());
+    Box::new(move |probe: &mut Probe| {
+        work.restore(&start);
+        let reply = probe.call(|| act(&mut work));
+        if probe.compares() { u64::from(reply.refusal) << 32 | u64::from(reply.halt) } else { 0 }
+    })
+}
+
+/// the Rust's side is the least call
+fn row(
+    name: String,
+    count: usize,
+    least: impl Fn(&mut PortSession) -> Reply + Copy + 'static,
+    port: impl Fn(&mut PortSession) -> Reply + Copy + 'static,
+) -> Row {
     let start = port_after(&pending(count));
-    let (mut one, mut other) = (start.clone(), start.clone());
-    let rust_start = start.clone();
-    let rust: Once = Box::new(move |probe| {
-        one.restore(&rust_start);
-        answer(probe.call(|| least(black_box(&one))))
-    });
-    let port: Once = Box::new(move |probe| {
-        other.restore(&start);
-        probe.call(|| black_box(&other).check()).into()
-    });
-    Row { name: format!("{name}, {count} pending"), rust: Some(rust), port }
+    compare(&start, least, port);
+    Row { name, rust: Some(side(&start, least)), port: side(&start, port) }
+}
+
+fn poll_row(name: &str, count: usize, event: Option<u32>) -> Row {
+    let name = format!("poll, {name}, {count} pending");
+    let least = black_box(poll as Poll);
+    row(name, count, move |s| call_poll(least, s, black_box(event)), move |s| s.poll(black_box(event)))
+}
+
+fn cancel_row(others: usize) -> Row {
+    let id = others as u64 + 1;
+    let name = format!("cancel, {others} others pending");
+    let least = black_box(cancel as Cancel);
+    row(name, others + 1, move |s| least(s.bytes.as_mut_ptr(), SESSION_BYTES, black_box(id)), move |s| s.cancel(black_box(id)))
 }
 
 /// as C is handed it back: the refusal and the first four bytes in one register, the other four in the next
@@ -139,21 +211,20 @@ fn compare_packets() {
     }
 }
 
-pub const PLOT: &str = "check";
-pub const LEAST_SETUP: &str = "least setup_packet_bytes";
-pub const WORDS_READ: &str = "words of a check";
-pub const LEAST: &str = "least check";
-/// pending requests: those of the rows of `poll`, and of `cancel`, which cancels one more
-pub const COUNTS: [usize; 6] = [0, 1, 3, 4, 31, 32];
+pub const PLOT: &str = "least";
+pub const NOTHING: &str = "a call that does nothing";
 
-/// the Rust's side is what is told above, the port's its own check
+/// each curve has one point, a row that bears the name of the Rust's
 pub fn curves() -> Vec<Curve> {
-    COUNTS.iter().for_each(|count| compare(&port_after(&pending(*count))));
-    let curve = |name: &'static str, least: fn(&PortSession) -> u64, answer: fn(u64) -> u64| {
-        let points = COUNTS.iter().map(|count| (*count, row(name, *count, least, answer))).collect();
-        Curve { plot: PLOT, name, points }
-    };
+    let idle = port_after(&pending(0));
+    let empty = black_box(nothing as Poll);
+    let act = move |s: &mut PortSession| call_poll(empty, s, black_box(None));
+    let mut rows = vec![Row { name: NOTHING.into(), rust: Some(side(&idle, act)), port: side(&idle, act) }];
+    for count in [0, 3, 31] {
+        rows.extend([poll_row("no event", count, None), poll_row("none served", count, Some(0))]);
+    }
+    rows.extend([0, 3, 31].map(cancel_row));
     compare_packets();
-    let setup = Curve { plot: PLOT, name: LEAST_SETUP, points: vec![(0, other_rows::least_setup_packets())] };
-    vec![curve(WORDS_READ, read, |_| 0), curve(LEAST, check, |refusal| refusal), setup]
+    rows.push(other_rows::least_setup_packets());
+    rows.into_iter().map(|row| Curve { plot: PLOT, name: "least", points: vec![(0, row)] }).collect()
 }

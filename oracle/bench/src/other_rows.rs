@@ -112,6 +112,7 @@ struct Input {
     speed: Speed,
     number: u8,
     direction: Direction,
+    to_host: u8,
     mult: u8,
     interval: u16,
     a: u16,
@@ -130,9 +131,9 @@ fn inputs() -> Vec<Input> {
     };
     let input = |_| {
         let (speed, number) = [(Speed::High, 0), (Speed::Full, 1)][draw(2) as usize];
-        let direction = [Direction::Out, Direction::In][draw(2) as usize];
+        let (direction, to_host) = [(Direction::Out, 0), (Direction::In, 1)][draw(2) as usize];
         let (mult, interval) = (1 + draw(3) as u8, 1 + draw(256) as u16);
-        Input { speed, number, direction, mult, interval, a: draw(256) as u16, b: draw(256) as u16, frame: draw(1 << 14) as u32 }
+        Input { speed, number, direction, to_host, mult, interval, a: draw(256) as u16, b: draw(256) as u16, frame: draw(1 << 14) as u32 }
     };
     (0..INPUTS).map(input).collect()
 }
@@ -144,52 +145,72 @@ fn shift<const BY: usize>() {
     unsafe { asm!(".rept {by}", "nop", ".endr", by = const BY, options(nomem, nostack, preserves_flags)) }
 }
 
-/// a thousand calls in one timed stretch, over the same inputs
+/// a thousand calls in one timed stretch, over the same inputs; each answer is looked at as it is handed back: what a caller picks out of it
+/// is its own
 #[inline(never)]
-fn stretch<const BY: usize>(probe: &mut Probe, inputs: &[Input], mut call: impl FnMut(&Input) -> u64) -> u64 {
+fn stretch<const BY: usize, T>(probe: &mut Probe, inputs: &[Input], mut call: impl FnMut(&Input) -> T) {
     probe.calls_of(CALLS as u64, || {
         shift::<BY>();
-        (0..CALLS).fold(0, |sum: u64, i| sum.wrapping_mul(31).wrapping_add(call(&inputs[i % INPUTS])))
-    })
+        for i in 0..CALLS {
+            black_box(call(&inputs[i % INPUTS]));
+        }
+    });
 }
 
 /// the loop stands at four places of a cache line in turn: where it stands is a cycle of the five or six that a sum takes
-fn many(mut call: impl FnMut(&Input) -> u64 + 'static) -> Once {
+fn many<T>(mut call: impl FnMut(&Input) -> T + 'static, number: impl Fn(T) -> u64 + 'static) -> Once {
     let (inputs, mut turn) = (inputs(), 0);
     Box::new(move |probe| {
         turn += 1;
-        match turn % 4 {
-            0 => stretch::<0>(probe, &inputs, &mut call),
-            1 => stretch::<16>(probe, &inputs, &mut call),
-            2 => stretch::<32>(probe, &inputs, &mut call),
-            _ => stretch::<48>(probe, &inputs, &mut call),
+        if probe.compares() {
+            return (0..CALLS).fold(0, |sum: u64, i| sum.wrapping_mul(31).wrapping_add(number(call(&inputs[i % INPUTS]))));
         }
+        match turn % 4 {
+            0 => stretch::<0, T>(probe, &inputs, &mut call),
+            1 => stretch::<16, T>(probe, &inputs, &mut call),
+            2 => stretch::<32, T>(probe, &inputs, &mut call),
+            _ => stretch::<48, T>(probe, &inputs, &mut call),
+        }
+        0
     })
 }
 
-fn sum(name: &str, rust: impl FnMut(&Input) -> u64 + 'static, port: impl FnMut(&Input) -> u64 + 'static) -> Row {
-    Row { name: name.into(), rust: Some(many(rust)), port: many(port) }
+/// the call on both sides, with the number that each's answer is compared by
+fn sum<R: 'static, P: 'static>(
+    name: &str,
+    rust: (impl FnMut(&Input) -> R + 'static, impl Fn(R) -> u64 + 'static),
+    port: (impl FnMut(&Input) -> P + 'static, impl Fn(P) -> u64 + 'static),
+) -> Row {
+    Row { name: name.into(), rust: Some(many(rust.0, rust.1)), port: many(port.0, port.1) }
+}
+
+fn value(n: port::Number) -> u64 {
+    n.value.into()
 }
 
 fn sums() -> Vec<Row> {
     vec![
-        sum("iso_ring_size", |i| rust_sums::ring_size(i.speed) as u64, |i| port::dwc2_iso_ring_size(i.number).value.into()),
-        sum("iso_max_xfer_size", |i| rust_sums::max_xfer_size(i.speed) as u64, |i| port::dwc2_iso_max_xfer_size(i.number).value.into()),
-        sum("gcd", |i| rust_sums::gcd(i.a.into(), i.b.into()) as u64, |i| port::dwc2_gcd(i.a, i.b).into()),
+        sum("iso_ring_size", (|i| rust_sums::ring_size(i.speed), |n| n as u64), (|i| port::dwc2_iso_ring_size(i.number), value)),
+        sum(
+            "iso_max_xfer_size",
+            (|i| rust_sums::max_xfer_size(i.speed), |n| n as u64),
+            (|i| port::dwc2_iso_max_xfer_size(i.number), value),
+        ),
+        sum("gcd", (|i| rust_sums::gcd(i.a.into(), i.b.into()), |n| n as u64), (|i| port::dwc2_gcd(i.a, i.b), u64::from)),
         sum(
             "iso_max_packets",
-            |i| rust_sums::max_packets(i.interval.into(), i.speed) as u64,
-            |i| port::dwc2_iso_max_packets(i.interval, i.number).value.into(),
+            (|i| rust_sums::max_packets(i.interval.into(), i.speed), |n| n as u64),
+            (|i| port::dwc2_iso_max_packets(i.interval, i.number), value),
         ),
         sum(
             "iso_starting_frame",
-            |i| rust_sums::starting_frame(i.frame, i.speed).into(),
-            |i| port::dwc2_iso_starting_frame(i.frame, i.number).value.into(),
+            (|i| rust_sums::starting_frame(i.frame, i.speed), u64::from),
+            (|i| port::dwc2_iso_starting_frame(i.frame, i.number), value),
         ),
         sum(
             "frame_to_desc_idx",
-            |i| rust_sums::desc_idx(i.speed, i.frame) as u64,
-            |i| port::dwc2_frame_to_desc_idx(i.number, i.frame).value.into(),
+            (|i| rust_sums::desc_idx(i.speed, i.frame), |n| n as u64),
+            (|i| port::dwc2_frame_to_desc_idx(i.number, i.frame), value),
         ),
     ]
 }
@@ -198,23 +219,23 @@ fn sums_of_rings() -> Vec<Row> {
     vec![
         sum(
             "advance_along_grid",
-            |i| rust_sums::along_grid(i.a.into(), i.b.into(), i.interval.into(), 256) as u64,
-            |i| port::dwc2_advance_along_grid(i.a, i.b, i.interval, 256).into(),
+            (|i| rust_sums::along_grid(i.a.into(), i.b.into(), i.interval.into(), 256), |n| n as u64),
+            (|i| port::dwc2_advance_along_grid(i.a, i.b, i.interval, 256), u64::from),
         ),
         sum(
             "iso_schinfo",
-            |i| rust_sums::schinfo(i.speed, i.interval.into()).into(),
-            |i| port::dwc2_iso_schinfo(i.number, i.interval).value.into(),
+            (|i| rust_sums::schinfo(i.speed, i.interval.into()), u64::from),
+            (|i| port::dwc2_iso_schinfo(i.number, i.interval), value),
         ),
         sum(
             "iso_pid",
-            |i| rust_sums::pid(i.speed, i.direction, i.mult).number().into(),
-            |i| port::dwc2_iso_pid(i.number, u8::from(i.direction == Direction::In), i.mult).value.into(),
+            (|i| rust_sums::pid(i.speed, i.direction, i.mult), |pid| pid.number().into()),
+            (|i| port::dwc2_iso_pid(i.number, i.to_host, i.mult), value),
         ),
         sum(
             "iso_service_frames",
-            |i| rust_sums::service_frames(i.frame, i.interval.into(), i.speed).len() as u64,
-            |i| port::dwc2_iso_service_frames(i.frame, i.interval, i.number).count.into(),
+            (|i| rust_sums::service_frames(i.frame, i.interval.into(), i.speed), |frames| frames.len() as u64),
+            (|i| port::dwc2_iso_service_frames(i.frame, i.interval, i.number), |frames| frames.count.into()),
         ),
         request_numbers(),
     ]
@@ -229,41 +250,37 @@ fn request_numbers() -> Row {
         next = port::dwc2_next_request_id(id);
         id
     };
-    sum("next request number", move |_| session.draw(), drawn)
+    sum("next request number", (move |_: &Input| session.draw(), |id| id), (drawn, |id| id))
 }
 
-/// the answer is looked at, and no byte of it moved: what the caller does with the eight bytes is its own
-fn port_setup(i: &Input) -> u64 {
-    black_box(port::dwc2_setup_packet_bytes(0, 0, u8::from(i.direction == Direction::In), 6, 0x100, 0, i.a.into()));
-    0
+fn port_setup(i: &Input) -> port::SetupPacket {
+    port::dwc2_setup_packet_bytes(0, 0, i.to_host, 6, 0x100, 0, i.a.into())
 }
 
 fn setup_packets() -> Row {
     let setup = rust_plan::SETUP;
-    let rust = move |i: &Input| {
-        black_box(rust_plan::setup_bytes(black_box(&setup), i.direction, i.a.into()));
-        0
-    };
-    sum("setup_packet_bytes", rust, port_setup)
+    let rust = move |i: &Input| rust_plan::setup_bytes(black_box(&setup), i.direction, i.a.into());
+    sum("setup_packet_bytes", (rust, u64::from_le_bytes), (port_setup, |packet: port::SetupPacket| u64::from_le_bytes(packet.bytes)))
 }
 
 /// in the place of the Rust's the least by the port's numbers
 pub fn least_setup_packets() -> Row {
-    let least = |i: &Input| {
-        black_box(least::setup_packet(0, 0, u8::from(i.direction == Direction::In), 6, 0x100, 0, i.a.into()));
-        0
-    };
-    sum(least::LEAST_SETUP, least, port_setup)
+    let least = |i: &Input| least::setup_packet(0, 0, i.to_host, 6, 0x100, 0, i.a.into());
+    sum("setup_packet_bytes", (least, |_| 0), (port_setup, |_| 0))
 }
 
 fn splits() -> Vec<Row> {
     let len = |i: &Input| u64::from(i.frame) << 8;
     vec![
-        sum("packet_count", move |i| rust_plan::packets(len(i) as usize, i.a).into(), move |i| port::dwc2_packet_count(len(i), i.a)),
+        sum(
+            "packet_count",
+            (move |i: &Input| rust_plan::packets(len(i) as usize, i.a), |n| n.into()),
+            (move |i: &Input| port::dwc2_packet_count(len(i), i.a), |n| n),
+        ),
         sum(
             "split_dma_lengths",
-            move |i| rust_plan::split(len(i) as usize, i.a).len() as u64,
-            move |i| port::dwc2_split_dma_lengths(len(i), i.a).count,
+            (move |i: &Input| rust_plan::split(len(i) as usize, i.a), |parts| parts.len() as u64),
+            (move |i: &Input| port::dwc2_split_dma_lengths(len(i), i.a), |parts| parts.count),
         ),
         setup_packets(),
     ]
