@@ -13,8 +13,7 @@ use Rattle.session.specs.declared.types.IsoConfig.{IsoConfig}
 use Rattle.session.specs.declared.types.IsoChannelState.{IsoChannelState}
 use Rattle.session.specs.Session.{slots, room, packetsOf, allPackets, pendingPackets, hasReason}
 use Rattle.session.proofs.Laws.Tests.{none}
-use Rattle.port.specs.Bytes.{byteOf, u16Of, u32Of}
-use Rattle.port.specs.Tags.{flagOf}
+use Rattle.port.specs.Bytes.{u16Of, u32Of}
 use Rattle.port.specs.Layout.{headOf, anyOf, sessionOf}
 use Rattle.port.specs.Scan.{isBadRequestEntry, isBadPlanEntry, PlainFront, FreshFront, Counted}
 use Rattle.port.proofs.Laws.Sounds.{isBadNumbers, by-plans, empty-all, empty-pending, empty-good}
@@ -30,10 +29,6 @@ module _ (xs : List ℕ) where
         none-done = omega (arith, behind, below, narrow);
         cursor = subst (λ (n : ℕ). u16Of (drop 28 xs) < n) es (omega (arith, below));
       }
-
-  pub live-there : byteOf (drop 15 xs) ≡ 1 → sessionOf xs .head .live ≡ true
-  unfolding sessionOf headOf
-  live-there e = ap flagOf e
 
 second-false : (a : Bool) {b : Bool} → b ≡ false → (a && b) ≡ false
 second-false true e = e

@@ -2,7 +2,7 @@
 use mathlib.Core.Path.{_≡_, refl, _∙_, sym, ap, ap₂}
 use mathlib.Core.Bool.{Bool, true, false, not, _||_, _&&_, or-assoc}
 use mathlib.Core.List.{List}
-use Prim.Native.Nat.{ℕ, _+_, _*_, _/_, _%_, _^_, _≤_, _<_}
+use Prim.Native.Nat.{ℕ, _+_, _-_, _*_, _/_, _%_, _^_, _≤_, _<_}
 use native.Mathlib.Omega.{arith}
 use lib.Dec.{eqb, leb, ltb}
 use lib.ListN.{drop}
@@ -26,7 +26,7 @@ use Rattle.port.specs.Scan.{isBadRequestEntry, isBadPlanEntry, isUnsound
 use Rattle.port.proofs.Laws.Entries.{field, by-plan, ends-here, no-outcome}
 use Rattle.port.proofs.Laws.Kept.{Octets, octets-drop, byte-small, u16-small}
 use Rattle.port.proofs.Laws.Scans.{never, same-tests, front-test, state-test, counts-in}
-use Rattle.port.proofs.Laws.Tables.{any-either}
+use Rattle.port.proofs.Laws.Tables.{any-more, any-either}
 use Rattle.port.proofs.Laws.Walks.{requests-in, plans-in}
 
 -- ---- one entry
@@ -44,7 +44,7 @@ good-entry xs at {word} e h =
     sym (none (sym (no-outcome xs at small)) (sym (ap (λ (n : ℕ). eqb n 0 || ltb 255 n) packets) ∙ h))
 
 -- the same of the word less 1, which wraps where it is 0
-pub plain-entry :
+plain-entry :
     (xs : List ℕ) (at : ℕ) {word less : ℕ} → word ≡ u64Of (drop (at + 12) xs) → (less + 1) % 2 ^ 64 ≡ word → less ≤ 254
     → false ≡ isBadRequestEntry (drop at xs)
 plain-entry xs at {word} {less} e wraps few =
@@ -52,7 +52,7 @@ plain-entry xs at {word} {less} e wraps few =
     good-entry xs at e (none (ne-eqb word 0 (λ z. omega arith)) (le-ltb 255 word (omega arith)))
 
 -- the word of a plan that is not settled, with the byte before it: below 2^24 for each slot of the ring
-pub good-packet :
+good-packet :
     (xs : List ℕ) → Octets xs → (at limit size : ℕ) {word : ℕ} → size ≤ 65535 → word ≡ u64Of (drop at xs) → word < 16777216 * size
     → word / 256 % 65536 ≤ limit
     → false ≡ isBadPlanEntry limit size (drop (at + 1) xs)
@@ -80,6 +80,28 @@ good-packet xs octets at limit size {word} narrow ew below short =
     (none (le-ltb 1 (byteOf (drop 6 zs)) (omega (arith, done)))
     (none (le-ltb limit (u16Of zs) long)
     (none (le-ltb (u16Of zs) (u16Of (drop 4 zs)) (omega (arith, unmoved))) (lt-leb size (u16Of (drop 2 zs)) in-ring))))
+
+-- ---- one turn of a walk, past a good entry
+
+-- a request, by the word that begins with its packets
+pub request-passed :
+    (xs : List ℕ) (n i : ℕ) {at word less : ℕ} → i < n → at ≡ 52 + 20 * i → word ≡ u64Of (drop at xs) → (less + 1) % 2 ^ 64 ≡ word → less ≤ 254
+    → anyOf isBadRequestEntry 20 (n - (i + 1)) (drop (40 + 20 * (i + 1)) xs) ≡ anyOf isBadRequestEntry 20 (n - i) (drop (40 + 20 * i) xs)
+request-passed xs n i {at} h place e wraps few =
+    let begins : at ≡ 40 + 20 * i + 12 = omega arith in
+    let ends : 40 + 20 * (i + 1) ≡ 40 + 20 * i + 20 = omega arith in
+    ap (λ (k : ℕ). anyOf isBadRequestEntry 20 (n - (i + 1)) (drop k xs)) ends
+    ∙ any-more isBadRequestEntry 20 n i (40 + 20 * i) xs h (plain-entry xs (40 + 20 * i) (e ∙ ap (λ (k : ℕ). u64Of (drop k xs)) begins) wraps few) refl
+
+-- a plan, by the word that begins with the byte before it
+pub plan-passed :
+    (xs : List ℕ) → Octets xs → (limit size n i at : ℕ) {word : ℕ} → i < n → size ≤ 65535 → word ≡ u64Of (drop at xs) → word < 16777216 * size
+    → word / 256 % 65536 ≤ limit
+    → anyOf (isBadPlanEntry limit size) 7 (n - (i + 1)) (drop (at + 7 + 1) xs) ≡ anyOf (isBadPlanEntry limit size) 7 (n - i) (drop (at + 1) xs)
+plan-passed xs octets limit size n i at h narrow e below short =
+    let on : at + 7 + 1 ≡ at + 1 + 7 = omega arith in
+    ap (λ (k : ℕ). anyOf (isBadPlanEntry limit size) 7 (n - (i + 1)) (drop k xs)) on
+    ∙ any-more (isBadPlanEntry limit size) 7 n i (at + 1) xs h (good-packet xs octets at limit size narrow e below short) refl
 
 -- ---- the tests that ask no entry
 

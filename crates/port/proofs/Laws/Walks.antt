@@ -11,15 +11,16 @@ use Rattle.session.specs.declared.types.IsoRequest.{IsoRequest}
 use Rattle.session.specs.declared.types.IsoPacketPlan.{IsoPacketPlan}
 use Rattle.session.specs.declared.types.IsoChannelState.{IsoChannelState}
 use Rattle.session.specs.Session.{blankRequest, blankPlan, packetsOf, allPackets}
+use Rattle.session.proofs.Laws.Sums.{packets-next}
 use Rattle.port.specs.Bytes.{byteOf, u16Of}
-use Rattle.port.specs.Tags.{directionOf}
+use Rattle.port.specs.Tags.{directionOf, flagOf}
 use Rattle.port.specs.Layout.{configOf, headOf, requestBytes, requestOf, planBytes, planOf, layoutNumber, sessionOf, requestsIn, plansIn}
 use Rattle.port.specs.Places.{requestsOf, plansOf, withRequests, withPlans, Left}
 use Rattle.port.proofs.Canonical.{request-clear, plan-clear}
 use Rattle.port.proofs.Laws.Calls.{long-enough}
 use Rattle.port.proofs.Laws.Entries.{field}
 use Rattle.port.proofs.Laws.Left.{left-is, left-request, left-plan}
-use Rattle.port.proofs.Laws.Placed.{plan-there, request-there}
+use Rattle.port.proofs.Laws.Placed.{plan-there, request-there, requests-many}
 
 -- ---- single fields, read where they stand
 
@@ -34,6 +35,10 @@ count-there xs = refl
 pub direction-there : (xs : List ℕ) → directionOf (byteOf (drop 6 xs)) ≡ sessionOf xs .cfg .direction
 unfolding sessionOf configOf
 direction-there xs = refl
+
+pub live-there : (xs : List ℕ) → flagOf (byteOf (drop 15 xs)) ≡ sessionOf xs .head .live
+unfolding sessionOf headOf
+live-there xs = refl
 
 pub packets-there : (xs : List ℕ) (i : ℕ) → i < 64 → u16Of (drop (52 + 20 * i) xs) ≡ getD (requestsOf xs) i blankRequest .packets
 unfolding requestOf
@@ -50,6 +55,16 @@ unfolding planOf
 slot-there xs i h =
     let on : 1322 + 7 * i ≡ 1320 + 7 * i + 2 = omega arith in
     ap (λ (n : ℕ). u16Of (drop n xs)) on ∙ field u16Of 2 (1320 + 7 * i) xs ∙ ap (λ (p : IsoPacketPlan). p .«desc_index») (plan-there xs i blankPlan h)
+
+-- the sum of the packets so far and those of the requests still to come, after one request more
+pub packets-more :
+    (xs : List ℕ) (n i sum all : ℕ) {at packets : ℕ} → i < n → n ≤ 64 → at ≡ 52 + 20 * i → packets ≡ u16Of (drop at xs)
+    → sum + packetsOf (slice i n (requestsOf xs)) ≡ all
+    → sum + packets + packetsOf (slice (i + 1) n (requestsOf xs)) ≡ all
+packets-more xs n i sum all {packets = packets} h few place e so-far =
+    let here : packets ≡ getD (requestsOf xs) i blankRequest .packets =
+    e ∙ ap (λ (k : ℕ). u16Of (drop k xs)) place ∙ packets-there xs i (omega arith) in
+    omega (arith, packets-next i n (requestsOf xs) h (omega (arith, requests-many xs)), here, so-far)
 
 -- ---- one turn of a walk: `now` holds the session `s` but for one table, and an entry of that table that is in use is written
 

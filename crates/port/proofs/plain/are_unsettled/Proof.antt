@@ -10,8 +10,8 @@ use borrow.Author.Tests.{ltb-true, leb-true}
 use Rattle.port.specs.Layout.{anyOf}
 use Rattle.port.specs.Scan.{isBadPlanEntry}
 use Rattle.port.proofs.Laws.Kept.{both}
-use Rattle.port.proofs.Laws.Sounds.{good-packet}
-use Rattle.port.proofs.Laws.Tables.{any-first, any-more, any-end}
+use Rattle.port.proofs.Laws.Sounds.{plan-passed}
+use Rattle.port.proofs.Laws.Tables.{any-first, any-end}
 use Rattle.port.proofs.plain.are_unsettled.Statement.{statement}
 use Rattle.port.proofs.plain.are_unsettled.Tie as tie
 
@@ -66,19 +66,14 @@ loop-again : tie.Need-loop-again Inv-loop μ-loop
 loop-again c =
     let a = c .before .before .before .before .before .args in
     let l = c .before .before .before .loop in
-    let xs = a .bytes .now in
-    let now = c .joined .ensures in
-    let on : l .at + 7 + 1 ≡ l .at + 1 + 7 = omega arith in (
+    let now = c .joined .ensures in (
       omega arith,
       l .inv .1,
       omega arith,
       λ below short.
-          let good =
-          good-packet xs (λ i. omega (arith, c .before .before .before .before .shared-slice-known .given i)) (l .at) (a .limit) (a .slots)
-          (omega arith) (c .before .u64-at .ensures)
-          (omega (arith, below, now .1)) (omega (arith, short, now .3)) in
-          ap (λ (k : ℕ). anyOf (isBadPlanEntry (a .limit) (a .slots)) 7 (a .to - a .from - (l .j + 1)) (drop k xs)) on
-          ∙ any-more (isBadPlanEntry (a .limit) (a .slots)) 7 (a .to - a .from) (l .j) (l .at + 1) xs (omega arith) good refl
+          plan-passed (a .bytes .now) (λ i. omega (arith, c .before .before .before .before .shared-slice-known .given i)) (a .limit) (a .slots)
+          (a .to - a .from) (l .j) (l .at) (omega arith) (omega arith) (c .before .u64-at .ensures) (omega (arith, below, now .1))
+          (omega (arith, short, now .3))
           ∙ l .inv .3 (omega (arith, below, now .0)) (omega (arith, short, now .2)),
     )
 

@@ -10,11 +10,12 @@ use borrow.Author.Needs.{needs}
 use borrow.Author.Tests.{eqb-true, ltb-false, not-false}
 use Rattle.words.proofs.Laws.Tests.{neither}
 use Rattle.session.specs.Session.{room, packetsOf, allPackets}
+use Rattle.port.specs.Tags.{flagOf}
 use Rattle.port.specs.Layout.{anyOf, sessionOf}
 use Rattle.port.specs.Scan.{isBadRequestEntry, isBadPlanEntry, FreshFront}
-use Rattle.port.proofs.Laws.Fresh.{live-there, young-counted}
+use Rattle.port.proofs.Laws.Fresh.{young-counted}
 use Rattle.port.proofs.Laws.Placed.{config-there}
-use Rattle.port.proofs.Laws.Walks.{count-there}
+use Rattle.port.proofs.Laws.Walks.{count-there, live-there}
 use Rattle.port.proofs.plain.packets_in.Statement.{statement}
 use Rattle.port.proofs.plain.packets_in.Tie as tie
 
@@ -24,7 +25,7 @@ front c = c .before .before .is-fresh-front .ensures (not-false (c .before .befo
 live : (c : tie.Else1) → sessionOf (c .before .before .before .before .args .bytes .now) .head .live ≡ true
 live c =
     let xs = c .before .before .before .before .args .bytes .now in
-    live-there xs
+    sym (live-there xs) ∙ ap flagOf
     (sym (c .before .byte-at .ensures) ∙ eqb-true (c .before .byte-at .result) 1 (not-false (eqb (c
     .before .byte-at .result) 1) (neither (not (c .before .before .is-fresh-front .result)) (not
     (eqb (c .before .byte-at .result) 1)) (c .if1 .left) .1)))

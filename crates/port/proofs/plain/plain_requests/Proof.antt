@@ -1,23 +1,21 @@
 -- The invariant: what is put together is below none of the numbers passed; where it is small, a bad entry is among those still to be looked at
 -- exactly if one is in use. The sum so far and the packets of the others are the packets of all. The measure is how many are left.
-use mathlib.Core.Path.{_≡_, refl, _∙_, sym, ap}
-use Prim.Native.Nat.{ℕ, _+_, _-_, _*_, _≤_}
+use mathlib.Core.Path.{_≡_, refl, _∙_, sym}
+use Prim.Native.Nat.{_+_, _-_, _*_, _≤_}
 use native.Mathlib.Nat.{zero-add}
 use native.Mathlib.Omega.{arith}
-use lib.ListN.{getD, drop}
+use lib.ListN.{drop}
 use lib.Seq.{slice}
 use borrow.Author.Needs.{needs}
 use borrow.Author.Tests.{ltb-false}
-use Rattle.session.specs.Session.{blankRequest, packetsOf}
-use Rattle.session.proofs.Laws.Sums.{packets-next, packets-past}
-use Rattle.port.specs.Bytes.{u16Of, u64Of}
+use Rattle.session.specs.Session.{packetsOf}
+use Rattle.session.proofs.Laws.Sums.{packets-past}
 use Rattle.port.specs.Layout.{anyOf}
 use Rattle.port.specs.Places.{requestsOf}
 use Rattle.port.specs.Scan.{isBadRequestEntry}
-use Rattle.port.proofs.Laws.Placed.{requests-many}
-use Rattle.port.proofs.Laws.Sounds.{plain-entry}
-use Rattle.port.proofs.Laws.Tables.{any-first, any-more, any-end}
-use Rattle.port.proofs.Laws.Walks.{packets-there}
+use Rattle.port.proofs.Laws.Sounds.{request-passed}
+use Rattle.port.proofs.Laws.Tables.{any-first, any-end}
+use Rattle.port.proofs.Laws.Walks.{packets-more}
 use Rattle.port.proofs.plain.plain_requests.Statement.{statement}
 use Rattle.port.proofs.plain.plain_requests.Tie as tie
 
@@ -69,23 +67,15 @@ loop-again c =
     let a = c .before .before .before .before .before .before .before .args in
     let l = c .before .before .before .before .before .loop in
     let xs = a .bytes .now in
-    let now = c .before .joined in
-    let place : l .at ≡ 52 + 20 * l .i = l .inv .1 in
-    let begins : l .at ≡ 40 + 20 * l .i + 12 = omega arith in
-    let ends : 40 + 20 * (l .i + 1) ≡ 40 + 20 * l .i + 20 = omega arith in
-    let word = c .before .before .before .u64-at .ensures ∙ ap (λ (k : ℕ). u64Of (drop k xs)) begins in
-    let here : c .u16-at .result ≡ getD (requestsOf xs) (l .i) blankRequest .packets =
-    c .u16-at .ensures ∙ ap (λ (k : ℕ). u16Of (drop k xs)) place ∙ packets-there xs (l .i) (omega arith) in
-    let next = packets-next (l .i) (a .n) (requestsOf xs) (omega arith) (omega (arith, requests-many xs)) in (
+    let now = c .before .joined .ensures in
+    let less = c .before .before .wrapping-sub-u64 in (
       omega arith,
       omega arith,
       omega (arith, c .u16-at .ok),
       λ few.
-          ap (λ (k : ℕ). anyOf isBadRequestEntry 20 (a .n - (l .i + 1)) (drop k xs)) ends
-          ∙ any-more isBadRequestEntry 20 (a .n) (l .i) (40 + 20 * l .i) xs (omega arith)
-          (plain-entry xs (40 + 20 * l .i) word (c .before .before .wrapping-sub-u64 .ensures) (omega (arith, few, now .ensures .1))) refl
-          ∙ l .inv .3 (omega (arith, few, now .ensures .0)),
-      omega (arith, next, here, l .inv .4),
+          request-passed xs (a .n) (l .i) (omega arith) (l .inv .1) (c .before .before .before .u64-at .ensures) (less .ensures) (omega (arith, few, now .1))
+          ∙ l .inv .3 (omega (arith, few, now .0)),
+      packets-more xs (a .n) (l .i) (l .sum) _ (omega arith) (omega arith) (l .inv .1) (c .u16-at .ensures) (l .inv .4),
     )
 
 returns : tie.Need-returns Inv-loop μ-loop

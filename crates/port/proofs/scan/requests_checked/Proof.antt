@@ -1,21 +1,19 @@
 -- The invariant: a bad entry is among those still to be looked at exactly if one is in use, and the sum so far and their packets are the packets of
 -- all. The measure is how many are left.
-use mathlib.Core.Path.{_≡_, refl, _∙_, ap}
-use Prim.Native.Nat.{ℕ, _+_, _-_, _*_, _≤_}
+use mathlib.Core.Path.{_≡_, refl, _∙_}
+use Prim.Native.Nat.{_+_, _-_, _*_, _≤_}
 use native.Mathlib.Nat.{zero-add}
 use native.Mathlib.Omega.{arith}
-use lib.ListN.{getD, drop}
+use lib.ListN.{drop}
 use lib.Seq.{slice}
-use Rattle.session.specs.Session.{blankRequest, packetsOf}
-use Rattle.session.proofs.Laws.Sums.{packets-next, packets-past}
-use Rattle.port.specs.Bytes.{u16Of}
+use Rattle.session.specs.Session.{packetsOf}
+use Rattle.session.proofs.Laws.Sums.{packets-past}
 use Rattle.port.specs.Layout.{anyOf}
 use Rattle.port.specs.Places.{requestsOf}
 use Rattle.port.specs.Scan.{isBadRequestEntry}
-use Rattle.port.proofs.Laws.Placed.{requests-many}
 use Rattle.port.proofs.Laws.Scans.{never}
 use Rattle.port.proofs.Laws.Tables.{any-first, any-found, any-more, any-end}
-use Rattle.port.proofs.Laws.Walks.{packets-there}
+use Rattle.port.proofs.Laws.Walks.{packets-more}
 use Rattle.port.proofs.scan.requests_checked.Statement.{statement}
 use Rattle.port.proofs.scan.requests_checked.Tie as tie
 
@@ -72,11 +70,13 @@ loop-again c =
     let xs = a .bytes .now in
     let rest =
     any-more isBadRequestEntry 20 (a .n) (l .i) (l .at) xs (omega arith) (c .before .before .is-bad-entry .ensures) (c .before .if1 .left) in
-    let place : l .at + 12 ≡ 52 + 20 * l .i = omega arith in
-    let here : c .u16-at .result ≡ getD (requestsOf xs) (l .i) blankRequest .packets =
-    c .u16-at .ensures ∙ ap (λ (k : ℕ). u16Of (drop k xs)) place ∙ packets-there xs (l .i) (omega arith) in
-    let next = packets-next (l .i) (a .n) (requestsOf xs) (omega arith) (omega (arith, requests-many xs)) in
-    (omega arith, omega arith, omega (arith, c .u16-at .ok), rest ∙ l .inv .3, omega (arith, next, here, l .inv .4))
+    let place : l .at + 12 ≡ 52 + 20 * l .i = omega arith in (
+      omega arith,
+      omega arith,
+      omega (arith, c .u16-at .ok),
+      rest ∙ l .inv .3,
+      packets-more xs (a .n) (l .i) (l .sum) _ (omega arith) (omega arith) place (c .u16-at .ensures) (l .inv .4),
+    )
 
 returns-2 : tie.Need-returns-2 Inv-loop μ-loop
 returns-2 c =
