@@ -2,7 +2,7 @@
 -- `byBytes`, serves every answer, every lent word and the bytes of every call.
 use mathlib.Core.Bool.{Bool, cond, _||_}
 use mathlib.Core.List.{List}
-use Prim.Native.Nat.{ℕ}
+use Prim.Native.Nat.{ℕ, _/_, _%_}
 use lib.Dec.{eqb, ltb}
 use lib.ListN.{length, replicate}
 use lib.Seq.{sets}
@@ -52,6 +52,10 @@ replyRefused n = portReply n 0 0
 
 abbrev pub replyPort : IsoReply → PortReply
 replyPort r = portReply (answerNumber (r .answer)) (flagTag (r .taken)) (flagTag (r .halt))
+
+-- an answer that is handed over as one number: the refusal, above it whether the event was taken, above that whether the channel is to halt
+abbrev pub replyOf : ℕ → PortReply
+replyOf n = portReply (n % 4294967296) (n / 4294967296 % 2) (n / 8589934592)
 
 abbrev pub replyBy : List ℕ → (IsoChannelState → IsoReply) → PortReply
 replyBy xs call = byBytes xs replyRefused (λ (s : IsoChannelState). replyPort (call s))

@@ -5,15 +5,17 @@ ghost use Rattle.session.specs.Poll.{polled, polledRing, recovered, recoveredRi
 ghost use Rattle.session.specs.Cancel.{cancelled};
 ghost use Rattle.session.specs.Reclaim.{reclaimed, reclaimedRing, reclaimedResults};
 ghost use Rattle.session.specs.declared.types.IsoChannelState.{IsoChannelState};
-ghost use Rattle.port.specs.Calls.{replyBy, bytesBy, wordsBy, checkBy, eventOf, reclaimBy};
+ghost use Rattle.port.specs.Calls.{replyOf, replyBy, bytesBy, wordsBy, checkBy, eventOf, reclaimBy};
 use crate::answers::PortReclaimed;
 use crate::answers::PortReply;
 use crate::answers::reclaim_refused;
 use crate::answers::reply_refused;
 use crate::cancel::cancel_at;
+use crate::numbers::u16_at;
 use crate::plain::young_packets;
 use crate::poll::poll_on;
 use crate::poll::recover_at;
+use crate::quiet::quiet_poll;
 use crate::reclaim::reclaim_at;
 use crate::reset::reset_at;
 use crate::verdict::verdict_at;
@@ -91,6 +93,36 @@ fn event_of(reported: u32, unplugged: u32, hcint: u32) -> IsoEvent
     }
 }
 
+// The usual way of a poll. It answers by a number, since a struct would be handed over in memory.
+fn poll_more(session: &mut [u8], ring: &mut [u32], reported: u32, unplugged: u32, hcint: u32) -> u64
+    ensures { λ r. ⌜ (replyOf r ≡ replyBy (now (session .entry)) (λ (s : IsoChannelState). polled s (eventOf reported unplugged hcint) (now (ring .entry))))
+        × (now (session .exit)
+        ≡ bytesBy (now (session .entry)) (λ (s : IsoChannelState). polled s (eventOf reported unplugged hcint) (now (ring .entry)) .session))
+        × (now (ring .exit)
+        ≡ wordsBy (now (session .entry)) (now (ring .entry))
+        (λ (s : IsoChannelState). polledRing s (eventOf reported unplugged hcint) (now (ring .entry)))) ⌝ }
+{
+    let verdict = verdict_at(session);
+    if verdict.refusal != 0 {
+        return verdict.refusal as u64;
+    }
+    let event = event_of(reported, unplugged, hcint);
+    let r = poll_on(session, verdict, event, ring);
+    r.refusal as u64 + 4_294_967_296 * r.taken as u64 + 8_589_934_592 * r.halt as u64
+}
+
+// The answer that the number of `poll_more` names.
+fn reply_of(n: u64) -> PortReply
+    ensures { λ r. ⌜ r ≡ replyOf n ⌝ }
+{
+    PortReply {
+        refusal: (n % 4_294_967_296) as u32,
+        taken: (n / 4_294_967_296 % 2) as u32,
+        halt: (n / 8_589_934_592) as u32,
+    }
+}
+
+// Few requests are looked at in the call itself. The usual way is called from two places: from one alone it would become a part of the call.
 #[no_mangle]
 pub extern "C" fn dwc2_iso_poll(
     session: &mut [u8],
@@ -106,12 +138,22 @@ pub extern "C" fn dwc2_iso_poll(
         ≡ wordsBy (now (session .entry)) (now (ring .entry))
         (λ (s : IsoChannelState). polledRing s (eventOf reported unplugged hcint) (now (ring .entry)))) ⌝ }
 {
-    let verdict = verdict_at(session);
-    if verdict.refusal != 0 {
-        return reply_refused(verdict.refusal);
+    if session.len() < 8_488 {
+        return reply_refused(17);
+    }
+    if u16_at(session, 32) > 7 {
+        return reply_of(poll_more(session, ring, reported, unplugged, hcint));
     }
     let event = event_of(reported, unplugged, hcint);
-    poll_on(session, verdict, event, ring)
+    let quiet = quiet_poll(session, event, ring);
+    if quiet < 2 {
+        return PortReply {
+            refusal: 0,
+            taken: quiet,
+            halt: 0,
+        };
+    }
+    reply_of(poll_more(session, ring, reported, unplugged, hcint))
 }
 
 #[no_mangle]

@@ -12,6 +12,7 @@ mod numbers;
 mod plain;
 mod planning;
 mod poll;
+mod quiet;
 mod reclaim;
 mod requests;
 mod reset;

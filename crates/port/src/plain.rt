@@ -60,7 +60,7 @@ fn is_plain_front(bytes: &[u8]) -> bool
 }
 
 // The cursor and the count of completed requests behind it are a number below the ring's slots where none is completed.
-fn is_fresh_front(bytes: &[u8]) -> bool
+pub(crate) fn is_fresh_front(bytes: &[u8]) -> bool
     requires { ⌜ 8488 ≤ length (now bytes) ⌝ }
     ensures { λ r. ⌜ (r ≡ true → FreshFront (now (bytes .entry))) ⌝ }
 {
@@ -81,7 +81,7 @@ pub(crate) fn is_empty(bytes: &[u8]) -> bool
 }
 
 // Below neither number, and in the place of a plan's length, bits 8 to 23, below neither length.
-fn joined(a: u64, b: u64) -> u64
+pub(crate) fn joined(a: u64, b: u64) -> u64
     ensures { λ r. ⌜ (a ≤ r) × (b ≤ r) × (a / 256 % 65536 ≤ r / 256 % 65536) × (b / 256 % 65536 ≤ r / 256 % 65536) ⌝ }
 {
     a | b

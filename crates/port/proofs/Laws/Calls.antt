@@ -1,8 +1,9 @@
 -- A call by bytes, as the code runs: refused at its bytes, or loaded, called and saved.
-use mathlib.Core.Path.{_≡_, refl, _∙_, sym, ap}
+use mathlib.Core.Path.{_≡_, refl, _∙_, sym, ap, ap₂}
 use mathlib.Core.Bool.{Bool, true, false, cond}
 use mathlib.Core.List.{List}
-use Prim.Native.Nat.{ℕ, _≤_}
+use Prim.Native.Nat.{ℕ, _+_, _*_, _/_, _%_, _≤_, _<_}
+use native.Mathlib.Nat.{mod-eq-of-lt, add-mul-mod-self-left}
 use native.Mathlib.Omega.{arith}
 use lib.Dec.{eqb, ltb}
 use lib.ListN.{length}
@@ -10,8 +11,9 @@ use borrow.Author.Tests.{eq-eqb, ne-eqb, ltb-false}
 use Rattle.session.specs.declared.reply.IsoReply.{IsoReply}
 use Rattle.session.specs.declared.types.IsoChannelState.{IsoChannelState}
 use Rattle.port.specs.declared.answers.PortReply.{PortReply}
+use Rattle.port.specs.Tags.{flagTag}
 use Rattle.port.specs.Layout.{isBadLayout, layoutNumber, sessionOf, leftBytes}
-use Rattle.port.specs.Calls.{byBytes, bytesBy, replyBy, replyPort, replyRefused}
+use Rattle.port.specs.Calls.{byBytes, bytesBy, portReply, replyOf, replyBy, replyPort, replyRefused}
 
 -- bytes that are not refused are long enough
 pub long-enough : (xs : List ℕ) {n : ℕ} → n ≡ layoutNumber xs → n ≡ 0 → 8488 ≤ length xs
@@ -55,3 +57,29 @@ module _ (xs : List ℕ) (call : IsoChannelState → IsoReply) where
     p ∙ done xs replyRefused call replyPort e z l g,
     b ∙ done xs (λ (n : ℕ). xs) call (λ (r : IsoReply). leftBytes xs (r .session)) e z l g,
   )
+
+-- ---- an answer as a number
+
+flag-few : (b : Bool) → flagTag b ≤ 1
+flag-few true = omega arith
+flag-few false = omega arith
+
+pub reply-flags : (r : IsoReply) {p : PortReply} → p ≡ replyPort r → (p .taken ≤ 1) × (p .halt ≤ 1)
+reply-flags r e = (
+  omega (arith, ap (λ (q : PortReply). q .taken) e, flag-few (r .taken)),
+  omega (arith, ap (λ (q : PortReply). q .halt) e, flag-few (r .halt)),
+)
+
+-- the number is read as it was made
+abbrev pub replyNumber : PortReply → ℕ
+replyNumber p = p .refusal + 4294967296 * p .taken + 8589934592 * p .halt
+
+pub reply-read : (p : PortReply) → p .refusal < 4294967296 → p .taken ≤ 1 → p .halt ≤ 1 → replyOf (replyNumber p) ≡ p
+reply-read p few taken halt =
+    let n : ℕ = replyNumber p in
+    let first : n % 4294967296 ≡ p .refusal = omega arith in
+    let flags : n / 4294967296 ≡ p .taken + 2 * p .halt = omega arith in
+    let second : n / 4294967296 % 2 ≡ p .taken =
+    ap (λ (k : ℕ). k % 2) flags ∙ add-mul-mod-self-left (p .taken) 2 (p .halt) ∙ mod-eq-of-lt (omega arith) in
+    let third : n / 8589934592 ≡ p .halt = omega arith in
+    ap₂ (λ (a b : ℕ). portReply a b (n / 8589934592)) first second ∙ ap (portReply (p .refusal) (p .taken)) third

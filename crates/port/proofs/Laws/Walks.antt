@@ -13,7 +13,7 @@ use Rattle.session.specs.declared.types.IsoChannelState.{IsoChannelState}
 use Rattle.session.specs.Session.{blankRequest, blankPlan, packetsOf, allPackets}
 use Rattle.session.proofs.Laws.Sums.{packets-next}
 use Rattle.port.specs.Bytes.{byteOf, u16Of}
-use Rattle.port.specs.Tags.{directionOf, flagOf}
+use Rattle.port.specs.Tags.{speedOf, directionOf, flagOf}
 use Rattle.port.specs.Layout.{configOf, headOf, requestBytes, requestOf, planBytes, planOf, layoutNumber, sessionOf, requestsIn, plansIn}
 use Rattle.port.specs.Places.{requestsOf, plansOf, withRequests, withPlans, Left}
 use Rattle.port.proofs.Canonical.{request-clear, plan-clear}
@@ -39,6 +39,10 @@ direction-there xs = refl
 pub live-there : (xs : List ℕ) → flagOf (byteOf (drop 15 xs)) ≡ sessionOf xs .head .live
 unfolding sessionOf headOf
 live-there xs = refl
+
+pub speed-there : (xs : List ℕ) → speedOf (byteOf (drop 5 xs)) ≡ sessionOf xs .cfg .speed
+unfolding sessionOf configOf
+speed-there xs = refl
 
 pub packets-there : (xs : List ℕ) (i : ℕ) → i < 64 → u16Of (drop (52 + 20 * i) xs) ≡ getD (requestsOf xs) i blankRequest .packets
 unfolding requestOf
