@@ -12,6 +12,7 @@ use crate::answers::reclaim_refused;
 use crate::answers::reply_refused;
 use crate::cancel::cancel_at;
 use crate::numbers::u16_at;
+use crate::plain::is_empty;
 use crate::plain::young_packets;
 use crate::poll::poll_on;
 use crate::poll::recover_at;
@@ -44,12 +45,19 @@ pub extern "C" fn dwc2_iso_check(session: &[u8]) -> u32
     0
 }
 
+// An empty session, which is what a reset is for, is told and reset before a walk is called.
 #[no_mangle]
 pub extern "C" fn dwc2_iso_reset(session: &mut [u8]) -> PortReply
     ensures { λ r. ⌜ (r ≡ replyBy (now (session .entry)) resetReply)
         × (now (session .exit) ≡ bytesBy (now (session .entry)) (λ (s : IsoChannelState). resetReply s .session)) ⌝ }
 {
-    let verdict = verdict_at(session);
+    if session.len() < 8_488 {
+        return reply_refused(17);
+    }
+    if is_empty(session) {
+        return reset_at(session, false);
+    }
+    let verdict = verdict_of(verdict_more(session));
     if verdict.refusal != 0 {
         return reply_refused(verdict.refusal);
     }

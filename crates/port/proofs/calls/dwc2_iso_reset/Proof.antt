@@ -1,51 +1,94 @@
--- Refused at the bytes, or worked on where they stand: the law of calls by bytes at each way out.
+-- Refused at the bytes, or worked on where they stand, the empty session by its own test: the law of calls by bytes at each way out.
 use mathlib.Core.Path.{refl, _∙_, sym}
+use native.Mathlib.Omega.{arith}
 use borrow.Author.Needs.{needs}
 use Rattle.session.specs.Poll.{resetReply}
 use Rattle.port.specs.Layout.{sessionOf}
+use Rattle.port.specs.Scan.{Told}
 use Rattle.port.proofs.Laws.Calls.{reply-refused, reply-done}
+use Rattle.port.proofs.Laws.Loaded.{short-layout}
+use Rattle.port.proofs.Laws.Verdict.{both-pass, by-number}
 use Rattle.port.proofs.calls.dwc2_iso_reset.Statement.{statement}
 use Rattle.port.proofs.calls.dwc2_iso_reset.Tie as tie
 
-verdict-at-requires : tie.Need-verdict-at-requires
-verdict-at-requires c κs = search needs
+told : (c : tie.After-verdict-of) → Told (c .before .before .before .before .before .before .before .before .args .session .now) (c .verdict-of
+    .result)
+told c =
+    by-number (c .before .before .before .before .before .before .before .before .args .session .now) (c .before .verdict-more .ensures) (c
+    .verdict-of .ensures)
 
 reply-refused-requires : tie.Need-reply-refused-requires
 reply-refused-requires c κs = search needs
 
-same-length : tie.Need-same-length
-same-length c = search needs
-
 returns : tie.Need-returns
 returns c =
-    reply-refused (c .before .before .before .before .before .before .args .session .now) resetReply
-    (c .before .before .before .verdict-at .ensures .refusal)
-    (c .before .if1 .taken) (c .reply-refused .ensures)
+    let xs = c .before .before .before .args .session .now in
+    reply-refused xs resetReply (short-layout xs (c .before .if1 .taken)) (λ z. omega arith) (c .reply-refused .ensures)
+
+is-empty-requires : tie.Need-is-empty-requires
+is-empty-requires c κs = search needs
 
 reset-at-requires : tie.Need-reset-at-requires
 reset-at-requires c κs =
-    let passed = sym (c .before .before .before .verdict-at .ensures .refusal) ∙ c .before .if1 .left in
-    (passed, c .before .before .before .verdict-at .ensures .bad passed)
+    let both = both-pass (c .before .before .before .before .before .before .args .session .now) (c .before .before .before .before .if1 .left) (c
+    .before .before .is-empty .ensures (c .before .if2 .taken) .good) in (sym (both .0), both .1)
 
-same-length-2 : tie.Need-same-length-2
-same-length-2 c = search needs
+same-length : tie.Need-same-length
+same-length c = search needs
 
 returns-2 : tie.Need-returns-2
 returns-2 c =
     let xs = c .before .before .before .before .before .before .before .before .before .args .session .now in
-    reply-done xs resetReply {s = sessionOf xs} {r = resetReply (sessionOf xs)}
-    (c .before .before .before .before .before .before .verdict-at .ensures .refusal)
-    (c .before .before .before .before .if1 .left) refl refl (c .before .before .reset-at .ensures .0)
+    let both = both-pass xs (c .before .before .before .before .before .before .before .if1 .left) (c .before .before .before .before .before
+    .is-empty .ensures (c .before .before .before .before .if2 .taken) .good) in
+    reply-done xs resetReply {s = sessionOf xs} {r = resetReply (sessionOf xs)} (both .0) refl refl refl (c .before .before .reset-at .ensures .0)
     (c .before .before .reset-at .ensures .1 .bytes)
+
+verdict-more-requires : tie.Need-verdict-more-requires
+verdict-more-requires c κs = search needs
+
+verdict-of-requires : tie.Need-verdict-of-requires
+verdict-of-requires c κs = search needs
+
+reply-refused-requires-2 : tie.Need-reply-refused-requires-2
+reply-refused-requires-2 c κs = search needs
+
+same-length-2 : tie.Need-same-length-2
+same-length-2 c = search needs
+
+returns-3 : tie.Need-returns-3
+returns-3 c =
+    reply-refused (c .before .before .before .before .before .before .before .before .before .before .before .args .session .now) resetReply (told (c
+    .before .before .before) .refusal) (c .before .if3 .taken) (c .reply-refused2 .ensures)
+
+reset-at-requires-2 : tie.Need-reset-at-requires-2
+reset-at-requires-2 c κs = let t = told (c .before .before .before) in let passed = sym (t .refusal) ∙ c .before .if3 .left in (passed, t .bad passed)
+
+same-length-3 : tie.Need-same-length-3
+same-length-3 c = search needs
+
+returns-4 : tie.Need-returns-4
+returns-4 c =
+    let xs = c .before .before .before .before .before .before .before .before .before .before .before .before .before .before .args .session .now in
+    reply-done xs resetReply {s = sessionOf xs} {r = resetReply (sessionOf xs)} (told (c .before .before .before .before .before .before) .refusal)
+    (c .before .before .before .before .if3 .left) refl refl
+    (c .before .before .reset-at2 .ensures .0) (c .before .before .reset-at2 .ensures .1 .bytes)
 
 pub dwc2-iso-reset-spec : {M : Type 1} → statement M
 dwc2-iso-reset-spec =
     tie.close
     (tie.spec
-    verdict-at-requires
     reply-refused-requires
-    same-length
     returns
+    is-empty-requires
     reset-at-requires
+    same-length
+    returns-2
+    verdict-more-requires
+    verdict-of-requires
+    reply-refused-requires-2
     same-length-2
-    returns-2)
+    returns-3
+    reset-at-requires-2
+    same-length-3
+    returns-4)
