@@ -16,6 +16,7 @@ use crate::plain::is_empty;
 use crate::plain::young_packets;
 use crate::poll::poll_on;
 use crate::poll::recover_at;
+use crate::quiet::is_few;
 use crate::quiet::quiet_poll;
 use crate::reclaim::reclaim_at;
 use crate::reset::reset_at;
@@ -64,16 +65,34 @@ pub extern "C" fn dwc2_iso_reset(session: &mut [u8]) -> PortReply
     reset_at(session, verdict.bad)
 }
 
+// The usual way of a cancel, by a number as `poll_more`.
+fn cancel_more(session: &mut [u8], id: u64) -> u64
+    ensures { λ r. ⌜ (replyOf r ≡ replyBy (now (session .entry)) (λ (s : IsoChannelState). cancelled s id))
+        × (now (session .exit) ≡ bytesBy (now (session .entry)) (λ (s : IsoChannelState). cancelled s id .session)) ⌝ }
+{
+    let verdict = verdict_at(session);
+    if verdict.refusal != 0 {
+        return verdict.refusal as u64;
+    }
+    let r = cancel_at(session, verdict.bad, id);
+    r.refusal as u64 + 4_294_967_296 * r.taken as u64 + 8_589_934_592 * r.halt as u64
+}
+
+// Few requests are looked at in the call itself.
 #[no_mangle]
 pub extern "C" fn dwc2_iso_cancel(session: &mut [u8], id: u64) -> PortReply
     ensures { λ r. ⌜ (r ≡ replyBy (now (session .entry)) (λ (s : IsoChannelState). cancelled s id))
         × (now (session .exit) ≡ bytesBy (now (session .entry)) (λ (s : IsoChannelState). cancelled s id .session)) ⌝ }
 {
-    let verdict = verdict_at(session);
-    if verdict.refusal != 0 {
-        return reply_refused(verdict.refusal);
+    if session.len() < 8_488 {
+        return reply_refused(17);
     }
-    cancel_at(session, verdict.bad, id)
+    if u16_at(session, 32) < 8 {
+        if is_few(session) {
+            return cancel_at(session, false, id);
+        }
+    }
+    reply_of(cancel_more(session, id))
 }
 
 #[no_mangle]

@@ -13,7 +13,6 @@ ghost use Rattle.port.specs.Calls.{portReply, replyPort};
 ghost use Rattle.port.specs.Parts.{Still};
 ghost use Rattle.port.specs.Places.{requestsOf, Left};
 ghost use Rattle.port.specs.Scan.{isBadRequestEntry, isBadPlanEntry, isUnsound, FreshFront};
-use crate::load::config_at;
 use crate::numbers::byte_at;
 use crate::numbers::u16_at;
 use crate::numbers::u64_at;
@@ -21,7 +20,6 @@ use crate::plain::is_fresh_front;
 use crate::plain::joined;
 use crate::poll::is_calm;
 use session::IsoEvent;
-use session::is_over_room;
 use std::num::wrapping_sub_u64;
 use words::hcint_xfercompl;
 use words::is_active_at;
@@ -68,8 +66,9 @@ fn few_plans(bytes: &[u8], n: usize) -> bool
     words / 256 % 65_536 <= 3_072
 }
 
-// Good bytes of a session at high speed that has completed nothing: without requests, or with a live channel and few packets.
-fn is_few(bytes: &[u8]) -> bool
+// Good bytes of a session at high speed that has completed nothing: without requests, or with a live channel and few packets, which fit the ring with
+// a whole interval between them. It is short enough to stand in more than one call.
+pub(crate) fn is_few(bytes: &[u8]) -> bool
     requires { ⌜ 8488 ≤ length (now bytes) ⌝ }
     ensures { λ r. ⌜ (r ≡ true
         → (FreshFront (now (bytes .entry)))
@@ -93,7 +92,7 @@ fn is_few(bytes: &[u8]) -> bool
     if sum > 15 {
         return false;
     }
-    if is_over_room(config_at(bytes), sum as u64) {
+    if (sum + 1) * u16_at(bytes, 8) as usize > 256 {
         return false;
     }
     few_plans(bytes, sum)

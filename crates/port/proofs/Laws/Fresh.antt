@@ -2,21 +2,34 @@
 use mathlib.Core.Path.{_≡_, refl, _∙_, sym, ap, ap₂, subst}
 use mathlib.Core.Bool.{Bool, true, false, not, _||_, _&&_}
 use mathlib.Core.List.{List}
-use Prim.Native.Nat.{ℕ, _≤_, _<_}
+use Prim.Native.Nat.{ℕ, _+_, _*_, _≤_, _<_, max}
 use native.Mathlib.Omega.{arith}
 use lib.Dec.{ltb}
 use lib.ListN.{drop}
 use lib.Seq.{slice, drop-drop}
-use borrow.Author.Tests.{le-ltb, lt-leb}
+use borrow.Author.Tests.{ltb-true, ltb-false, le-ltb, lt-leb}
 use Rattle.ring.specs.RingSums.{packetLimit}
 use Rattle.session.specs.declared.types.IsoConfig.{IsoConfig}
 use Rattle.session.specs.declared.types.IsoChannelState.{IsoChannelState}
 use Rattle.session.specs.Session.{slots, room, packetsOf, allPackets, pendingPackets, hasReason}
+use Rattle.session.proofs.Laws.Sums.{room-fits}
 use Rattle.session.proofs.Laws.Tests.{none}
 use Rattle.port.specs.Bytes.{u16Of, u32Of}
 use Rattle.port.specs.Layout.{headOf, anyOf, sessionOf}
 use Rattle.port.specs.Scan.{isBadRequestEntry, isBadPlanEntry, PlainFront, FreshFront, Counted}
 use Rattle.port.proofs.Laws.Sounds.{isBadNumbers, by-plans, empty-all, empty-pending, empty-good}
+
+-- few packets fit a ring of 256 slots with a whole interval between them
+pub few-fit : (cfg : IsoConfig) (n : ℕ) → slots cfg ≡ 256 → n ≤ 15 → (n + 1) * cfg .interval ≤ 256 → ltb (room cfg) n ≡ false
+few-fit cfg n e few h = le-ltb (room cfg) n (room-fits cfg n (go (ltb 0 (cfg .interval)) refl))
+  where
+    go : (b : Bool) → ltb 0 (cfg .interval) ≡ b → (n + 1) * max 1 (cfg .interval) ≤ slots cfg
+    go true t =
+        let same : max 1 (cfg .interval) ≡ cfg .interval = omega (arith, ltb-true 0 (cfg .interval) t) in
+        omega (arith, e, h, ap (λ (m : ℕ). (n + 1) * m) same)
+    go false f =
+        let one : max 1 (cfg .interval) ≡ 1 = omega (arith, ltb-false 0 (cfg .interval) f) in
+        omega (arith, e, few, ap (λ (m : ℕ). (n + 1) * m) one)
 
 module _ (xs : List ℕ) where
   -- the cursor and the count of completed requests behind it, as one number

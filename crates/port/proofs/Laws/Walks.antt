@@ -40,6 +40,10 @@ pub live-there : (xs : List ℕ) → flagOf (byteOf (drop 15 xs)) ≡ sessionOf 
 unfolding sessionOf headOf
 live-there xs = refl
 
+pub interval-there : (xs : List ℕ) → u16Of (drop 8 xs) ≡ sessionOf xs .cfg .interval
+unfolding sessionOf configOf
+interval-there xs = refl
+
 pub speed-there : (xs : List ℕ) → speedOf (byteOf (drop 5 xs)) ≡ sessionOf xs .cfg .speed
 unfolding sessionOf configOf
 speed-there xs = refl

@@ -1,7 +1,8 @@
 -- What is found to be few passes every test of both checks; where something is not, nothing is promised.
-use mathlib.Core.Path.{_≡_, _∙_, sym, ap}
+use mathlib.Core.Path.{_≡_, refl, _∙_, sym, ap}
 use mathlib.Core.Bool.{true, false}
-use Prim.Native.Nat.{ℕ, _*_}
+use Prim.Native.Nat.{ℕ, _+_, _*_, _≤_}
+use native.Mathlib.Nat.{mul-le-mul}
 use native.Mathlib.Omega.{arith}
 use lib.ListN.{drop}
 use lib.Seq.{slice}
@@ -10,15 +11,13 @@ use borrow.Author.Tests.{eqb-true, not-false}
 use Rattle.ring.specs.RingSums.{ringSize, packetLimit}
 use Rattle.ring.specs.declared.speed.Speed.{Speed}
 use Rattle.ring.specs.declared.speed.Speed.the-variants.{High}
-use Rattle.session.specs.declared.types.IsoConfig.{IsoConfig}
 use Rattle.session.specs.Session.{ringWords, packetsOf, allPackets}
 use Rattle.port.specs.Tags.{speedOf, flagOf}
 use Rattle.port.specs.Layout.{anyOf, sessionOf}
 use Rattle.port.specs.Scan.{isBadRequestEntry, FreshFront}
-use Rattle.port.proofs.Laws.Fresh.{empty-counted, young-counted}
-use Rattle.port.proofs.Laws.Placed.{config-there}
+use Rattle.port.proofs.Laws.Fresh.{few-fit, empty-counted, young-counted}
 use Rattle.port.proofs.Laws.Scans.{never}
-use Rattle.port.proofs.Laws.Walks.{count-there, live-there, speed-there}
+use Rattle.port.proofs.Laws.Walks.{count-there, interval-there, live-there, speed-there}
 use Rattle.port.proofs.quiet.is_few.Statement.{statement}
 use Rattle.port.proofs.quiet.is_few.Tie as tie
 
@@ -81,11 +80,20 @@ few-requests-requires c κs =
 returns-5 : tie.Need-returns-5
 returns-5 c = λ e. absurd (never (sym e))
 
-config-at-requires : tie.Need-config-at-requires
-config-at-requires c κs = search needs
+add-if6 : tie.Need-add-if6
+add-if6 c = search needs
 
-is-over-room-requires : tie.Need-is-over-room-requires
-is-over-room-requires c κs = search needs
+u16-at-requires-2 : tie.Need-u16-at-requires-2
+u16-at-requires-2 c κs = search needs
+
+cast-if6 : tie.Need-cast-if6
+cast-if6 c = search needs
+
+mul-if6 : tie.Need-mul-if6
+mul-if6 c =
+    let low : c .before .before .few-requests .result + 1 ≤ 16 = omega arith in
+    let high : c .u16-at2 .result ≤ 65535 = omega (arith, c .u16-at2 .ok) in
+    omega (arith, mul-le-mul low high)
 
 returns-6 : tie.Need-returns-6
 returns-6 c = λ e. absurd (never (sym e))
@@ -95,26 +103,27 @@ few-plans-requires c κs = search needs
 
 returns-7 : tie.Need-returns-7
 returns-7 c =
-    let xs = c .before .before .before .before .before .before .before .before .before .before .before .before .before .before .before .args .bytes .now in
-    let fresh = front (c .before .before .before .before .before .before .before .before .before) in
-    let count = count-is (c .before .before .before .before .before .before .before .before .before .before .before .before .before) in
-    let sum = c .before .before .before .before .before .few-requests in
-    let few = c .before .before .before .before .if5 .left in
+    let xs = c .before .before .before .before .before .before .before .before .before .before .before .before .before .before .args .bytes .now in
+    let s = sessionOf xs in
+    let fresh = front (c .before .before .before .before .before .before .before .before) in
+    let count = count-is (c .before .before .before .before .before .before .before .before .before .before .before .before) in
+    let sum = c .before .before .before .before .few-requests in
+    let few = c .before .before .before .if5 .left in
     let used = sum .ensures (omega (arith, few)) in
-    let all : sum .result ≡ allPackets (sessionOf xs) = used .1 ∙ ap (λ (k : ℕ). packetsOf (slice 0 k (sessionOf xs .requests))) count in
-    let requests : anyOf isBadRequestEntry 20 (sessionOf xs .head .count) (drop 40 xs) ≡ false =
+    let all : sum .result ≡ allPackets s = used .1 ∙ ap (λ (k : ℕ). packetsOf (slice 0 k (s .requests))) count in
+    let requests : anyOf isBadRequestEntry 20 (s .head .count) (drop 40 xs) ≡ false =
     sym (ap (λ (k : ℕ). anyOf isBadRequestEntry 20 k (drop 40 xs)) count) ∙ used .0 in
-    let config = c .before .before .before .config-at .ensures ∙ config-there xs in
-    let fast = high (c .before .before .before .before .before .before .before .before .before .before .before) in
-    let speed = ap (λ (k : IsoConfig). k .speed) config ∙ fast in
-    let on = live (c .before .before .before .before .before .before) in
-    let fits = sym (c .before .before .is-over-room .ensures) ∙ c .before .if6 .left in
-    let long = words (c .before .before .before .before .before .before .before .before .before .before .before) in
+    let speed = high (c .before .before .before .before .before .before .before .before .before .before) in
+    let interval = c .before .before .u16-at2 .ensures ∙ interval-there xs in
+    let apart : (sum .result + 1) * s .cfg .interval ≤ 256 =
+    omega (arith, c .before .if6 .left, ap (λ (k : ℕ). (sum .result + 1) * k) interval) in
+    let fits = few-fit (s .cfg) (sum .result) (ap ringSize speed) (omega (arith, few)) apart in
     λ e.
     let counted =
-    young-counted xs fresh on config (sym (ap packetLimit speed)) (sym (ap ringSize speed)) all (omega (arith, few)) requests fits
+    young-counted xs fresh (live (c .before .before .before .before .before)) refl (sym (ap packetLimit speed)) (sym (ap ringSize speed)) all (omega
+    (arith, few)) requests fits
     (c .few-plans .ensures e) in
-    (fresh, counted .good, long)
+    (fresh, counted .good, words (c .before .before .before .before .before .before .before .before .before .before))
 
 pub is-few-spec : {M : Type 1} → statement M
 is-few-spec =
@@ -130,8 +139,10 @@ is-few-spec =
     returns-4
     few-requests-requires
     returns-5
-    config-at-requires
-    is-over-room-requires
+    add-if6
+    u16-at-requires-2
+    cast-if6
+    mul-if6
     returns-6
     few-plans-requires
     returns-7)
