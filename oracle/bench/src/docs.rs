@@ -1,7 +1,7 @@
 //! docs/SPEED.md and its plots. A table stands in SPEED.md between two comments that name it; the words around it stay.
 
 use crate::counts::{Counts, Parts};
-use crate::least::PLOT;
+use crate::least::{LEAST, PLOT};
 use crate::rows::{Figures, Spread};
 use crate::svg;
 use std::fs;
@@ -122,14 +122,15 @@ fn least(figures: &[Figures], curves: &[Measured]) -> String {
     let rust = |name: &str| figures.iter().find(|f| f.name == name).map(rust_ns);
     let mut out = String::from("| Call | least | least / Rust | port | port / Rust | Rust |\n|---|--:|--:|--:|--:|--:|\n");
     for (_, f) in curves.iter().filter(|c| c.plot == PLOT).flat_map(|c| &c.points) {
-        let cells = match rust(&f.name) {
+        let name = f.name.trim_start_matches(LEAST);
+        let cells = match rust(name) {
             Some(rust) => {
                 let of = |ns: f64| format!("{} | {:.2}", time(ns), ns / rust);
                 format!("{} | {} | {}", of(rust_ns(f)), of(port_ns(f)), time(rust))
             }
             None => format!("{} | – | – | – | –", time(rust_ns(f))),
         };
-        out.push_str(&format!("| {} | {cells} |\n", f.name));
+        out.push_str(&format!("| {name} | {cells} |\n"));
     }
     out
 }

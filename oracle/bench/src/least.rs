@@ -167,14 +167,14 @@ fn row(
 }
 
 fn poll_row(name: &str, count: usize, event: Option<u32>) -> Row {
-    let name = format!("poll, {name}, {count} pending");
+    let name = format!("{LEAST}poll, {name}, {count} pending");
     let least = black_box(poll as Poll);
     row(name, count, move |s| call_poll(least, s, black_box(event)), move |s| s.poll(black_box(event)))
 }
 
 fn cancel_row(others: usize) -> Row {
     let id = others as u64 + 1;
-    let name = format!("cancel, {others} others pending");
+    let name = format!("{LEAST}cancel, {others} others pending");
     let least = black_box(cancel as Cancel);
     row(name, others + 1, move |s| least(s.bytes.as_mut_ptr(), SESSION_BYTES, black_box(id)), move |s| s.cancel(black_box(id)))
 }
@@ -212,9 +212,11 @@ fn compare_packets() {
 }
 
 pub const PLOT: &str = "least";
-pub const NOTHING: &str = "a call that does nothing";
+/// stands before the name of the Rust's row
+pub const LEAST: &str = "least ";
+const NOTHING: &str = "least a call that does nothing";
 
-/// each curve has one point, a row that bears the name of the Rust's
+/// each curve has one point
 pub fn curves() -> Vec<Curve> {
     let idle = port_after(&pending(0));
     let empty = black_box(nothing as Poll);

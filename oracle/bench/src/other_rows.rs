@@ -266,7 +266,7 @@ fn setup_packets() -> Row {
 /// in the place of the Rust's the least by the port's numbers
 pub fn least_setup_packets() -> Row {
     let least = |i: &Input| least::setup_packet(0, 0, i.to_host, 6, 0x100, 0, i.a.into());
-    sum("setup_packet_bytes", (least, |_| 0), (port_setup, |_| 0))
+    sum("least setup_packet_bytes", (least, |_| 0), (port_setup, |_| 0))
 }
 
 fn splits() -> Vec<Row> {
