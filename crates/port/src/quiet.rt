@@ -1,5 +1,5 @@
-// A poll that finds few requests and nothing to do, which is what a camera's driver meets most often: told by fewer tests than the walks make,
-// and in the call itself. Where a test fails nothing is said, and the call goes the usual way.
+// Few requests, looked at in the call itself by fewer tests than the walks make: for a poll that finds nothing to do, which is what a camera's driver
+// meets most often, and for a cancel. Where a test fails nothing is said, and the call goes the usual way.
 ghost use mathlib.Core.Path.{_≡_};
 ghost use mathlib.Core.Bool.{true, false};
 ghost use Prim.Native.Nat.{_≤_, _<_};
