@@ -15,6 +15,7 @@ use Rattle.port.specs.Places.{plansOf}
 use Rattle.port.proofs.Laws.Calls.{long-enough}
 use Rattle.port.proofs.Laws.First.{first-to, second-in, first-alone}
 use Rattle.port.proofs.Laws.Placed.{requests-many, plans-many}
+use Rattle.port.proofs.Laws.Scans.{never}
 use Rattle.port.proofs.first.is_alone.Statement.{statement}
 use Rattle.port.proofs.first.is_alone.Tie as tie
 
@@ -43,7 +44,7 @@ is-served-at-requires-2 : tie.Need-is-served-at-requires-2
 is-served-at-requires-2 c κs = let e = ends (c .before .before .before) in (long (c .before .before .before), omega (arith, e .0, e .1), e .2)
 
 returns : tie.Need-returns
-returns c = λ e. let z : _≡_ {A = ℕ} 0 1 = cc in absurd (omega arith)
+returns c = λ e. absurd (never (sym e))
 
 sub-slot-at : tie.Need-sub-slot-at
 sub-slot-at c = let e = ends (c .before .before .before .before .before) in omega (arith, e .0, e .1)

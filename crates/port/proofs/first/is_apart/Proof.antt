@@ -1,9 +1,10 @@
 -- The invariant: none of the plans that were passed has the slot. The measure is how many are left.
-use mathlib.Core.Path.{_≡_, _∙_}
-use Prim.Native.Nat.{ℕ, _-_, _≤_}
+use mathlib.Core.Path.{_∙_, sym}
+use Prim.Native.Nat.{_-_, _≤_}
 use native.Mathlib.Omega.{arith}
 use Rattle.port.specs.Places.{plansOf}
 use Rattle.port.proofs.Laws.First.{Apart, apart-next}
+use Rattle.port.proofs.Laws.Scans.{never}
 use Rattle.port.proofs.first.is_apart.Statement.{statement}
 use Rattle.port.proofs.first.is_apart.Tie as tie
 
@@ -20,7 +21,7 @@ slot-at-requires : tie.Need-slot-at-requires Inv-loop μ-loop
 slot-at-requires c κs = omega arith
 
 returns : tie.Need-returns Inv-loop μ-loop
-returns c = λ e. let z : _≡_ {A = ℕ} 0 1 = cc in absurd (omega arith)
+returns c = λ e. absurd (never (sym e))
 
 add-i : tie.Need-add-i Inv-loop μ-loop
 add-i c = omega arith

@@ -17,6 +17,7 @@ use Rattle.port.specs.Layout.{sessionOf}
 use Rattle.port.proofs.Laws.Calls.{long-enough}
 use Rattle.port.proofs.Laws.Kept.{both}
 use Rattle.port.proofs.Laws.Placed.{requests-many, plans-many}
+use Rattle.port.proofs.Laws.Scans.{never}
 use Rattle.port.proofs.Laws.Walks.{done-there, count-there}
 use Rattle.port.proofs.first.is_first_only.Statement.{statement}
 use Rattle.port.proofs.first.is_first_only.Tie as tie
@@ -56,7 +57,7 @@ is-settling-way-requires : tie.Need-is-settling-way-requires
 is-settling-way-requires c κs = long (c .before .before .before .before)
 
 returns : tie.Need-returns
-returns c = λ e. let z : _≡_ {A = ℕ} 0 1 = cc in absurd (omega arith)
+returns c = λ e. absurd (never (sym e))
 
 packets-at-requires : tie.Need-packets-at-requires
 packets-at-requires c κs = (long (c .before .before .before .before .before .before), omega arith)
@@ -65,7 +66,7 @@ mul-if2 : tie.Need-mul-if2
 mul-if2 c = search needs
 
 returns-2 : tie.Need-returns-2
-returns-2 c = λ e. let z : _≡_ {A = ℕ} 0 1 = cc in absurd (omega arith)
+returns-2 c = λ e. absurd (never (sym e))
 
 packets-at-requires-2 : tie.Need-packets-at-requires-2
 packets-at-requires-2 c κs = (long (c .before .before .before .before .before .before .before .before), omega arith)
