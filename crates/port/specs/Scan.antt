@@ -71,11 +71,14 @@ goodNumber all pending = all + 65536 * pending
 abbrev pub refusedNumber : ℕ → ℕ
 refusedNumber n = cond (eqb n 0) 4294967296 (4294967296 * n)
 
--- which says nothing of packets where it is not good
+-- what it is read as, which says nothing of packets where it is not good
+abbrev pub goodVerdict : ℕ → ℕ → Verdict
+goodVerdict all pending = record { refusal = 0; bad = false; all = all; pending = pending }
+
 abbrev pub notGood : ℕ → Verdict
 notGood refusal = record { refusal = refusal; bad = true; all = 0; pending = 0 }
 
 abbrev pub verdictOf : ℕ → Verdict
 verdictOf v =
-    cond (eqb (v / 4294967296) 0) (record { refusal = 0; bad = false; all = v % 65536; pending = v / 65536 })
+    cond (eqb (v / 4294967296) 0) (goodVerdict (v % 65536) (v / 65536))
     (cond (eqb (v / 4294967296) 1) (notGood 0) (notGood (v / 4294967296 % 65536)))

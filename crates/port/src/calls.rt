@@ -1,11 +1,12 @@
 // The session's calls by bytes, on the session where it stands. Bytes that are no session are refused, and nothing is altered.
 ghost use mathlib.Core.Path.{_≡_};
+ghost use Prim.Native.Nat.{_≤_};
 ghost use lib.ListN.{length};
 ghost use Rattle.session.specs.Poll.{polled, polledRing, recovered, recoveredRing, resetReply};
 ghost use Rattle.session.specs.Cancel.{cancelled};
 ghost use Rattle.session.specs.Reclaim.{reclaimed, reclaimedRing, reclaimedResults};
 ghost use Rattle.session.specs.declared.types.IsoChannelState.{IsoChannelState};
-ghost use Rattle.port.specs.Calls.{replyOf, replyBy, bytesBy, wordsBy, checkBy, eventOf, reclaimBy};
+ghost use Rattle.port.specs.Calls.{portReply, replyOf, replyBy, bytesBy, wordsBy, checkBy, eventOf, reclaimBy};
 use crate::answers::PortReclaimed;
 use crate::answers::PortReply;
 use crate::answers::reclaim_refused;
@@ -17,15 +18,17 @@ use crate::plain::young_packets;
 use crate::poll::poll_on;
 use crate::poll::recover_at;
 use crate::quiet::is_few;
+use crate::quiet::is_void;
 use crate::quiet::quiet_poll;
 use crate::reclaim::reclaim_at;
 use crate::reset::reset_at;
 use crate::verdict::verdict_at;
 use crate::verdict::verdict_more;
 use crate::verdict::verdict_of;
+use crate::verdict::verdict_whole;
 use session::IsoEvent;
 
-// It calls the walks itself: with `verdict_number` as their only caller they would become a part of it, which then were too long for the calls.
+// It calls the walks itself: with `verdict_at` as their only caller they would become a part of it, which then were too long for the calls.
 #[no_mangle]
 pub extern "C" fn dwc2_iso_check(session: &[u8]) -> u32
     ensures { λ r. ⌜ r ≡ checkBy (now (session .entry)) ⌝ }
@@ -46,7 +49,7 @@ pub extern "C" fn dwc2_iso_check(session: &[u8]) -> u32
     0
 }
 
-// An empty session, which is what a reset is for, is told and reset before a walk is called.
+// An empty session, which is what a reset is for, is told and reset before a walk is called. Any other is refused or rare, and the whole walk decides.
 #[no_mangle]
 pub extern "C" fn dwc2_iso_reset(session: &mut [u8]) -> PortReply
     ensures { λ r. ⌜ (r ≡ replyBy (now (session .entry)) resetReply)
@@ -58,27 +61,52 @@ pub extern "C" fn dwc2_iso_reset(session: &mut [u8]) -> PortReply
     if is_empty(session) {
         return reset_at(session, false);
     }
-    let verdict = verdict_of(verdict_more(session));
+    let verdict = verdict_of(verdict_whole(session));
     if verdict.refusal != 0 {
         return reply_refused(verdict.refusal);
     }
     reset_at(session, verdict.bad)
 }
 
-// The usual way of a cancel, by a number as `poll_more`.
+// An answer as one number: from a function that is called, and not inlined, a struct would be handed over in memory.
+fn number_of(reply: PortReply) -> u64
+    requires { ⌜ (reply .taken ≤ 1) × (reply .halt ≤ 1) ⌝ }
+    ensures { λ r. ⌜ replyOf r ≡ reply ⌝ }
+{
+    reply.refusal as u64 + 4_294_967_296 * reply.taken as u64 + 8_589_934_592 * reply.halt as u64
+}
+
+// The answer that the number names.
+fn reply_of(n: u64) -> PortReply
+    ensures { λ r. ⌜ r ≡ replyOf n ⌝ }
+{
+    PortReply {
+        refusal: (n % 4_294_967_296) as u32,
+        taken: (n / 4_294_967_296 % 2) as u32,
+        halt: (n / 8_589_934_592) as u32,
+    }
+}
+
+// The usual way of a cancel, shortest walk first.
 fn cancel_more(session: &mut [u8], id: u64) -> u64
+    requires { ⌜ 8488 ≤ length (now session) ⌝ }
     ensures { λ r. ⌜ (replyOf r ≡ replyBy (now (session .entry)) (λ (s : IsoChannelState). cancelled s id))
         × (now (session .exit) ≡ bytesBy (now (session .entry)) (λ (s : IsoChannelState). cancelled s id .session)) ⌝ }
 {
-    let verdict = verdict_at(session);
-    if verdict.refusal != 0 {
-        return verdict.refusal as u64;
+    if u16_at(session, 30) == 0 {
+        if young_packets(session) < 256 {
+            return number_of(cancel_at(session, false, id));
+        }
     }
-    let r = cancel_at(session, verdict.bad, id);
-    r.refusal as u64 + 4_294_967_296 * r.taken as u64 + 8_589_934_592 * r.halt as u64
+    let verdict = verdict_of(verdict_more(session));
+    if verdict.refusal != 0 {
+        return number_of(reply_refused(verdict.refusal));
+    }
+    number_of(cancel_at(session, verdict.bad, id))
 }
 
-// Few requests are looked at in the call itself.
+// Few requests are looked at in the call itself. The usual way is called from several places: from one alone it would become a part of the call, and
+// its registers were saved here.
 #[no_mangle]
 pub extern "C" fn dwc2_iso_cancel(session: &mut [u8], id: u64) -> PortReply
     ensures { λ r. ⌜ (r ≡ replyBy (now (session .entry)) (λ (s : IsoChannelState). cancelled s id))
@@ -87,10 +115,14 @@ pub extern "C" fn dwc2_iso_cancel(session: &mut [u8], id: u64) -> PortReply
     if session.len() < 8_488 {
         return reply_refused(17);
     }
-    if u16_at(session, 32) < 8 {
-        if is_few(session) {
-            return cancel_at(session, false, id);
-        }
+    if !(u16_at(session, 30) == 0) {
+        return reply_of(cancel_more(session, id));
+    }
+    if u16_at(session, 32) > 7 {
+        return reply_of(cancel_more(session, id));
+    }
+    if is_few(session) {
+        return cancel_at(session, false, id);
     }
     reply_of(cancel_more(session, id))
 }
@@ -120,7 +152,7 @@ fn event_of(reported: u32, unplugged: u32, hcint: u32) -> IsoEvent
     }
 }
 
-// The usual way of a poll. It answers by a number, since a struct would be handed over in memory.
+// The usual way of a poll.
 fn poll_more(session: &mut [u8], ring: &mut [u32], reported: u32, unplugged: u32, hcint: u32) -> u64
     ensures { λ r. ⌜ (replyOf r ≡ replyBy (now (session .entry)) (λ (s : IsoChannelState). polled s (eventOf reported unplugged hcint) (now (ring .entry))))
         × (now (session .exit)
@@ -131,25 +163,25 @@ fn poll_more(session: &mut [u8], ring: &mut [u32], reported: u32, unplugged: u32
 {
     let verdict = verdict_at(session);
     if verdict.refusal != 0 {
-        return verdict.refusal as u64;
+        return number_of(reply_refused(verdict.refusal));
     }
     let event = event_of(reported, unplugged, hcint);
-    let r = poll_on(session, verdict, event, ring);
-    r.refusal as u64 + 4_294_967_296 * r.taken as u64 + 8_589_934_592 * r.halt as u64
+    number_of(poll_on(session, verdict, event, ring))
 }
 
-// The answer that the number of `poll_more` names.
-fn reply_of(n: u64) -> PortReply
-    ensures { λ r. ⌜ r ≡ replyOf n ⌝ }
+// Nothing was done but, where it says 1, an event taken.
+fn reply_still(taken: u32) -> PortReply
+    ensures { λ r. ⌜ r ≡ portReply 0 taken 0 ⌝ }
 {
     PortReply {
-        refusal: (n % 4_294_967_296) as u32,
-        taken: (n / 4_294_967_296 % 2) as u32,
-        halt: (n / 8_589_934_592) as u32,
+        refusal: 0,
+        taken,
+        halt: 0,
     }
 }
 
-// Few requests are looked at in the call itself. The usual way is called from two places: from one alone it would become a part of the call.
+// Without an event and without requests, as between two recordings, there is nothing to save a register for. Few requests are looked at in the call
+// itself. The usual way is called from two places: from one alone it would become a part of the call.
 #[no_mangle]
 pub extern "C" fn dwc2_iso_poll(
     session: &mut [u8],
@@ -168,17 +200,18 @@ pub extern "C" fn dwc2_iso_poll(
     if session.len() < 8_488 {
         return reply_refused(17);
     }
+    if reported == 0 {
+        if is_void(session, ring) {
+            return reply_still(0);
+        }
+    }
     if u16_at(session, 32) > 7 {
         return reply_of(poll_more(session, ring, reported, unplugged, hcint));
     }
     let event = event_of(reported, unplugged, hcint);
     let quiet = quiet_poll(session, event, ring);
     if quiet < 2 {
-        return PortReply {
-            refusal: 0,
-            taken: quiet,
-            halt: 0,
-        };
+        return reply_still(quiet);
     }
     reply_of(poll_more(session, ring, reported, unplugged, hcint))
 }

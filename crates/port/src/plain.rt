@@ -150,6 +150,17 @@ fn are_plain_packets(
     are_unsettled(bytes, from, to, limit, slots)
 }
 
+// The packets of the completed requests. Where all are completed these are the packets of all, which are not counted twice.
+fn done_packets(bytes: &[u8], done: u16, count: u16, all: usize) -> usize
+    requires { ⌜ (8488 ≤ length (now bytes)) × (done ≤ 64) × (all ≡ packetsOf (slice 0 count (requestsOf (now bytes)))) ⌝ }
+    ensures { λ r. ⌜ r ≡ packetsOf (slice 0 done (requestsOf (now (bytes .entry)))) ⌝ }
+{
+    if done == count {
+        return all;
+    }
+    packets_before(bytes, done)
+}
+
 // The packets of a plain session. Completed plans have moved bytes of their own and are looked at one by one.
 pub(crate) fn plain_sums(bytes: &[u8]) -> RequestSums
     requires { ⌜ 8488 ≤ length (now bytes) ⌝ }
@@ -169,7 +180,7 @@ pub(crate) fn plain_sums(bytes: &[u8]) -> RequestSums
         return good_sums(0, 0);
     }
     let used = plain_requests(bytes, head.count);
-    let before = packets_before(bytes, head.done);
+    let before = done_packets(bytes, head.done, head.count, used.packets);
     let pending = used.packets - before;
     if used.bad | (used.packets > 1_024) {
         return bad_sums();

@@ -5,6 +5,7 @@ ghost use mathlib.Core.Bool.{true, false};
 ghost use Prim.Native.Nat.{_≤_, _<_};
 ghost use lib.ListN.{length, drop};
 ghost use lib.Seq.{slice};
+ghost use Rattle.session.specs.declared.reply.IsoEvent.{IsoEvent};
 ghost use Rattle.session.specs.Session.{packetsOf, ringWords};
 ghost use Rattle.session.specs.Settle.{drained};
 ghost use Rattle.session.specs.Poll.{polled, polledRing};
@@ -16,6 +17,7 @@ ghost use Rattle.port.specs.Scan.{isBadRequestEntry, isBadPlanEntry, isU
 use crate::numbers::byte_at;
 use crate::numbers::u16_at;
 use crate::numbers::u64_at;
+use crate::plain::is_empty;
 use crate::plain::is_fresh_front;
 use crate::plain::joined;
 use crate::poll::is_calm;
@@ -96,6 +98,23 @@ pub(crate) fn is_few(bytes: &[u8]) -> bool
         return false;
     }
     few_plans(bytes, sum)
+}
+
+// A session at high speed without requests, and a ring for it: a poll without an event has nothing to do.
+pub(crate) fn is_void(bytes: &[u8], ring: &[u32]) -> bool
+    requires { ⌜ 8488 ≤ length (now bytes) ⌝ }
+    ensures { λ r. ⌜ (r ≡ true
+        → (event : IsoEvent)
+        → event .reported ≡ false
+        → (layoutNumber (now (bytes .entry)) ≡ 0)
+        × (portReply 0 0 0 ≡ replyPort (polled (sessionOf (now (bytes .entry))) event (now (ring .entry))))
+        × (Left (now (bytes .entry)) (now (bytes .entry)) (polled (sessionOf (now (bytes .entry))) event (now (ring .entry)) .session))
+        × (now (ring .entry) ≡ polledRing (sessionOf (now (bytes .entry))) event (now (ring .entry)))) ⌝ }
+{
+    if (ring.len() < 512) | !(byte_at(bytes, 5) == 0) {
+        return false;
+    }
+    is_empty(bytes)
 }
 
 // There is no request, or the last descriptor of the first one is still the controller's. Where none is completed, nothing is to be settled then.

@@ -7,7 +7,7 @@
 ghost use mathlib.Core.Path.{_≡_};
 ghost use Prim.Native.Nat.{_≤_};
 ghost use lib.ListN.{length};
-ghost use Rattle.port.specs.Scan.{goodNumber, refusedNumber, notGood, verdictOf, Told};
+ghost use Rattle.port.specs.Scan.{goodNumber, refusedNumber, goodVerdict, notGood, verdictOf, Told};
 use crate::load::layout_refusal;
 use crate::numbers::u16_at;
 use crate::plain::is_empty;
@@ -67,7 +67,7 @@ pub(crate) fn verdict_of(number: u64) -> Verdict
     not_good((upper % 65_536) as u16)
 }
 
-fn verdict_whole(bytes: &[u8]) -> u64
+fn verdict_walk(bytes: &[u8]) -> u64
     requires { ⌜ 8488 ≤ length (now bytes) ⌝ }
     ensures { λ r. ⌜ Told (now (bytes .entry)) (verdictOf r) ⌝ }
 {
@@ -76,6 +76,15 @@ fn verdict_whole(bytes: &[u8]) -> u64
         return refused(layout_refusal(bytes));
     }
     good(sums.all, sums.pending)
+}
+
+// Lent on as a part, as in `young_packets`. It is called from two places: from one alone it would become a part of `verdict_plain`, and take the registers
+// of the shorter walk.
+pub(crate) fn verdict_whole(bytes: &[u8]) -> u64
+    requires { ⌜ 8488 ≤ length (now bytes) ⌝ }
+    ensures { λ r. ⌜ Told (now (bytes .entry)) (verdictOf r) ⌝ }
+{
+    verdict_walk(&bytes[0..])
 }
 
 fn verdict_plain(bytes: &[u8]) -> u64
@@ -89,7 +98,7 @@ fn verdict_plain(bytes: &[u8]) -> u64
     good(sums.all, sums.pending)
 }
 
-// Lent on as a part, as in `young_packets`.
+// Lent on as a part, too.
 pub(crate) fn verdict_more(bytes: &[u8]) -> u64
     requires { ⌜ 8488 ≤ length (now bytes) ⌝ }
     ensures { λ r. ⌜ Told (now (bytes .entry)) (verdictOf r) ⌝ }
@@ -97,27 +106,33 @@ pub(crate) fn verdict_more(bytes: &[u8]) -> u64
     verdict_plain(&bytes[0..])
 }
 
-// Short enough to be inlined into each call, so that a session without requests is told there.
-fn verdict_number(bytes: &[u8]) -> u64
-    ensures { λ r. ⌜ Told (now (bytes .entry)) (verdictOf r) ⌝ }
+// Good bytes of which all packets are pending.
+fn all_pending(packets: u32) -> Verdict
+    ensures { λ r. ⌜ r ≡ goodVerdict packets packets ⌝ }
 {
-    if bytes.len() < 8_488 {
-        return refused(17);
+    Verdict {
+        refusal: 0,
+        bad: false,
+        all: packets,
+        pending: packets,
     }
-    if u16_at(bytes, 30) == 0 {
-        if is_empty(bytes) {
-            return 0;
-        }
-        let packets = young_packets(bytes);
-        if packets < 256 {
-            return good(packets, packets);
-        }
-    }
-    verdict_more(bytes)
 }
 
+// Short enough to be inlined into each call, so that a session without requests is told there, and what the shortest walk says is put into no number.
 pub(crate) fn verdict_at(bytes: &[u8]) -> Verdict
     ensures { λ r. ⌜ Told (now (bytes .entry)) r ⌝ }
 {
-    verdict_of(verdict_number(bytes))
+    if bytes.len() < 8_488 {
+        return not_good(17);
+    }
+    if u16_at(bytes, 30) == 0 {
+        if is_empty(bytes) {
+            return all_pending(0);
+        }
+        let packets = young_packets(bytes);
+        if packets < 256 {
+            return all_pending(packets);
+        }
+    }
+    verdict_of(verdict_more(bytes))
 }

@@ -51,6 +51,21 @@ fn counter() -> u64 {
     now
 }
 
+/// what was stored before has left the core's store buffer, so that a call does not wait for what its state was made with
+#[cfg(target_arch = "x86_64")]
+#[inline(always)]
+fn drain() {
+    // SAFETY: every x86-64 has it
+    unsafe { core::arch::x86_64::_mm_mfence() };
+}
+
+#[cfg(target_arch = "aarch64")]
+#[inline(always)]
+fn drain() {
+    // SAFETY: waits for the stores before it
+    unsafe { core::arch::asm!("dsb st") };
+}
+
 fn ticks_per_ns() -> f64 {
     let (wall, start) = (Instant::now(), counter());
     while wall.elapsed() < Duration::from_millis(100) {}
@@ -94,6 +109,7 @@ impl Probe {
         match self.mode {
             Mode::Compare => act(),
             Mode::Time => {
+                drain();
                 let before = counter();
                 let start = counter();
                 let answer = black_box(act());

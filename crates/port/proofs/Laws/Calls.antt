@@ -13,6 +13,7 @@ use Rattle.session.specs.declared.types.IsoChannelState.{IsoChannelState}
 use Rattle.port.specs.declared.answers.PortReply.{PortReply}
 use Rattle.port.specs.Tags.{flagTag}
 use Rattle.port.specs.Layout.{isBadLayout, layoutNumber, sessionOf, leftBytes}
+use Rattle.port.specs.Places.{Left}
 use Rattle.port.specs.Calls.{byBytes, bytesBy, portReply, replyOf, replyBy, replyPort, replyRefused}
 
 -- bytes that are not refused are long enough
@@ -58,6 +59,12 @@ module _ (xs : List ℕ) (call : IsoChannelState → IsoReply) where
     b ∙ done xs (λ (n : ℕ). xs) call (λ (r : IsoReply). leftBytes xs (r .session)) e z l g,
   )
 
+  -- the call worked on good bytes where they stand
+  pub reply-left :
+      {n : ℕ} {p : PortReply} {after : List ℕ} → n ≡ layoutNumber xs → n ≡ 0 → p ≡ replyPort (call (sessionOf xs)) → Left xs after (call (sessionOf xs) .session)
+      → (p ≡ replyBy xs call) × (after ≡ bytesBy xs (λ (t : IsoChannelState). call t .session))
+  reply-left e z p left = reply-done {s = sessionOf xs} {r = call (sessionOf xs)} e z refl refl p (left .bytes)
+
 -- ---- an answer as a number
 
 flag-few : (b : Bool) → flagTag b ≤ 1
@@ -69,6 +76,9 @@ reply-flags r e = (
   omega (arith, ap (λ (q : PortReply). q .taken) e, flag-few (r .taken)),
   omega (arith, ap (λ (q : PortReply). q .halt) e, flag-few (r .halt)),
 )
+
+pub refused-flags : {n : ℕ} {p : PortReply} → p ≡ replyRefused n → (p .taken ≤ 1) × (p .halt ≤ 1)
+refused-flags e = (omega (arith, ap (λ (q : PortReply). q .taken) e), omega (arith, ap (λ (q : PortReply). q .halt) e))
 
 -- the number is read as it was made
 abbrev pub replyNumber : PortReply → ℕ

@@ -8,16 +8,27 @@ use lib.Dec.{ltb}
 use lib.ListN.{drop}
 use lib.Seq.{slice, drop-drop}
 use borrow.Author.Tests.{ltb-true, ltb-false, le-ltb, lt-leb}
-use Rattle.ring.specs.RingSums.{packetLimit}
+use Rattle.ring.specs.RingSums.{ringSize, packetLimit}
+use Rattle.ring.specs.declared.speed.Speed.{Speed}
+use Rattle.ring.specs.declared.speed.Speed.the-variants.{High}
 use Rattle.session.specs.declared.types.IsoConfig.{IsoConfig}
 use Rattle.session.specs.declared.types.IsoChannelState.{IsoChannelState}
-use Rattle.session.specs.Session.{slots, room, packetsOf, allPackets, pendingPackets, hasReason}
+use Rattle.session.specs.Session.{slots, ringWords, room, packetsOf, allPackets, pendingPackets, hasReason}
 use Rattle.session.proofs.Laws.Sums.{room-fits}
 use Rattle.session.proofs.Laws.Tests.{none}
-use Rattle.port.specs.Bytes.{u16Of, u32Of}
+use Rattle.port.specs.Bytes.{byteOf, u16Of, u32Of}
+use Rattle.port.specs.Tags.{speedOf}
 use Rattle.port.specs.Layout.{headOf, anyOf, sessionOf}
 use Rattle.port.specs.Scan.{isBadRequestEntry, isBadPlanEntry, PlainFront, FreshFront, Counted}
 use Rattle.port.proofs.Laws.Sounds.{isBadNumbers, by-plans, empty-all, empty-pending, empty-good}
+use Rattle.port.proofs.Laws.Walks.{speed-there}
+
+-- a byte of 0 for the speed: high speed, and a ring of 512 words
+pub high-speed :
+    (xs : List ℕ) {b : ℕ} → b ≡ byteOf (drop 5 xs) → b ≡ 0 → (sessionOf xs .cfg .speed ≡ High) × (ringWords (sessionOf xs .cfg) ≡ 512)
+high-speed xs e zero =
+    let high : sessionOf xs .cfg .speed ≡ High = sym (speed-there xs) ∙ ap speedOf (sym e ∙ zero) in
+    (high, ap (λ (s : Speed). ringSize s * 2) high)
 
 -- few packets fit a ring of 256 slots with a whole interval between them
 pub few-fit : (cfg : IsoConfig) (n : ℕ) → slots cfg ≡ 256 → n ≤ 15 → (n + 1) * cfg .interval ≤ 256 → ltb (room cfg) n ≡ false

@@ -16,15 +16,12 @@ use Rattle.session.proofs.Laws.Sums.{packets-split}
 use Rattle.port.specs.declared.scan.RequestSums.{RequestSums}
 use Rattle.port.specs.declared.verdict.Verdict.{Verdict}
 use Rattle.port.specs.Layout.{isBadLayout, layoutNumber, sessionOf}
-use Rattle.port.specs.Scan.{isUnsound, Counted, Sounded, Told, goodNumber, refusedNumber, notGood, verdictOf}
+use Rattle.port.specs.Scan.{isUnsound, Counted, Sounded, Told, goodNumber, refusedNumber, goodVerdict, notGood, verdictOf}
 use Rattle.port.proofs.Laws.Loaded.{short-layout}
 use Rattle.port.proofs.Laws.Placed.{requests-many, plans-many}
 use Rattle.port.proofs.Laws.Scans.{never}
 
 -- ---- the number
-
-abbrev goodVerdict : ℕ → ℕ → Verdict
-goodVerdict all pending = record { refusal = 0; bad = false; all = all; pending = pending }
 
 good-read : (all pending : ℕ) → all ≤ 1024 → pending ≤ 1024 → verdictOf (goodNumber all pending) ≡ goodVerdict all pending
 good-read all pending a p =
@@ -48,15 +45,14 @@ refused-read xs = go (ltb (length xs) 8488) (isBadLayout xs)
 -- ---- what is told
 
 -- a verdict that is not good says nothing of the sums
-not-good : (xs : List ℕ) {v : ℕ} → v ≡ refusedNumber (layoutNumber xs) → (layoutNumber xs ≡ 0 → isBadRecord (sessionOf xs) ≡ true) → Told xs (verdictOf v)
+not-good : (xs : List ℕ) {v : Verdict} → v ≡ notGood (layoutNumber xs) → (layoutNumber xs ≡ 0 → isBadRecord (sessionOf xs) ≡ true) → Told xs v
 not-good xs ev record-bad =
-    subst⁻¹ (Told xs) (ap verdictOf ev ∙ refused-read xs)
-    (record { refusal = refl; bad = λ z. sym (record-bad z); all = λ g. absurd (never g); pending = λ g. absurd (never g) })
+    subst⁻¹ (Told xs) ev (record { refusal = refl; bad = λ z. sym (record-bad z); all = λ g. absurd (never g); pending = λ g. absurd (never g) })
 
-pub told-short : (xs : List ℕ) {v : ℕ} → length xs < 8488 → v ≡ refusedNumber 17 → Told xs (verdictOf v)
+pub told-short : (xs : List ℕ) {v : Verdict} → length xs < 8488 → v ≡ notGood 17 → Told xs v
 told-short xs h ev =
     let n = short-layout xs h in
-    not-good xs (ev ∙ ap refusedNumber n) (λ z. absurd (omega (arith, n, z)))
+    not-good xs (ev ∙ ap notGood n) (λ z. absurd (omega (arith, n, z)))
 
 -- the verdict that was read from such a number
 pub by-number : (xs : List ℕ) {v w : Verdict} → Told xs w → v ≡ w → Told xs v
@@ -74,20 +70,29 @@ module _ (xs : List ℕ) (long : 8488 ≤ length xs) where
         sym (two .1),
       )
 
-  passed : {all pending v : ℕ} → isUnsound xs ≡ false → all ≡ allPackets (sessionOf xs) → pending ≡ pendingPackets (sessionOf xs) → v ≡ goodNumber all pending
+  passed :
+      {all pending : ℕ} {v : Verdict} → isUnsound xs ≡ false → all ≡ allPackets (sessionOf xs) → pending ≡ pendingPackets (sessionOf xs)
+      → v ≡ goodVerdict all pending
+      → Told xs v
+  passed good ea ep ev =
+      let two = both-pass good in
+      subst⁻¹ (Told xs) ev (record { refusal = two .0; bad = λ z. two .1; all = λ h. ea; pending = λ h. ep })
+
+  pub told-counted : (n : ℕ) {v : Verdict} → Counted xs n → v ≡ goodVerdict n n → Told xs v
+  told-counted n k = passed (k .good) (k .all) (k .pending)
+
+  passed-number :
+      {all pending v : ℕ} → isUnsound xs ≡ false → all ≡ allPackets (sessionOf xs) → pending ≡ pendingPackets (sessionOf xs)
+      → v ≡ goodNumber all pending
       → Told xs (verdictOf v)
-  passed {all} {pending} good ea ep ev =
+  passed-number {all} {pending} good ea ep ev =
       let two = both-pass good in
       let s = sessionOf xs in
       let g = sound s (requests-many xs) (plans-many xs) (sym (two .1)) in
       let parts = packets-split (s .head .done) (s .head .count) (s .requests) (g .done-in) (omega (arith, g .count-in, g .requests-long)) in
       let few : all ≤ 1024 = omega (arith, ea, g .all-few) in
       let fewer : pending ≤ 1024 = omega (arith, ea, ep, parts, few) in
-      subst⁻¹ (Told xs) (ap verdictOf ev ∙ good-read all pending few fewer)
-      (record { refusal = two .0; bad = λ z. two .1; all = λ h. ea; pending = λ h. ep })
-
-  pub told-counted : (n : ℕ) {v : ℕ} → Counted xs n → v ≡ goodNumber n n → Told xs (verdictOf v)
-  told-counted n k = passed (k .good) (k .all) (k .pending)
+      passed good ea ep (ap verdictOf ev ∙ good-read all pending few fewer)
 
   -- what a walk over all entries found
   module _ (sums : RequestSums) (sounded : Sounded xs sums) where
@@ -99,7 +104,7 @@ module _ (xs : List ℕ) (long : 8488 ≤ length xs) where
     by-record false e bad z = ap (λ (x : Bool). x || isBadRecord (sessionOf xs)) (sym e) ∙ sym (sounded .bad) ∙ bad
 
     pub told-bad : {v : ℕ} → sums .bad ≡ true → v ≡ refusedNumber (layoutNumber xs) → Told xs (verdictOf v)
-    told-bad bad ev = not-good xs ev (by-record (isBadLayout xs) refl bad)
+    told-bad bad ev = not-good xs (ap verdictOf ev ∙ refused-read xs) (by-record (isBadLayout xs) refl bad)
 
     pub told-good : {v : ℕ} → sums .bad ≡ false → v ≡ goodNumber (sums .all) (sums .pending) → Told xs (verdictOf v)
-    told-good good = passed (sym (sounded .bad) ∙ good) (sounded .all good) (sounded .pending good)
+    told-good good = passed-number (sym (sounded .bad) ∙ good) (sounded .all good) (sounded .pending good)

@@ -1,97 +1,95 @@
--- Refused at the bytes, or worked on where they stand: the law of calls by bytes at each way out, and the answer read back from its number.
-use mathlib.Core.Path.{_≡_, refl, _∙_, sym, ap}
-use Prim.Native.Nat.{_≤_}
-use native.Mathlib.Omega.{arith}
+-- Worked on where they stand, or refused at the bytes: the law of calls by bytes at each way out, and the answer as a number.
+use mathlib.Core.Path.{refl, _∙_, sym}
 use borrow.Author.Needs.{needs}
 use Rattle.session.specs.declared.types.IsoChannelState.{IsoChannelState}
 use Rattle.session.specs.Cancel.{cancelled}
 use Rattle.port.specs.Layout.{sessionOf}
-use Rattle.port.specs.Calls.{replyRefused, replyOf}
-use Rattle.port.proofs.Laws.Calls.{reply-refused, reply-done, reply-flags, replyNumber, reply-read}
+use Rattle.port.specs.Scan.{Told}
+use Rattle.port.proofs.Laws.Calls.{reply-refused, reply-left, reply-flags, refused-flags}
+use Rattle.port.proofs.Laws.Verdict.{by-number, both-pass}
 use Rattle.port.proofs.calls.cancel_more.Statement.{statement}
 use Rattle.port.proofs.calls.cancel_more.Tie as tie
 
-flags : (c : tie.After-cancel-at) → (c .cancel-at .result .taken ≤ 1) × (c .cancel-at .result .halt ≤ 1)
-flags c =
-    reply-flags (cancelled (sessionOf (c .before .before .before .before .before .before .before .args .session .now)) (c .before .before .before
-    .before .before .before .before .args .id)) (c .cancel-at .ensures .0)
+told : (c : tie.After-verdict-of) → Told (c .before .before .before .before .before .before .before .args .session .now) (c .verdict-of .result)
+told c = by-number (c .before .before .before .before .before .before .before .args .session .now) (c .before .verdict-more .ensures) (c .verdict-of .ensures)
 
-verdict-at-requires : tie.Need-verdict-at-requires
-verdict-at-requires c κs = search needs
+u16-at-requires : tie.Need-u16-at-requires
+u16-at-requires c κs = search needs
 
-cast-result : tie.Need-cast-result
-cast-result c = search needs
+young-packets-requires : tie.Need-young-packets-requires
+young-packets-requires c κs = search needs
+
+cancel-at-requires : tie.Need-cancel-at-requires
+cancel-at-requires c κs =
+    let both = both-pass (c .before .before .before .before .before .before .before .before .args .session .now) (c .before .before .before .before .before .before .before .before .pre) (c .before .before .young-packets .ensures (c .before .if2 .taken) .good) in
+    (sym (both .0), both .1)
+
+number-of-requires : tie.Need-number-of-requires
+number-of-requires c κs = reply-flags (cancelled (sessionOf (c .before .before .before .before .before .before .before .before .before .before .before .args .session .now)) (c .before .before .before .before .before .before .before .before .before .before .before .args .id)) (c .before .before .cancel-at .ensures .0)
 
 same-length : tie.Need-same-length
 same-length c = search needs
 
 returns : tie.Need-returns
 returns c =
-    let a = c .before .before .before .before .before .before .args in
-    let n = c .before .before .before .verdict-at .result .refusal in
-    let number : n ≡ replyNumber (replyRefused n) = omega arith in
-    reply-refused (a .session .now) (λ (s : IsoChannelState). cancelled s (a .id)) (c .before .before .before .verdict-at .ensures .refusal) (c
-    .before .if1 .taken)
-    (ap replyOf number ∙ reply-read (replyRefused n) (omega arith) (omega arith) (omega arith))
+    let xs = c .before .before .before .before .before .before .before .before .before .before .before .before .args .session .now in
+    let both = both-pass xs (c .before .before .before .before .before .before .before .before .before .before .before .before .pre) (c .before .before .before .before .before .before .young-packets .ensures (c .before .before .before .before .before .if2 .taken) .good) in
+    reply-left xs (λ (s : IsoChannelState). cancelled s (c .before .before .before .before .before .before .before .before .before .before .before .before .args .id)) (both .0) refl (c .number-of .ensures ∙ c .before .before .before .cancel-at .ensures .0) (c .before .before .before .cancel-at .ensures .1)
 
-cancel-at-requires : tie.Need-cancel-at-requires
-cancel-at-requires c κs =
-    let passed = sym (c .before .before .before .verdict-at .ensures .refusal) ∙ c .before .if1 .left in (
-      passed,
-      c .before .before .before
-          .verdict-at .ensures .bad passed,
-    )
+verdict-more-requires : tie.Need-verdict-more-requires
+verdict-more-requires c κs = search needs
 
-cast-result-2 : tie.Need-cast-result-2
-cast-result-2 c = search needs
+verdict-of-requires : tie.Need-verdict-of-requires
+verdict-of-requires c κs = search needs
 
-cast-result-3 : tie.Need-cast-result-3
-cast-result-3 c = search needs
+reply-refused-requires : tie.Need-reply-refused-requires
+reply-refused-requires c κs = search needs
 
-mul-result : tie.Need-mul-result
-mul-result c = search needs
-
-add-result : tie.Need-add-result
-add-result c = search needs
-
-cast-result-4 : tie.Need-cast-result-4
-cast-result-4 c = search needs
-
-mul-result-2 : tie.Need-mul-result-2
-mul-result-2 c = omega (arith, flags (c .before .before .before .before .before))
-
-add-result-2 : tie.Need-add-result-2
-add-result-2 c = omega (arith, flags (c .before .before .before .before .before))
+number-of-requires-2 : tie.Need-number-of-requires-2
+number-of-requires-2 c κs = refused-flags (c .reply-refused .ensures)
 
 same-length-2 : tie.Need-same-length-2
 same-length-2 c = search needs
 
 returns-2 : tie.Need-returns-2
 returns-2 c =
-    let start = (c .before .before .before .before .before .before .before .before .before .before .before .before) in
-    let xs = start .args .session .now in
-    let small = flags (c .before .before .before .before .before) in
-    let cancel = c .before .before .before .before .before .cancel-at in
-    reply-done xs (λ (s : IsoChannelState). cancelled s (start .args .id)) {s = sessionOf xs}
-    {r = cancelled (sessionOf xs) (start .args .id)} (c .before .before .before .before .before .before .before .before .before .verdict-at .ensures
-    .refusal) (c .before .before .before .before .before .before .before .if1 .left) refl refl
-    (reply-read (cancel .result) (omega arith) (small .0) (small .1) ∙ cancel .ensures .0) (cancel .ensures .1 .bytes)
+    reply-refused (c .before .before .before .before .before .before .before .before .before .before .before .args .session .now) (λ (s : IsoChannelState). cancelled s (c .before .before .before .before .before .before .before .before .before .before .before .args .id)) (told (c .before .before .before .before) .refusal) (c .before .before .if3 .taken)
+    (c .number-of2 .ensures ∙ c .before .reply-refused .ensures)
+
+cancel-at-requires-2 : tie.Need-cancel-at-requires-2
+cancel-at-requires-2 c κs =
+    let t = told (c .before .before .before) in
+    let passed = sym (t .refusal) ∙ c .before .if3 .left in
+    (passed, t .bad passed)
+
+number-of-requires-3 : tie.Need-number-of-requires-3
+number-of-requires-3 c κs = reply-flags (cancelled (sessionOf (c .before .before .before .before .before .before .before .before .before .before .before .before .before .args .session .now)) (c .before .before .before .before .before .before .before .before .before .before .before .before .before .args .id)) (c .before .before .cancel-at2 .ensures .0)
+
+same-length-3 : tie.Need-same-length-3
+same-length-3 c = search needs
+
+returns-3 : tie.Need-returns-3
+returns-3 c =
+    reply-left (c .before .before .before .before .before .before .before .before .before .before .before .before .before .before .args .session .now) (λ (s : IsoChannelState). cancelled s (c .before .before .before .before .before .before .before .before .before .before .before .before .before .before .args .id)) (told (c .before .before .before .before .before .before .before) .refusal) (c .before .before .before .before .before .if3 .left)
+    (c .number-of3 .ensures ∙ c .before .before .before .cancel-at2 .ensures .0) (c .before .before .before .cancel-at2 .ensures .1)
 
 pub cancel-more-spec : {M : Type 1} → statement M
 cancel-more-spec =
     tie.close
     (tie.spec
-    verdict-at-requires
-    cast-result
+    u16-at-requires
+    young-packets-requires
+    cancel-at-requires
+    number-of-requires
     same-length
     returns
-    cancel-at-requires
-    cast-result-2
-    cast-result-3
-    mul-result
-    add-result
-    cast-result-4
-    mul-result-2
-    add-result-2
+    verdict-more-requires
+    verdict-of-requires
+    reply-refused-requires
+    number-of-requires-2
     same-length-2
-    returns-2)
+    returns-2
+    cancel-at-requires-2
+    number-of-requires-3
+    same-length-3
+    returns-3)

@@ -14,7 +14,7 @@ use Rattle.port.proofs.calls.dwc2_iso_reset.Tie as tie
 told : (c : tie.After-verdict-of) → Told (c .before .before .before .before .before .before .before .before .args .session .now) (c .verdict-of
     .result)
 told c =
-    by-number (c .before .before .before .before .before .before .before .before .args .session .now) (c .before .verdict-more .ensures) (c
+    by-number (c .before .before .before .before .before .before .before .before .args .session .now) (c .before .verdict-whole .ensures) (c
     .verdict-of .ensures)
 
 reply-refused-requires : tie.Need-reply-refused-requires
@@ -44,8 +44,8 @@ returns-2 c =
     reply-done xs resetReply {s = sessionOf xs} {r = resetReply (sessionOf xs)} (both .0) refl refl refl (c .before .before .reset-at .ensures .0)
     (c .before .before .reset-at .ensures .1 .bytes)
 
-verdict-more-requires : tie.Need-verdict-more-requires
-verdict-more-requires c κs = search needs
+verdict-whole-requires : tie.Need-verdict-whole-requires
+verdict-whole-requires c κs = search needs
 
 verdict-of-requires : tie.Need-verdict-of-requires
 verdict-of-requires c κs = search needs
@@ -84,7 +84,7 @@ dwc2-iso-reset-spec =
     reset-at-requires
     same-length
     returns-2
-    verdict-more-requires
+    verdict-whole-requires
     verdict-of-requires
     reply-refused-requires-2
     same-length-2

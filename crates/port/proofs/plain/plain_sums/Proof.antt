@@ -71,23 +71,23 @@ all-is c =
     c .plain-requests .ensures .1 ∙ ap (λ (h : IsoHead). packetsOf (slice 0 (h .count) (sessionOf xs .requests))) head
 
 split :
-    (c : tie.After-packets-before)
+    (c : tie.After-done-packets)
     → let xs = c .before .before .before .before .before .before .before .before .before .before .before .before .before .args .bytes .now in
-    c .before .plain-requests .result .packets ≡ c .packets-before .result + pendingPackets (sessionOf xs)
+    c .before .plain-requests .result .packets ≡ c .done-packets .result + pendingPackets (sessionOf xs)
 split c =
     let xs = c .before .before .before .before .before .before .before .before .before .before .before .before .before .args .bytes .now in
     let s = sessionOf xs in
     let within = counts xs (numbers (c .before .before .before .before)) in
     let head = head-is (c .before .before .before .before .before .before .before .before) in
-    let done = c .packets-before .ensures ∙ ap (λ (h : IsoHead). packetsOf (slice 0 (h .done) (s .requests))) head in
+    let done = c .done-packets .ensures ∙ ap (λ (h : IsoHead). packetsOf (slice 0 (h .done) (s .requests))) head in
     all-is (c .before)
     ∙ packets-split (s .head .done) (s .head .count) (s .requests) (within .0) (omega (arith, within .1, requests-many xs))
     ∙ ap (λ (n : ℕ). n + pendingPackets s) (sym done)
 
 pending-is :
-    (c : tie.After-packets-before)
+    (c : tie.After-done-packets)
     → let xs = c .before .before .before .before .before .before .before .before .before .before .before .before .before .args .bytes .now in
-    c .before .plain-requests .result .packets - c .packets-before .result ≡ pendingPackets (sessionOf xs)
+    c .before .plain-requests .result .packets - c .done-packets .result ≡ pendingPackets (sessionOf xs)
 pending-is c = omega (arith, split c)
 
 requests :
@@ -140,7 +140,7 @@ good c =
     let limit = c .before .before .before .before .iso-max-xfer-size in
     let size = c .before .before .before .before .before .before .before .before .before .before .before .before .before .before .before
     .before .iso-ring-size in
-    let before = c .before .before .before .before .before .before .before .before .before .packets-before .result in
+    let before = c .before .before .before .before .before .before .before .before .before .done-packets .result in
     let all = c .before .before .before .before .before .before .before .before .before .before .plain-requests .result .packets in
     let parts = split (c .before .before .before .before .before .before .before .before .before) in
     let bad = isBadPlanEntry (limit .result) (size .result) in
@@ -210,10 +210,11 @@ plain-requests-requires : tie.Need-plain-requests-requires
 plain-requests-requires c κs =
     (c .before .before .before .before .before .before .before .before .before .before .before .pre, in-range (c .before .before) .1)
 
-packets-before-requires : tie.Need-packets-before-requires
-packets-before-requires c κs = (
+done-packets-requires : tie.Need-done-packets-requires
+done-packets-requires c κs = (
   c .before .before .before .before .before .before .before .before .before .before .before .before .pre,
   omega (arith, in-range (c .before .before .before)),
+  c .plain-requests .ensures .1,
 )
 
 sub-pending : tie.Need-sub-pending
@@ -300,7 +301,7 @@ plain-sums-spec =
     good-sums-requires
     returns-3
     plain-requests-requires
-    packets-before-requires
+    done-packets-requires
     sub-pending
     bad-sums-requires-3
     returns-4

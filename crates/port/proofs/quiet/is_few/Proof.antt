@@ -9,29 +9,27 @@ use lib.Seq.{slice}
 use borrow.Author.Needs.{needs}
 use borrow.Author.Tests.{eqb-true, not-false}
 use Rattle.ring.specs.RingSums.{ringSize, packetLimit}
-use Rattle.ring.specs.declared.speed.Speed.{Speed}
 use Rattle.ring.specs.declared.speed.Speed.the-variants.{High}
 use Rattle.session.specs.Session.{ringWords, packetsOf, allPackets}
-use Rattle.port.specs.Tags.{speedOf, flagOf}
+use Rattle.port.specs.Tags.{flagOf}
 use Rattle.port.specs.Layout.{anyOf, sessionOf}
 use Rattle.port.specs.Scan.{isBadRequestEntry, FreshFront}
-use Rattle.port.proofs.Laws.Fresh.{few-fit, empty-counted, young-counted}
+use Rattle.port.proofs.Laws.Fresh.{high-speed, few-fit, empty-counted, young-counted}
 use Rattle.port.proofs.Laws.Scans.{never}
-use Rattle.port.proofs.Laws.Walks.{count-there, interval-there, live-there, speed-there}
+use Rattle.port.proofs.Laws.Walks.{count-there, interval-there, live-there}
 use Rattle.port.proofs.quiet.is_few.Statement.{statement}
 use Rattle.port.proofs.quiet.is_few.Tie as tie
 
 count-is : (c : tie.After-u16-at) → c .u16-at .result ≡ sessionOf (c .before .before .args .bytes .now) .head .count
 count-is c = c .u16-at .ensures ∙ count-there (c .before .before .args .bytes .now)
 
-high : (c : tie.Else1) → sessionOf (c .before .before .before .before .args .bytes .now) .cfg .speed ≡ High
+high :
+    (c : tie.Else1)
+    → let cfg = sessionOf (c .before .before .before .before .args .bytes .now) .cfg in
+    (cfg .speed ≡ High) × (ringWords cfg ≡ 512)
 high c =
     let byte = c .before .byte-at in
-    sym (speed-there (c .before .before .before .before .args .bytes .now))
-    ∙ ap speedOf (sym (byte .ensures) ∙ eqb-true (byte .result) 0 (not-false _ (c .if1 .left)))
-
-words : (c : tie.Else1) → ringWords (sessionOf (c .before .before .before .before .args .bytes .now) .cfg) ≡ 512
-words c = ap (λ (s : Speed). ringSize s * 2) (high c)
+    high-speed (c .before .before .before .before .args .bytes .now) (byte .ensures) (eqb-true (byte .result) 0 (not-false _ (c .if1 .left)))
 
 front : (c : tie.Else2) → FreshFront (c .before .before .before .before .before .before .args .bytes .now)
 front c = c .before .is-fresh-front .ensures (not-false _ (c .if2 .left))
@@ -62,7 +60,7 @@ returns-3 c =
     let xs = c .before .before .before .before .before .before .before .args .bytes .now in
     let fresh = front (c .before) in
     let empty = sym (count-is (c .before .before .before .before .before)) ∙ c .if3 .taken in
-    let long = words (c .before .before .before) in
+    let long = high (c .before .before .before) .1 in
     λ e. (fresh, empty-counted xs fresh empty .good, long)
 
 byte-at-requires-2 : tie.Need-byte-at-requires-2
@@ -113,7 +111,8 @@ returns-7 c =
     let all : sum .result ≡ allPackets s = used .1 ∙ ap (λ (k : ℕ). packetsOf (slice 0 k (s .requests))) count in
     let requests : anyOf isBadRequestEntry 20 (s .head .count) (drop 40 xs) ≡ false =
     sym (ap (λ (k : ℕ). anyOf isBadRequestEntry 20 k (drop 40 xs)) count) ∙ used .0 in
-    let speed = high (c .before .before .before .before .before .before .before .before .before .before) in
+    let fast = high (c .before .before .before .before .before .before .before .before .before .before) in
+    let speed = fast .0 in
     let interval = c .before .before .u16-at2 .ensures ∙ interval-there xs in
     let apart : (sum .result + 1) * s .cfg .interval ≤ 256 =
     omega (arith, c .before .if6 .left, ap (λ (k : ℕ). (sum .result + 1) * k) interval) in
@@ -123,7 +122,7 @@ returns-7 c =
     young-counted xs fresh (live (c .before .before .before .before .before)) refl (sym (ap packetLimit speed)) (sym (ap ringSize speed)) all (omega
     (arith, few)) requests fits
     (c .few-plans .ensures e) in
-    (fresh, counted .good, words (c .before .before .before .before .before .before .before .before .before .before))
+    (fresh, counted .good, fast .1)
 
 pub is-few-spec : {M : Type 1} → statement M
 is-few-spec =

@@ -1,43 +1,38 @@
--- Found bad on the walk, or good: each way out tells both answers.
-use mathlib.Core.Path.{_∙_, ap}
+-- The part that is lent on is the whole of the bytes.
+use mathlib.Core.Path.{subst}
+use mathlib.Core.List.{List}
+use Prim.Native.Nat.{ℕ, _-_}
+use native.Mathlib.Omega.{arith}
+use lib.ListN.{length}
+use lib.Seq.{take-all}
 use borrow.Author.Needs.{needs}
-use Rattle.port.specs.Scan.{refusedNumber}
-use Rattle.port.proofs.Laws.Verdict.{told-bad, told-good}
+use Rattle.port.specs.Scan.{verdictOf, Told}
 use Rattle.port.proofs.verdict.verdict_whole.Statement.{statement}
 use Rattle.port.proofs.verdict.verdict_whole.Tie as tie
 
-sums-at-requires : tie.Need-sums-at-requires
-sums-at-requires c κs = search needs
+sub-verdict-walk : tie.Need-sub-verdict-walk
+sub-verdict-walk c = search needs
 
-layout-refusal-requires : tie.Need-layout-refusal-requires
-layout-refusal-requires c κs = search needs
+part-verdict-walk-start : tie.Need-part-verdict-walk-start
+part-verdict-walk-start c = search needs
 
-refused-requires : tie.Need-refused-requires
-refused-requires c κs = search needs
+part-verdict-walk-end : tie.Need-part-verdict-walk-end
+part-verdict-walk-end c = search needs
+
+verdict-walk-requires : tie.Need-verdict-walk-requires
+verdict-walk-requires c κs = search needs
 
 returns : tie.Need-returns
 returns c =
-    let start = c .before .before .before .before .before in
-    let sums = c .before .before .before .sums-at in
-    told-bad (start .args .bytes .now) (start .pre) (sums .result) (sums .ensures) (c .before .before .if1 .taken)
-    (c .refused .ensures ∙ ap refusedNumber (c .before .layout-refusal .ensures))
-
-good-requires : tie.Need-good-requires
-good-requires c κs = search needs
-
-returns-2 : tie.Need-returns-2
-returns-2 c =
-    let start = c .before .before .before .before in
-    let sums = c .before .before .sums-at in told-good (start .args .bytes .now) (start .pre) (sums .result) (sums .ensures) (c .before .if1 .left)
-    (c .good2 .ensures)
+    let xs = c .before .before .before .args .bytes .now in
+    subst (λ (l : List ℕ). Told l (verdictOf (c .verdict-walk .result))) (take-all (length xs - 0) xs (omega arith)) (c .verdict-walk .ensures)
 
 pub verdict-whole-spec : {M : Type 1} → statement M
 verdict-whole-spec =
     tie.close
     (tie.spec
-    sums-at-requires
-    layout-refusal-requires
-    refused-requires
-    returns
-    good-requires
-    returns-2)
+    sub-verdict-walk
+    part-verdict-walk-start
+    part-verdict-walk-end
+    verdict-walk-requires
+    returns)
