@@ -62,7 +62,6 @@ fn main() {
     let after = |name: &str, nth: usize| words.iter().position(|w| w == name).and_then(|at| words.get(at + nth)).cloned();
     let mut rows: Vec<Row> = session_rows::rows().into_iter().chain(other_rows::rows()).collect();
     let mut curves: Vec<Curve> = session_rows::curves().into_iter().chain(least::curves()).collect();
-    if let Ok(only) = std::env::var("ONLY") { rows.retain(|r| only.split(';').any(|o| r.name.starts_with(o))); curves.clear(); }
     let every = |rows: &mut [Row], curves: &mut [Curve], act: fn(&mut Row)| {
         rows.iter_mut().for_each(act);
         curves.iter_mut().flat_map(|c| &mut c.points).for_each(|(_, row)| act(row));

@@ -103,6 +103,23 @@ pub struct Taken {
     pub loud: usize,
 }
 
+/// Places of the stack that samples are taken at, one after the other.
+const DEPTHS: usize = 67;
+
+/// `act`, with so many frames between: where the stack lies is chance, and a call of a few nanoseconds can take twice as long at one place as at
+/// another. Both sides of a pair are at one place.
+#[inline(never)]
+fn at_depth(frames: usize, act: &mut dyn FnMut()) {
+    let mut pad = [0u64; 2];
+    std::hint::black_box(&mut pad);
+    if frames == 0 {
+        act();
+    } else {
+        at_depth(frames - 1, act);
+    }
+    std::hint::black_box(&mut pad);
+}
+
 /// `turns` over all the rows; in each turn one sample of both sides of each row, so that what else the machine does falls on all alike.
 /// Pairs that were not quiet are left out and taken again; where too few are quiet in the end, all of the row's count.
 pub fn measure(rows: &mut [&mut Row], turns: usize) -> Taken {
@@ -115,8 +132,11 @@ pub fn measure(rows: &mut [&mut Row], turns: usize) -> Taken {
                 continue;
             }
             let before = probe.fixed_loop();
-            let rust = row.rust.as_mut().map(|once| probe.sample(once));
-            let port = probe.sample(&mut row.port);
+            let (mut rust, mut port) = (None, 0.0);
+            at_depth(turn % DEPTHS, &mut || {
+                rust = row.rust.as_mut().map(|once| probe.sample(once));
+                port = probe.sample(&mut row.port);
+            });
             let behind = probe.fixed_loop();
             least = least.min(before).min(behind);
             pairs.push(Pair { rust, port, around: before.max(behind) });
