@@ -1,12 +1,12 @@
 // The first request settled and handed out in one: document 01, "Poll" and "Reclaim". So a camera's driver takes its frames, the oldest
 // at a time with others behind it. What settling writes into its entries is then moved over by the others, and is not written at all.
 ghost use mathlib.Core.Path.{_≡_};
-ghost use mathlib.Core.Bool.{true, false};
+ghost use mathlib.Core.Bool.{true, false, not, _||_};
 ghost use mathlib.Core.List.{map};
-ghost use Prim.Native.Nat.{ℕ, _+_, _*_, _≤_, _<_};
+ghost use Prim.Native.Nat.{ℕ, _+_, _-_, _*_, _≤_, _<_};
 ghost use lib.ListN.{length, getD};
 ghost use lib.Seq.{slice, sets};
-ghost use Rattle.words.specs.Words.{isSet, complete, isPacketError, movedLength};
+ghost use Rattle.words.specs.Words.{isSet, active, complete, isPacketError, movedLength};
 ghost use Rattle.session.specs.declared.reply.PollWay.the-variants.{Settle};
 ghost use Rattle.session.specs.Session.{blankRequest, blankPlan, allPackets, ringWords};
 ghost use Rattle.session.specs.Record.{isBadRecord};
@@ -64,6 +64,19 @@ fn is_apart(bytes: &[u8], n: usize, slot: u16) -> bool
     true
 }
 
+// The bit settles the first request whatever its descriptors say, so that none of them is read.
+fn is_settled(bytes: &[u8], n: usize, bit: bool, ring: &[u32]) -> bool
+    requires { ⌜ (8488 ≤ length (now bytes)) × (0 < n) × (n ≤ 1024) ⌝ }
+    ensures { λ r. ⌜ r
+        ≡ (bit
+        || not (isSet active (getD (now (ring .entry)) (2 * getD (plansOf (now (bytes .entry))) (n - 1) blankPlan .«desc_index») 0))) ⌝ }
+{
+    if bit {
+        return true;
+    }
+    is_served_at(bytes, n, ring)
+}
+
 // The first request, whose plans end at `n`, is settled by the event, and the second, whose plans end at `to`, is not: its last slot is none of
 // those that are cleared.
 fn is_alone(bytes: &[u8], n: usize, to: usize, bit: bool, ring: &[u32]) -> bool
@@ -80,7 +93,10 @@ fn is_alone(bytes: &[u8], n: usize, to: usize, bit: bool, ring: &[u32]) -> bool
           ring = settledRing (sessionOf (now (bytes .entry))) (now (ring .entry));
         }) ⌝ }
 {
-    if !(bit | is_served_at(bytes, n, ring)) | is_served_at(bytes, to, ring) {
+    if !is_settled(bytes, n, bit, ring) {
+        return false;
+    }
+    if is_served_at(bytes, to, ring) {
         return false;
     }
     is_apart(bytes, n, slot_at(bytes, to - 1))

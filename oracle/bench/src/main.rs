@@ -4,6 +4,7 @@
 //!   bench [--samples N] --docs DIR COUNTS  the table, the plots and the tables of DIR/SPEED.md, with what was counted before
 //!   bench --count                          under callgrind: the instructions of each row
 //!   bench --copies                         with the archive whose copies are counted: the copies of each row
+//!   bench --take N                         N samples of each row as numbers, for the process that started it
 //!   bench --spin ROW SECONDS               the port's call of one row again and again, for a profile
 
 mod callgrind;
@@ -27,6 +28,7 @@ use probe::Probe;
 use rows::{Figures, Row};
 use session_rows::Curve;
 use std::path::Path;
+use std::process::Command;
 use std::time::{Duration, Instant};
 
 fn spin(rows: &mut [Row], name: &str, seconds: u64) {
@@ -40,11 +42,33 @@ fn spin(rows: &mut [Row], name: &str, seconds: u64) {
     }
 }
 
-fn measure(rows: &mut [Row], curves: &mut [Curve], turns: usize) -> (Vec<Figures>, Vec<Measured>, String) {
+/// all the rows, those of the curves behind the others
+fn all<'a>(rows: &'a mut [Row], curves: &'a mut [Curve]) -> Vec<&'a mut Row> {
     let points = curves.iter_mut().flat_map(|c| c.points.iter_mut().map(|(_, row)| row));
+    rows.iter_mut().chain(points).collect()
+}
+
+/// Processes that take the samples, one after the other: where the system puts a program is chance, and moves calls of a few nanoseconds.
+const PROCESSES: usize = 5;
+
+/// the samples of all processes together, row by row
+fn take_in_turn(turns: usize) -> rows::Pairs {
+    let mut taken: rows::Pairs = Vec::new();
+    let this = std::env::current_exe().expect("the path of this program");
+    for _ in 0..PROCESSES {
+        let out = Command::new(&this).args(["--take", &turns.to_string()]).output().expect("this program once more");
+        assert!(out.status.success(), "a process that took samples failed");
+        let more = rows::from_lines(&String::from_utf8(out.stdout).expect("lines of numbers"));
+        taken.resize_with(more.len(), Vec::new);
+        taken.iter_mut().zip(more).for_each(|(pairs, more)| pairs.extend(more));
+    }
+    taken
+}
+
+fn measure(rows: &mut [Row], curves: &mut [Curve], samples: usize) -> (Vec<Figures>, Vec<Measured>, String) {
+    let turns = samples.div_ceil(PROCESSES);
     let count = rows.len();
-    let mut all: Vec<&mut Row> = rows.iter_mut().chain(points).collect();
-    let taken = rows::measure(&mut all, turns);
+    let taken = rows::sum_up(&all(rows, curves), &take_in_turn(turns), PROCESSES * turns);
     let quiet = format!("{} of {} pairs of samples left out, since a fixed loop around them was slow", taken.loud, taken.pairs);
     let mut figures = taken.figures;
     let mut behind = figures.split_off(count).into_iter();
@@ -76,8 +100,11 @@ fn main() {
     if let (Some(name), Some(seconds)) = (after("--spin", 1), after("--spin", 2)) {
         return spin(&mut rows, &name, seconds.parse().expect("seconds"));
     }
+    if let Some(turns) = after("--take", 1) {
+        return print!("{}", rows::to_lines(&rows::take(&mut all(&mut rows, &mut curves), turns.parse().expect("a number of turns"))));
+    }
     let samples = after("--samples", 1).map_or(41, |n| n.parse().expect("a number of samples"));
-    println!("{samples} samples of each side, turn by turn: median (first to third quartile)");
+    println!("{samples} samples of each side, turn by turn in {PROCESSES} processes: median (first to third quartile)");
     let (figures, measured, quiet) = measure(&mut rows, &mut curves, samples);
     println!("{quiet}");
     print!("{}", table::text(&figures, &measured));

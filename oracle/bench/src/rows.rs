@@ -73,7 +73,7 @@ impl Row {
 }
 
 /// One sample of each side, and the slower of the two fixed loops around them.
-struct Pair {
+pub struct Pair {
     rust: Option<f64>,
     port: f64,
     around: u64,
@@ -120,11 +120,14 @@ fn at_depth(frames: usize, act: &mut dyn FnMut()) {
     std::hint::black_box(&mut pad);
 }
 
+/// The pairs of each row, in the order of the rows.
+pub type Pairs = Vec<Vec<Pair>>;
+
 /// `turns` over all the rows; in each turn one sample of both sides of each row, so that what else the machine does falls on all alike.
-/// Pairs that were not quiet are left out and taken again; where too few are quiet in the end, all of the row's count.
-pub fn measure(rows: &mut [&mut Row], turns: usize) -> Taken {
+/// Pairs that were not quiet are taken again.
+pub fn take(rows: &mut [&mut Row], turns: usize) -> Pairs {
     let mut probe = Probe::clock();
-    let mut taken: Vec<Vec<Pair>> = rows.iter().map(|_| Vec::new()).collect();
+    let mut taken: Pairs = rows.iter().map(|_| Vec::new()).collect();
     let mut least = u64::MAX;
     for turn in 0..PATIENCE * turns {
         for (row, pairs) in rows.iter_mut().zip(&mut taken) {
@@ -133,7 +136,7 @@ pub fn measure(rows: &mut [&mut Row], turns: usize) -> Taken {
             }
             let before = probe.fixed_loop();
             let (mut rust, mut port) = (None, 0.0);
-            at_depth(turn % DEPTHS, &mut || {
+            at_depth(5 * turn % DEPTHS, &mut || {
                 rust = row.rust.as_mut().map(|once| probe.sample(once));
                 port = probe.sample(&mut row.port);
             });
@@ -142,8 +145,14 @@ pub fn measure(rows: &mut [&mut Row], turns: usize) -> Taken {
             pairs.push(Pair { rust, port, around: before.max(behind) });
         }
     }
+    taken
+}
+
+/// Pairs that were not quiet are left out; where too few are quiet, fewer than a quarter of the `turns`, all of the row's count.
+pub fn sum_up(rows: &[&mut Row], taken: &Pairs, turns: usize) -> Taken {
+    let least = taken.iter().flatten().map(|p| p.around).min().unwrap_or(0);
     let mut all = Taken { figures: Vec::new(), pairs: 0, loud: 0 };
-    for (row, pairs) in rows.iter().zip(&taken) {
+    for (row, pairs) in rows.iter().zip(taken) {
         let quiet: Vec<&Pair> = pairs.iter().filter(|p| is_quiet(p, least)).collect();
         let kept = if 4 * quiet.len() < turns { pairs.iter().collect() } else { quiet };
         all.pairs += pairs.len();
@@ -151,4 +160,18 @@ pub fn measure(rows: &mut [&mut Row], turns: usize) -> Taken {
         all.figures.push(figures(row, &kept));
     }
     all
+}
+
+/// the pairs as a process hands them to the one that started it: a line a row, three numbers a pair
+pub fn to_lines(taken: &Pairs) -> String {
+    let number = |p: &Pair| format!("{} {} {}", p.rust.unwrap_or(f64::NAN), p.port, p.around);
+    taken.iter().map(|pairs| pairs.iter().map(number).collect::<Vec<_>>().join(" ") + "\n").collect()
+}
+
+pub fn from_lines(lines: &str) -> Pairs {
+    let pair = |n: &[&str]| {
+        let rust: f64 = n[0].parse().expect("a time");
+        Pair { rust: (!rust.is_nan()).then_some(rust), port: n[1].parse().expect("a time"), around: n[2].parse().expect("ticks") }
+    };
+    lines.lines().map(|line| line.split(' ').collect::<Vec<_>>().chunks_exact(3).map(pair).collect()).collect()
 }

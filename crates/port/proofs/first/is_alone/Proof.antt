@@ -1,12 +1,11 @@
 -- The first request is settled, by the bit or since it is served, and the second is not: its slot is none of those that are cleared.
 use mathlib.Core.Path.{_≡_, refl, _∙_, sym, ap}
-use mathlib.Core.Bool.{Bool, not, _||_}
+use mathlib.Core.Bool.{not, _||_}
 use Prim.Native.Nat.{ℕ, _-_, _*_, _≤_, _<_}
 use native.Mathlib.Omega.{arith}
 use lib.ListN.{length, getD}
 use borrow.Author.Tests.{not-false}
 use Rattle.words.specs.Words.{isSet, active}
-use Rattle.words.proofs.Laws.Tests.{neither}
 use Rattle.session.specs.Session.{blankPlan}
 use Rattle.session.specs.Settle.{isServed}
 use Rattle.session.proofs.Laws.Record.{Sound, sound}
@@ -37,61 +36,52 @@ ends c =
       omega (arith, second-in s (c .args .ring .now) g (c .pre .2) (c .pre .3) (c .pre .4) (c .pre .5), g .all-few),
     )
 
-is-served-at-requires : tie.Need-is-served-at-requires
-is-served-at-requires c κs = let e = ends (c .before .before) in (long (c .before .before), e .0, omega (arith, e .1, e .2))
-
-is-served-at-requires-2 : tie.Need-is-served-at-requires-2
-is-served-at-requires-2 c κs = let e = ends (c .before .before .before) in (long (c .before .before .before), omega (arith, e .0, e .1), e .2)
+is-settled-requires : tie.Need-is-settled-requires
+is-settled-requires c κs = let e = ends (c .before .before) in (long (c .before .before), e .0, omega (arith, e .1, e .2))
 
 returns : tie.Need-returns
 returns c = λ e. absurd (never (sym e))
 
-sub-slot-at : tie.Need-sub-slot-at
-sub-slot-at c = let e = ends (c .before .before .before .before .before) in omega (arith, e .0, e .1)
-
-slot-at-requires : tie.Need-slot-at-requires
-slot-at-requires c κs =
-    let e = ends (c .before .before .before .before .before) in (long (c .before .before .before .before .before), omega (arith, e .0, e .1, e .2))
-
-is-apart-requires : tie.Need-is-apart-requires
-is-apart-requires c κs =
-    let e = ends (c .before .before .before .before .before .before) in (
-      long (c .before .before .before .before .before .before),
-      omega (
-        arith,
-        e
-            .1,
-        e .2,
-      ),
-    )
+is-served-at-requires : tie.Need-is-served-at-requires
+is-served-at-requires c κs = let e = ends (c .before .before .before .before) in (long (c .before .before .before .before), omega (arith, e .0, e .1), e .2)
 
 returns-2 : tie.Need-returns-2
-returns-2 c =
-    let start = (c .before .before .before .before .before .before .before) in
+returns-2 c = λ e. absurd (never (sym e))
+
+sub-slot-at : tie.Need-sub-slot-at
+sub-slot-at c = let e = ends (c .before .before .before .before .before .before) in omega (arith, e .0, e .1)
+
+slot-at-requires : tie.Need-slot-at-requires
+slot-at-requires c κs = let e = ends (c .before .before .before .before .before .before) in (long (c .before .before .before .before .before .before), omega (arith, e .0, e .1, e .2))
+
+is-apart-requires : tie.Need-is-apart-requires
+is-apart-requires c κs = let e = ends (c .before .before .before .before .before .before .before) in (long (c .before .before .before .before .before .before .before), omega (arith, e .1, e .2))
+
+returns-3 : tie.Need-returns-3
+returns-3 c =
+    let start = (c .before .before .before .before .before .before .before .before) in
     let a = start .args in
     let s = sessionOf (a .bytes .now) in
     let ring = a .ring .now in
     let g = good start in
-    let two = neither (not (a .bit || c .before .before .before .before .is-served-at .result)) (c .before .before .before .is-served-at2 .result) (c
-    .before .before .if1 .left) in
-    let served : c .before .before .before .before .is-served-at .result ≡ isServed s ring =
-    c .before .before .before .before .is-served-at .ensures
-    ∙ ap (λ (n : ℕ). not (isSet active (getD ring (2 * getD (plansOf (a .bytes .now)) (n - 1) blankPlan .«desc_index») 0)))
+    let settled : c .before .before .before .before .before .is-settled .result ≡ (a .bit || isServed s ring) =
+    c .before .before .before .before .before .is-settled .ensures
+    ∙ ap (λ (n : ℕ). a .bit || not (isSet active (getD ring (2 * getD (plansOf (a .bytes .now)) (n - 1) blankPlan .«desc_index») 0)))
     (sym (first-to s ring g (start .pre .2) (start .pre .3) (start .pre .4))) in
     λ e.
     first-alone s ring g (start .pre .2) (start .pre .3) (start .pre .4) (start .pre .5) (a .bit)
-    (ap (λ (b : Bool). a .bit || b) (sym served) ∙ not-false (a .bit || c .before .before .before .before .is-served-at .result) (two .0))
-    (sym (c .before .before .before .is-served-at2 .ensures) ∙ two .1)
+    (sym settled ∙ not-false (c .before .before .before .before .before .is-settled .result) (c .before .before .before .before .if1 .left)) (sym (c .before .before .before .is-served-at .ensures) ∙ c .before .before .if2 .left)
     (λ k h x. c .is-apart .ensures e k h (x ∙ sym (c .before .slot-at .ensures)))
 
 pub is-alone-spec : {M : Type 1} → statement M
 is-alone-spec =
     tie.close
     (tie.spec
-    is-served-at-requires
-    is-served-at-requires-2
+    is-settled-requires
     returns
+    is-served-at-requires
+    returns-2
     sub-slot-at
     slot-at-requires
     is-apart-requires
-    returns-2)
+    returns-3)
