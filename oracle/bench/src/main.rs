@@ -103,7 +103,7 @@ fn main() {
     if let Some(turns) = after("--take", 1) {
         return print!("{}", rows::to_lines(&rows::take(&mut all(&mut rows, &mut curves), turns.parse().expect("a number of turns"))));
     }
-    let samples = after("--samples", 1).map_or(41, |n| n.parse().expect("a number of samples"));
+    let samples = after("--samples", 1).map_or(45, |n| n.parse().expect("a number of samples"));
     println!("{samples} samples of each side, turn by turn in {PROCESSES} processes: median (first to third quartile)");
     let (figures, measured, quiet) = measure(&mut rows, &mut curves, samples);
     println!("{quiet}");
