@@ -49,21 +49,14 @@ module _ (xs : List ℕ) (call : IsoChannelState → IsoReply) where
     refused xs (λ (n : ℕ). xs) (λ (s : IsoChannelState). leftBytes xs (call s .session)) e z,
   )
 
-  pub reply-done :
-      {n : ℕ} {s : IsoChannelState} {r : IsoReply} {p : PortReply} {after : List ℕ} → n ≡ layoutNumber xs → n ≡ 0 → s ≡ sessionOf xs → r ≡ call s
-      → p ≡ replyPort r
-      → after ≡ leftBytes xs (r .session)
-      → (p ≡ replyBy xs call) × (after ≡ bytesBy xs (λ (t : IsoChannelState). call t .session))
-  reply-done e z l g p b = (
-    p ∙ done xs replyRefused call replyPort e z l g,
-    b ∙ done xs (λ (n : ℕ). xs) call (λ (r : IsoReply). leftBytes xs (r .session)) e z l g,
-  )
-
   -- the call worked on good bytes where they stand
-  pub reply-left :
+  pub reply-done :
       {n : ℕ} {p : PortReply} {after : List ℕ} → n ≡ layoutNumber xs → n ≡ 0 → p ≡ replyPort (call (sessionOf xs)) → Left xs after (call (sessionOf xs) .session)
       → (p ≡ replyBy xs call) × (after ≡ bytesBy xs (λ (t : IsoChannelState). call t .session))
-  reply-left e z p left = reply-done {s = sessionOf xs} {r = call (sessionOf xs)} e z refl refl p (left .bytes)
+  reply-done e z p left = (
+    p ∙ done xs replyRefused call replyPort e z refl refl,
+    left .bytes ∙ done xs (λ (n : ℕ). xs) call (λ (r : IsoReply). leftBytes xs (r .session)) e z refl refl,
+  )
 
 -- ---- an answer as a number
 

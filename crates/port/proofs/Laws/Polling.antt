@@ -199,5 +199,5 @@ module _ (xs ring : List ℕ) (e : IsoEvent) where
   poll-done {p = p} {after} {words} is z said =
       let s = sessionOf xs in
       let g = subst (λ (f : IsoEvent). Polls f p after words) is said in
-      let both = reply-done xs (λ (t : IsoChannelState). polled t e ring) {s = s} {r = polled s e ring} refl z refl refl (g .0) (g .1 .bytes) in
+      let both = reply-done xs (λ (t : IsoChannelState). polled t e ring) refl z (g .0) (g .1) in
       (both .0, both .1, done xs (λ (n : ℕ). ring) (λ (t : IsoChannelState). polledRing t e ring) (λ (l : List ℕ). l) {s = s} refl z refl (g .2))

@@ -1,22 +1,34 @@
 -- Refused at the bytes, worked on where they stand with few requests, or read from the number of the usual way.
-use mathlib.Core.Path.{refl, _∙_, sym}
+use mathlib.Core.Path.{_≡_, refl, _∙_, sym}
+use mathlib.Core.Bool.{false}
 use native.Mathlib.Omega.{arith}
 use borrow.Author.Needs.{needs}
 use Rattle.session.specs.declared.types.IsoChannelState.{IsoChannelState}
+use Rattle.session.specs.Record.{isBadRecord}
 use Rattle.session.specs.Cancel.{cancelled}
-use Rattle.port.proofs.Laws.Calls.{reply-refused, reply-left}
+use Rattle.port.specs.Layout.{layoutNumber, sessionOf}
+use Rattle.port.proofs.Laws.Calls.{reply-refused, reply-done}
 use Rattle.port.proofs.Laws.Loaded.{short-layout}
 use Rattle.port.proofs.Laws.Verdict.{both-pass}
 use Rattle.port.proofs.calls.dwc2_iso_cancel.Statement.{statement}
 use Rattle.port.proofs.calls.dwc2_iso_cancel.Tie as tie
+
+passed :
+    (c : tie.Then4)
+    → let xs = c .before .before .before .before .before .before .before .before .before .before .before .args .session .now in
+    (0 ≡ layoutNumber xs) × (false ≡ isBadRecord (sessionOf xs))
+passed c = both-pass (c .before .before .before .before .before .before .before .before .before .before .before .args .session .now)
+    (c .before .before .before .before .before .before .before .before .before .if1 .left) (c .before .is-few .ensures (c .if4 .taken) .1)
 
 reply-refused-requires : tie.Need-reply-refused-requires
 reply-refused-requires c κs = search needs
 
 returns : tie.Need-returns
 returns c =
-    let xs = c .before .before .before .args .session .now in
-    reply-refused xs (λ (s : IsoChannelState). cancelled s (c .before .before .before .args .id)) (short-layout xs (c .before .if1 .taken)) (λ z. omega arith) (c .reply-refused .ensures)
+    let a = c .before .before .before .args in
+    reply-refused (a .session .now) (λ (s : IsoChannelState). cancelled s (a .id)) (short-layout (a .session .now) (c .before .if1 .taken))
+    (λ z. omega arith)
+    (c .reply-refused .ensures)
 
 u16-at-requires : tie.Need-u16-at-requires
 u16-at-requires c κs = search needs
@@ -52,18 +64,17 @@ is-few-requires : tie.Need-is-few-requires
 is-few-requires c κs = search needs
 
 cancel-at-requires : tie.Need-cancel-at-requires
-cancel-at-requires c κs =
-    let both = both-pass (c .before .before .before .before .before .before .before .before .before .before .before .before .args .session .now) (c .before .before .before .before .before .before .before .before .before .before .if1 .left) (c .before .before .is-few .ensures (c .before .if4 .taken) .1) in
-    (sym (both .0), both .1)
+cancel-at-requires c κs = let both = passed (c .before) in (sym (both .0), both .1)
 
 same-length-3 : tie.Need-same-length-3
 same-length-3 c = search needs
 
 returns-4 : tie.Need-returns-4
 returns-4 c =
-    let xs = c .before .before .before .before .before .before .before .before .before .before .before .before .before .before .before .args .session .now in
-    let both = both-pass xs (c .before .before .before .before .before .before .before .before .before .before .before .before .before .if1 .left) (c .before .before .before .before .before .is-few .ensures (c .before .before .before .before .if4 .taken) .1) in
-    reply-left xs (λ (s : IsoChannelState). cancelled s (c .before .before .before .before .before .before .before .before .before .before .before .before .before .before .before .args .id)) (both .0) refl (c .before .before .cancel-at .ensures .0) (c .before .before .cancel-at .ensures .1)
+    let a = c .before .before .before .before .before .before .before .before .before .before .before .before .before .before .before .args in
+    let both = passed (c .before .before .before .before) in
+    let done = c .before .before .cancel-at .ensures in
+    reply-done (a .session .now) (λ (s : IsoChannelState). cancelled s (a .id)) (both .0) refl (done .0) (done .1)
 
 cancel-more-requires-3 : tie.Need-cancel-more-requires-3
 cancel-more-requires-3 c κs = search needs

@@ -37,7 +37,8 @@ returns-2 : tie.Need-returns-2
 returns-2 c =
     let a = c .before .before .before .before .before .before .before .before .before .args in
     let event = eventOf (a .reported) (a .unplugged) (a .hcint) in
-    let found = c .before .before .is-void .ensures (c .before .if3 .taken) event (ap (λ (n : ℕ). not (eqb n 0)) (c .before .before .before .before .before .if2 .taken)) in
+    let none = ap (λ (n : ℕ). not (eqb n 0)) (c .before .before .before .before .before .if2 .taken) in
+    let found = c .before .before .is-void .ensures (c .before .if3 .taken) event none in
     poll-done (a .session .now) (a .ring .now) event refl (found .0) (c .reply-still .ensures ∙ found .1, found .2, found .3)
 
 u16-at-requires : tie.Need-u16-at-requires
@@ -78,8 +79,9 @@ same-length-6 c = search needs
 returns-4 : tie.Need-returns-4
 returns-4 c =
     let a = c .before .before .before .before .before .before .before .before .before .before .before .before .before .args in
+    let event = eventOf (a .reported) (a .unplugged) (a .hcint) in
     let found = c .before .before .quiet-poll .ensures (c .before .if5 .taken) in
-    poll-done (a .session .now) (a .ring .now) (eventOf (a .reported) (a .unplugged) (a .hcint)) (c .before .before .before .before .before .event-of .ensures) (found .0)
+    poll-done (a .session .now) (a .ring .now) event (c .before .before .before .before .before .event-of .ensures) (found .0)
     (c .reply-still2 .ensures ∙ found .1, found .2, found .3)
 
 poll-more-requires-2 : tie.Need-poll-more-requires-2

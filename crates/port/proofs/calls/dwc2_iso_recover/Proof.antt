@@ -49,10 +49,10 @@ returns-2 c =
     let xs = a .session .now in
     let ring = a .ring .now in
     let both =
-    reply-done xs (λ (s : IsoChannelState). recovered s (length ring)) {s = sessionOf xs} {r = recovered (sessionOf xs) (length ring)}
+    reply-done xs (λ (s : IsoChannelState). recovered s (length ring))
     (c .before .before .before .before .before .before .before .before .before .verdict-at .ensures .refusal)
-    (c .before .before .before .before .before .before .before .if1 .left) refl refl (c .before .before .before .before .recover-at .ensures .0)
-    (c .before .before .before .before .recover-at .ensures .1 .bytes) in (
+    (c .before .before .before .before .before .before .before .if1 .left) (c .before .before .before .before .recover-at .ensures .0)
+    (c .before .before .before .before .recover-at .ensures .1) in (
       both .0,
       both .1,
       done xs (λ (n : ℕ). ring) (λ (s : IsoChannelState). recoveredRing s ring) (λ (words : List ℕ). words) {s = sessionOf xs}

@@ -3,7 +3,6 @@ use mathlib.Core.Path.{refl, _∙_, sym}
 use native.Mathlib.Omega.{arith}
 use borrow.Author.Needs.{needs}
 use Rattle.session.specs.Poll.{resetReply}
-use Rattle.port.specs.Layout.{sessionOf}
 use Rattle.port.specs.Scan.{Told}
 use Rattle.port.proofs.Laws.Calls.{reply-refused, reply-done}
 use Rattle.port.proofs.Laws.Loaded.{short-layout}
@@ -41,8 +40,8 @@ returns-2 c =
     let xs = c .before .before .before .before .before .before .before .before .before .args .session .now in
     let both = both-pass xs (c .before .before .before .before .before .before .before .if1 .left) (c .before .before .before .before .before
     .is-empty .ensures (c .before .before .before .before .if2 .taken) .good) in
-    reply-done xs resetReply {s = sessionOf xs} {r = resetReply (sessionOf xs)} (both .0) refl refl refl (c .before .before .reset-at .ensures .0)
-    (c .before .before .reset-at .ensures .1 .bytes)
+    let done = c .before .before .reset-at .ensures in
+    reply-done xs resetReply (both .0) refl (done .0) (done .1)
 
 verdict-whole-requires : tie.Need-verdict-whole-requires
 verdict-whole-requires c κs = search needs
@@ -70,9 +69,9 @@ same-length-3 c = search needs
 returns-4 : tie.Need-returns-4
 returns-4 c =
     let xs = c .before .before .before .before .before .before .before .before .before .before .before .before .before .before .args .session .now in
-    reply-done xs resetReply {s = sessionOf xs} {r = resetReply (sessionOf xs)} (told (c .before .before .before .before .before .before) .refusal)
-    (c .before .before .before .before .if3 .left) refl refl
-    (c .before .before .reset-at2 .ensures .0) (c .before .before .reset-at2 .ensures .1 .bytes)
+    let done = c .before .before .reset-at2 .ensures in
+    reply-done xs resetReply (told (c .before .before .before .before .before .before) .refusal) (c .before .before .before .before .if3 .left) (done .0)
+    (done .1)
 
 pub dwc2-iso-reset-spec : {M : Type 1} → statement M
 dwc2-iso-reset-spec =

@@ -24,8 +24,9 @@ same-length c = search needs
 returns : tie.Need-returns
 returns c =
     let a = c .before .before .before .before .before .before .before .before .args in
-    poll-refused (a .session .now) (a .ring .now) (eventOf (a .reported) (a .unplugged) (a .hcint)) (c .before .before .before .before .verdict-at .ensures .refusal) (c .before .before .if1 .taken)
-    (c .number-of .ensures ∙ c .before .reply-refused .ensures)
+    let event = eventOf (a .reported) (a .unplugged) (a .hcint) in
+    poll-refused (a .session .now) (a .ring .now) event (c .before .before .before .before .verdict-at .ensures .refusal)
+    (c .before .before .if1 .taken) (c .number-of .ensures ∙ c .before .reply-refused .ensures)
 
 event-of-requires : tie.Need-event-of-requires
 event-of-requires c κs = search needs
@@ -36,7 +37,8 @@ poll-on-requires c κs = search needs
 number-of-requires-2 : tie.Need-number-of-requires-2
 number-of-requires-2 c κs =
     let a = c .before .before .before .before .before .before .before .before .before .before .before .before .before .before .args in
-    reply-flags (polled (sessionOf (a .session .now)) (c .before .before .before .before .before .before .before .event-of .result) (a .ring .now)) (c .before .before .before .before .poll-on .ensures .0)
+    reply-flags (polled (sessionOf (a .session .now)) (c .before .before .before .before .before .before .before .event-of .result) (a .ring .now))
+    (c .before .before .before .before .poll-on .ensures .0)
 
 same-length-2 : tie.Need-same-length-2
 same-length-2 c = search needs
@@ -47,9 +49,12 @@ same-length-3 c = search needs
 returns-2 : tie.Need-returns-2
 returns-2 c =
     let a = c .before .before .before .before .before .before .before .before .before .before .before .before .before .before .before .args in
+    let event = eventOf (a .reported) (a .unplugged) (a .hcint) in
+    let good = sym (c .before .before .before .before .before .before .before .before .before .before .before .verdict-at .ensures .refusal)
+    ∙ c .before .before .before .before .before .before .before .before .before .if1 .left in
     let done = c .before .before .before .before .before .poll-on .ensures in
-    poll-done (a .session .now) (a .ring .now) (eventOf (a .reported) (a .unplugged) (a .hcint)) (c .before .before .before .before .before .before .before .before .event-of .ensures)
-    (sym (c .before .before .before .before .before .before .before .before .before .before .before .verdict-at .ensures .refusal) ∙ c .before .before .before .before .before .before .before .before .before .if1 .left) (c .number-of2 .ensures ∙ done .0, done .1, done .2)
+    poll-done (a .session .now) (a .ring .now) event (c .before .before .before .before .before .before .before .before .event-of .ensures) good
+    (c .number-of2 .ensures ∙ done .0, done .1, done .2)
 
 pub poll-more-spec : {M : Type 1} → statement M
 poll-more-spec =

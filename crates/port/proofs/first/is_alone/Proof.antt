@@ -37,13 +37,19 @@ ends c =
     )
 
 is-settled-requires : tie.Need-is-settled-requires
-is-settled-requires c κs = let e = ends (c .before .before) in (long (c .before .before), e .0, omega (arith, e .1, e .2))
+is-settled-requires c κs =
+    let start = c .before .before in
+    let e = ends start in
+    (long start, e .0, omega (arith, e .1, e .2))
 
 returns : tie.Need-returns
 returns c = λ e. absurd (never (sym e))
 
 is-served-at-requires : tie.Need-is-served-at-requires
-is-served-at-requires c κs = let e = ends (c .before .before .before .before) in (long (c .before .before .before .before), omega (arith, e .0, e .1), e .2)
+is-served-at-requires c κs =
+    let start = c .before .before .before .before in
+    let e = ends start in
+    (long start, omega (arith, e .0, e .1), e .2)
 
 returns-2 : tie.Need-returns-2
 returns-2 c = λ e. absurd (never (sym e))
@@ -52,10 +58,16 @@ sub-slot-at : tie.Need-sub-slot-at
 sub-slot-at c = let e = ends (c .before .before .before .before .before .before) in omega (arith, e .0, e .1)
 
 slot-at-requires : tie.Need-slot-at-requires
-slot-at-requires c κs = let e = ends (c .before .before .before .before .before .before) in (long (c .before .before .before .before .before .before), omega (arith, e .0, e .1, e .2))
+slot-at-requires c κs =
+    let start = c .before .before .before .before .before .before in
+    let e = ends start in
+    (long start, omega (arith, e .0, e .1, e .2))
 
 is-apart-requires : tie.Need-is-apart-requires
-is-apart-requires c κs = let e = ends (c .before .before .before .before .before .before .before) in (long (c .before .before .before .before .before .before .before), omega (arith, e .1, e .2))
+is-apart-requires c κs =
+    let start = c .before .before .before .before .before .before .before in
+    let e = ends start in
+    (long start, omega (arith, e .1, e .2))
 
 returns-3 : tie.Need-returns-3
 returns-3 c =
@@ -70,7 +82,8 @@ returns-3 c =
     (sym (first-to s ring g (start .pre .2) (start .pre .3) (start .pre .4))) in
     λ e.
     first-alone s ring g (start .pre .2) (start .pre .3) (start .pre .4) (start .pre .5) (a .bit)
-    (sym settled ∙ not-false (c .before .before .before .before .before .is-settled .result) (c .before .before .before .before .if1 .left)) (sym (c .before .before .before .is-served-at .ensures) ∙ c .before .before .if2 .left)
+    (sym settled ∙ not-false _ (c .before .before .before .before .if1 .left))
+    (sym (c .before .before .before .is-served-at .ensures) ∙ c .before .before .if2 .left)
     (λ k h x. c .is-apart .ensures e k h (x ∙ sym (c .before .slot-at .ensures)))
 
 pub is-alone-spec : {M : Type 1} → statement M

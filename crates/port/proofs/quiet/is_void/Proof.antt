@@ -27,16 +27,18 @@ is-empty-requires c κs = search needs
 
 returns-2 : tie.Need-returns-2
 returns-2 c =
-    let xs = c .before .before .before .before .before .args .bytes .now in
-    let ring = c .before .before .before .before .before .args .ring .now in
+    let start = c .before .before .before .before .before in
+    let xs = start .args .bytes .now in
+    let ring = start .args .ring .now in
     let byte = c .before .before .byte-at in
     let tests = neither (ltb (length ring) 512) (not (eqb (byte .result) 0)) (c .before .if1 .left) in
     let words = high-speed xs (byte .ensures) (eqb-true (byte .result) 0 (not-false _ (tests .1))) .1 in
     λ e event none.
-    let two = both-pass xs (c .before .before .before .before .before .pre) (c .is-empty .ensures e .good) in
+    let two = both-pass xs (start .pre) (c .is-empty .ensures e .good) in
     let answered =
-    still-replied xs ring event (λ i. omega (arith, c .before .before .before .before .shared-slice-known .given i)) (sym (two .0)) (ap (ltb (length ring)) words ∙ tests .0)
-    (sym (two .1)) (still-unreported (sessionOf xs) event ring none) (ap (λ (b : Bool). flagTag (b && sessionOf xs .head .live)) (sym none)) in
+    still-replied xs ring event (λ i. omega (arith, c .before .before .before .before .shared-slice-known .given i)) (sym (two .0))
+    (ap (ltb (length ring)) words ∙ tests .0) (sym (two .1)) (still-unreported (sessionOf xs) event ring none)
+    (ap (λ (b : Bool). flagTag (b && sessionOf xs .head .live)) (sym none)) in
     (sym (two .0), answered .0, answered .1, answered .2)
 
 pub is-void-spec : {M : Type 1} → statement M
