@@ -105,8 +105,8 @@ fn cancel_more(session: &mut [u8], id: u64) -> u64
     number_of(cancel_at(session, verdict.bad, id))
 }
 
-// Few requests are looked at in the call itself. The usual way is called from several places: from one alone it would become a part of the call, and
-// its registers were saved here.
+// Few requests are looked at in the call itself; where one is completed, or there are many, the usual way is taken at once. It is called from several
+// places: from one alone it would become a part of the call, and its registers were saved here.
 #[no_mangle]
 pub extern "C" fn dwc2_iso_cancel(session: &mut [u8], id: u64) -> PortReply
     ensures { λ r. ⌜ (r ≡ replyBy (now (session .entry)) (λ (s : IsoChannelState). cancelled s id))
