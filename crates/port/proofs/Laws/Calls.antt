@@ -74,7 +74,7 @@ pub refused-flags : {n : ℕ} {p : PortReply} → p ≡ replyRefused n → (p .t
 refused-flags e = (omega (arith, ap (λ (q : PortReply). q .taken) e), omega (arith, ap (λ (q : PortReply). q .halt) e))
 
 -- the number is read as it was made
-abbrev pub replyNumber : PortReply → ℕ
+abbrev replyNumber : PortReply → ℕ
 replyNumber p = p .refusal + 4294967296 * p .taken + 8589934592 * p .halt
 
 pub reply-read : (p : PortReply) → p .refusal < 4294967296 → p .taken ≤ 1 → p .halt ≤ 1 → replyOf (replyNumber p) ≡ p

@@ -1,13 +1,17 @@
 -- Runs of stores, of any list: those that follow one another, what stands before, in and behind one, and a run that moves down a part of the list
 -- itself.
-use mathlib.Core.Path.{_≡_, refl, _∙_, sym, ap, ap₂}
+use mathlib.Core.Path.{_≡_, refl, _∙_, sym, ap, ap₂, subst}
 use mathlib.Core.List.{List, [], _∷_, _++_}
 use Prim.Native.Nat.{ℕ, zero, suc, _+_, _-_, _*_, _≤_}
 use native.Mathlib.Nat.{add-zero}
 use native.Mathlib.Omega.{arith}
 use lib.ListN.{length, getD, take, drop, set, length-append, take-append-drop, drop-of-length-le}
-use lib.Seq.{slice, sets, sets-eq, length-sets, drop-at, drop-cons, take-add, take-set-le, drop-set-lt, drop-set-add, length-slice, length-take-le}
+use lib.Seq.{slice, sets, sets-eq, length-sets, drop-at, drop-cons, take-all, take-add, take-set-le, drop-set-lt, drop-set-add, length-slice, length-take-le}
 use Rattle.session.proofs.Laws.Lists.{slice-next, slice-past, slice-split, slice-after-set}
+
+-- a list that is lent on as the part from its beginning to its end
+pub lent-whole : (P : List ℕ → Type 0) (xs : List ℕ) → P (take (length xs - 0) xs) → P xs
+lent-whole P xs = subst P (take-all (length xs - 0) xs (omega arith))
 
 module _ {A : Type 0} where
   -- one run behind another is one run

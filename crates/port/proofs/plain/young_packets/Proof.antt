@@ -1,12 +1,9 @@
 -- The part that is lent on is the whole of the bytes.
-use mathlib.Core.Path.{subst}
 use mathlib.Core.List.{List}
-use Prim.Native.Nat.{ℕ, _-_}
-use native.Mathlib.Omega.{arith}
-use lib.ListN.{length}
-use lib.Seq.{take-all}
+use Prim.Native.Nat.{ℕ}
 use borrow.Author.Needs.{needs}
 use Rattle.port.specs.Scan.{Counted}
+use Rattle.port.proofs.Laws.Runs.{lent-whole}
 use Rattle.port.proofs.plain.young_packets.Statement.{statement}
 use Rattle.port.proofs.plain.young_packets.Tie as tie
 
@@ -24,8 +21,7 @@ packets-in-requires c κs = search needs
 
 returns : tie.Need-returns
 returns c =
-    let xs = c .before .before .before .args .bytes .now in
-    λ few. subst (λ (l : List ℕ). Counted l (c .packets-in .result)) (take-all (length xs - 0) xs (omega arith)) (c .packets-in .ensures few)
+    λ few. lent-whole (λ (l : List ℕ). Counted l (c .packets-in .result)) (c .before .before .before .args .bytes .now) (c .packets-in .ensures few)
 
 pub young-packets-spec : {M : Type 1} → statement M
 young-packets-spec =

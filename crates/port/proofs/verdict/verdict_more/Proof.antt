@@ -1,12 +1,9 @@
 -- The part that is lent on is the whole of the bytes.
-use mathlib.Core.Path.{subst}
 use mathlib.Core.List.{List}
-use Prim.Native.Nat.{ℕ, _-_}
-use native.Mathlib.Omega.{arith}
-use lib.ListN.{length}
-use lib.Seq.{take-all}
+use Prim.Native.Nat.{ℕ}
 use borrow.Author.Needs.{needs}
 use Rattle.port.specs.Scan.{verdictOf, Told}
+use Rattle.port.proofs.Laws.Runs.{lent-whole}
 use Rattle.port.proofs.verdict.verdict_more.Statement.{statement}
 use Rattle.port.proofs.verdict.verdict_more.Tie as tie
 
@@ -24,8 +21,7 @@ verdict-plain-requires c κs = search needs
 
 returns : tie.Need-returns
 returns c =
-    let xs = c .before .before .before .args .bytes .now in
-    subst (λ (l : List ℕ). Told l (verdictOf (c .verdict-plain .result))) (take-all (length xs - 0) xs (omega arith)) (c .verdict-plain .ensures)
+    lent-whole (λ (l : List ℕ). Told l (verdictOf (c .verdict-plain .result))) (c .before .before .before .args .bytes .now) (c .verdict-plain .ensures)
 
 pub verdict-more-spec : {M : Type 1} → statement M
 verdict-more-spec =
