@@ -22,6 +22,7 @@ pub mod Runs
 pub mod Saved
 pub mod Scans
 pub mod Settling
+pub mod Several
 pub mod Sounds
 pub mod Steps
 pub mod Submits

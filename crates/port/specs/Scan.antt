@@ -1,14 +1,16 @@
 -- What the walk over the entries in use finds: bytes that no call works on, or what crate session's record check counts. Results of inner functions.
 use mathlib.Core.Path.{_≡_}
-use mathlib.Core.Bool.{Bool, true, false, _||_, _&&_, cond}
+use mathlib.Core.Bool.{Bool, true, false, not, _||_, _&&_, cond}
 use mathlib.Core.List.{List}
 use Prim.Native.Nat.{ℕ, _+_, _*_, _/_, _%_, _≤_, _<_}
 use lib.Dec.{eqb}
+use lib.ListN.{drop}
 use Rattle.session.specs.Session.{slots, allPackets, pendingPackets}
 use Rattle.session.specs.declared.types.IsoFatal.the-variants.{Nothing}
 use Rattle.session.specs.Record.{isBadConfig, isBadRequest, isBadPlan, isBadRecord}
 use Rattle.port.specs.declared.scan.RequestSums.{RequestSums}
 use Rattle.port.specs.declared.verdict.Verdict.{Verdict}
+use Rattle.port.specs.Bytes.{u64Of}
 use Rattle.port.specs.Layout.{requestOf, isBadRequestBytes, planOf, isBadPlanBytes, isBadMark, isBadHead, isBadLayout, layoutNumber, sessionOf}
 
 -- an entry's bytes that one of the two checks finds bad, of the layout or of the record
@@ -17,6 +19,10 @@ isBadRequestEntry xs = isBadRequestBytes xs || isBadRequest (requestOf xs)
 
 abbrev pub isBadPlanEntry : ℕ → ℕ → List ℕ → Bool
 isBadPlanEntry limit slots xs = isBadPlanBytes xs || isBadPlan limit slots (planOf xs)
+
+-- a request whose count of packets and the six bytes behind it are another number than `word`
+abbrev pub isOther : ℕ → List ℕ → Bool
+isOther word xs = not (eqb (u64Of (drop 12 xs)) word)
 
 -- what no call works on: bytes that are no session of the layout, or a bad record
 abbrev pub isUnsound : List ℕ → Bool

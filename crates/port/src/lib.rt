@@ -20,6 +20,7 @@ mod ring_sums;
 mod save;
 mod scan;
 mod setup;
+mod several;
 mod stages;
 mod submit;
 mod tags;

@@ -1,7 +1,6 @@
 // Both checks of a session's bytes in the common case: high or full speed, no reason to end, requests without an outcome but done, packets in
-// flight that are not settled. Where a test fails nothing is said, and the whole walk (`scan`) decides. The bits of many entries' numbers
-// are put together without a test of each: what comes out is below none of them, so that one test of it speaks of all. The commonest sessions,
-// with no request or with none completed, have the fewest tests.
+// flight that are not settled. Where a test fails nothing is said, and the whole walk (`scan`) decides. The commonest sessions, with no request or
+// with none completed, have the fewest tests.
 ghost use mathlib.Core.Path.{_≡_};
 ghost use mathlib.Core.Bool.{true, false};
 ghost use Prim.Native.Nat.{_+_, _-_, _*_, _/_, _%_, _≤_, _<_};
@@ -24,6 +23,9 @@ use crate::scan::RequestSums;
 use crate::scan::any_bad_plan_entry;
 use crate::scan::bad_sums;
 use crate::scan::good_sums;
+use crate::several::are_alike;
+use crate::several::are_unsettled;
+use crate::several::joined;
 use ring::iso_max_xfer_size;
 use ring::iso_ring_size;
 use session::IsoConfig;
@@ -80,15 +82,8 @@ pub(crate) fn is_empty(bytes: &[u8]) -> bool
     is_fresh_front(bytes)
 }
 
-// Below neither number, and in the place of a plan's length, bits 8 to 23, below neither length.
-pub(crate) fn joined(a: u64, b: u64) -> u64
-    ensures { λ r. ⌜ (a ≤ r) × (b ≤ r) × (a / 256 % 65536 ≤ r / 256 % 65536) × (b / 256 % 65536 ≤ r / 256 % 65536) ⌝ }
-{
-    a | b
-}
-
 // The count of packets and the six bytes behind it, less 1, are a number up to 254 in a request that is good and has no outcome but done.
-fn plain_requests(bytes: &[u8], n: u16) -> Used
+fn summed_requests(bytes: &[u8], n: u16) -> Used
     requires { ⌜ (8488 ≤ length (now bytes)) × (n ≤ 64) ⌝ }
     ensures { λ r. ⌜ (r .bad ≡ false → anyOf isBadRequestEntry 20 n (drop 40 (now (bytes .entry))) ≡ false)
         × (r .packets ≡ packetsOf (slice 0 n (requestsOf (now (bytes .entry))))) ⌝ }
@@ -109,22 +104,24 @@ fn plain_requests(bytes: &[u8], n: u16) -> Used
     }
 }
 
-// Of a plan that is not settled the last three bytes, what it moved and its status, are 0. Then, and with its slot in the ring, the number of
-// the byte before it and of its seven is below 2^24 for each slot of the ring.
-fn are_unsettled(bytes: &[u8], from: usize, to: usize, limit: u16, slots: u16) -> bool
-    requires { ⌜ (8488 ≤ length (now bytes)) × (from ≤ to) × (to ≤ 1024) ⌝ }
-    ensures { λ r. ⌜ (r ≡ true → anyOf (isBadPlanEntry limit slots) 7 (to - from) (drop (1320 + 7 * from) (now (bytes .entry))) ≡ false) ⌝ }
+// Many requests mostly have the same count of packets, as a camera's driver submits them: then it is the same number in each, and nothing is added up.
+fn plain_requests(bytes: &[u8], n: u16) -> Used
+    requires { ⌜ (8488 ≤ length (now bytes)) × (n ≤ 64) ⌝ }
+    ensures { λ r. ⌜ (r .bad ≡ false → anyOf isBadRequestEntry 20 n (drop 40 (now (bytes .entry))) ≡ false)
+        × (r .packets ≡ packetsOf (slice 0 n (requestsOf (now (bytes .entry))))) ⌝ }
 {
-    let n = to - from;
-    let mut words: u64 = 0;
-    let mut at = 1_319 + 7 * from;
-    let mut j: usize = 0;
-    while j < n {
-        words = joined(words, u64_at(bytes, at));
-        at += 7;
-        j += 1;
+    if n > 7 {
+        let word = u64_at(bytes, 52);
+        if (word != 0) & (word < 256) {
+            if are_alike(bytes, n as usize, word) {
+                return Used {
+                    bad: false,
+                    packets: n as usize * word as usize,
+                };
+            }
+        }
     }
-    (words < 16_777_216 * slots as u64) & (words / 256 % 65_536 <= limit as u64)
+    summed_requests(bytes, n)
 }
 
 // The packets in flight, whose plans are those from `from` to `to`: there is room for them, and none is settled. Of none there is nothing to ask.

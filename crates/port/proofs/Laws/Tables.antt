@@ -84,6 +84,16 @@ module _ (bad : List ℕ → Bool) (w : ℕ) where
       let clear = neither (bad xs) (anyOf bad w n (drop w xs)) e in
       ap₂ (λ (x y : Bool). x || y) (clear .0) (any-less n m (drop w xs) (omega arith) (clear .1))
 
+  -- of the last `k` none is bad, and of those before them, or of more than those
+  pub any-over :
+      (n i k at : ℕ) (xs : List ℕ) → k ≤ n → n - k ≤ i → anyOf bad w i (drop at xs) ≡ false → anyOf bad w k (drop (at + w * (n - k)) xs) ≡ false
+      → anyOf bad w n (drop at xs) ≡ false
+  any-over n i k at xs fits reach before last =
+      let all : n ≡ n - k + k = omega arith in
+      ap (λ (m : ℕ). anyOf bad w m (drop at xs)) all
+      ∙ any-split (n - k) k at xs
+      ∙ ap₂ (λ (x y : Bool). x || y) (any-less i (n - k) (drop at xs) reach before) last
+
   pub any-clear : (n i : ℕ) (xs : List ℕ) → i < n → anyOf bad w n xs ≡ false → bad (drop (w * i) xs) ≡ false
   unfolding anyOf
   any-clear zero i xs h e = absurd (omega arith)

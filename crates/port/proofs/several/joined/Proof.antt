@@ -3,8 +3,8 @@ use mathlib.Core.Path.{_≡_, _∙_, ap}
 use Prim.Native.Nat.{ℕ, _/_, _%_, _≤_}
 use native.Mathlib.Omega.{arith}
 use lib.Bits.{bitOr, and-le-l, and-le-r, or-add-and, or-shr, or-mod}
-use Rattle.port.proofs.plain.joined.Statement.{statement}
-use Rattle.port.proofs.plain.joined.Tie as tie
+use Rattle.port.proofs.several.joined.Statement.{statement}
+use Rattle.port.proofs.several.joined.Tie as tie
 
 least : (a b : ℕ) → (a ≤ bitOr a b) × (b ≤ bitOr a b)
 least a b = (omega (arith, or-add-and a b, and-le-r a b), omega (arith, or-add-and a b, and-le-l a b))
