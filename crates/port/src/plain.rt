@@ -23,6 +23,7 @@ use crate::scan::RequestSums;
 use crate::scan::any_bad_plan_entry;
 use crate::scan::bad_sums;
 use crate::scan::good_sums;
+use crate::several::all_unsettled;
 use crate::several::are_alike;
 use crate::several::are_unsettled;
 use crate::several::joined;
@@ -144,7 +145,7 @@ fn are_plain_packets(
     if is_over_room(cfg, (to - from) as u64) {
         return false;
     }
-    are_unsettled(bytes, from, to, limit, slots)
+    are_unsettled(bytes, from, to - from, limit, slots)
 }
 
 // The packets of the completed requests. Where all are completed these are the packets of all, which are not counted twice.
@@ -206,8 +207,10 @@ fn packets_in(bytes: &[u8]) -> u32
     if used.bad | (used.packets > 255) {
         return 256;
     }
-    let limit = iso_max_xfer_size(speed);
-    if are_plain_packets(bytes, cfg, 0, used.packets, limit, iso_ring_size(speed)) {
+    if is_over_room(cfg, used.packets as u64) {
+        return 256;
+    }
+    if all_unsettled(bytes, used.packets, iso_max_xfer_size(speed), iso_ring_size(speed)) {
         return used.packets as u32;
     }
     256

@@ -50,7 +50,7 @@ pub(crate) fn are_alike(bytes: &[u8], n: usize, word: u64) -> bool
 
 // Of a plan that is not settled the last three bytes, what it moved and its status, are 0. Then, and with its slot in the ring, the number of
 // the byte before it and of its seven is below 2^24 for each slot of the ring.
-fn few_unsettled(bytes: &[u8], from: usize, n: usize, limit: u16, slots: u16) -> bool
+pub(crate) fn are_unsettled(bytes: &[u8], from: usize, n: usize, limit: u16, slots: u16) -> bool
     requires { ⌜ (8488 ≤ length (now bytes)) × (from + n ≤ 1024) ⌝ }
     ensures { λ r. ⌜ (r ≡ true → anyOf (isBadPlanEntry limit slots) 7 n (drop (1320 + 7 * from) (now (bytes .entry))) ≡ false) ⌝ }
 {
@@ -65,21 +65,20 @@ fn few_unsettled(bytes: &[u8], from: usize, n: usize, limit: u16, slots: u16) ->
     (words < 16_777_216 * slots as u64) & (words / 256 % 65_536 <= limit as u64)
 }
 
-// None of the plans from `from` to `to` is settled or bad, eight a turn.
-pub(crate) fn are_unsettled(bytes: &[u8], from: usize, to: usize, limit: u16, slots: u16) -> bool
-    requires { ⌜ (8488 ≤ length (now bytes)) × (from ≤ to) × (to ≤ 1024) ⌝ }
-    ensures { λ r. ⌜ (r ≡ true → anyOf (isBadPlanEntry limit slots) 7 (to - from) (drop (1320 + 7 * from) (now (bytes .entry))) ≡ false) ⌝ }
+// None of the first `n` plans is settled or bad, eight a turn.
+pub(crate) fn all_unsettled(bytes: &[u8], n: usize, limit: u16, slots: u16) -> bool
+    requires { ⌜ (8488 ≤ length (now bytes)) × (n ≤ 1024) ⌝ }
+    ensures { λ r. ⌜ (r ≡ true → anyOf (isBadPlanEntry limit slots) 7 n (drop 1320 (now (bytes .entry))) ≡ false) ⌝ }
 {
-    let n = to - from;
     if n < 8 {
-        return few_unsettled(bytes, from, n, limit, slots);
+        return are_unsettled(bytes, 0, n, limit, slots);
     }
     let mut i: usize = 0;
     while i + 8 < n {
-        if !few_unsettled(bytes, from + i, 8, limit, slots) {
+        if !are_unsettled(bytes, i, 8, limit, slots) {
             return false;
         }
         i += 8;
     }
-    few_unsettled(bytes, to - 8, 8, limit, slots)
+    are_unsettled(bytes, n - 8, 8, limit, slots)
 }

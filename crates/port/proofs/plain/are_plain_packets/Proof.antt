@@ -31,6 +31,9 @@ is-over-room-requires c κs = search needs
 returns-2 : tie.Need-returns-2
 returns-2 c = λ e. absurd (never (sym e))
 
+sub-are-unsettled : tie.Need-sub-are-unsettled
+sub-are-unsettled c = search needs
+
 are-unsettled-requires : tie.Need-are-unsettled-requires
 are-unsettled-requires c κs = search needs
 
@@ -45,5 +48,6 @@ are-plain-packets-spec =
     sub-is-over-room
     is-over-room-requires
     returns-2
+    sub-are-unsettled
     are-unsettled-requires
     returns-3)

@@ -61,46 +61,40 @@ plain-requests-requires c κs =
 returns-2 : tie.Need-returns-2
 returns-2 c = λ e. absurd (omega arith)
 
+is-over-room-requires : tie.Need-is-over-room-requires
+is-over-room-requires c κs = search needs
+
+returns-3 : tie.Need-returns-3
+returns-3 c = λ e. absurd (omega arith)
+
 iso-max-xfer-size-requires : tie.Need-iso-max-xfer-size-requires
 iso-max-xfer-size-requires c κs = search needs
 
 iso-ring-size-requires : tie.Need-iso-ring-size-requires
 iso-ring-size-requires c κs = search needs
 
-are-plain-packets-requires : tie.Need-are-plain-packets-requires
-are-plain-packets-requires c κs = (
-  c .before .before .before .before .before .before .before .before .before .before .before .before .pre,
-  omega arith,
-  omega (arith, few (c .before .before)),
-)
+all-unsettled-requires : tie.Need-all-unsettled-requires
+all-unsettled-requires c κs = (c .before .before .before .before .before .before .before .before .before .before .before .before .before .before .pre, omega (arith, few (c .before .before .before .before)))
 
 cast-result : tie.Need-cast-result
-cast-result c = omega (arith, few (c .before .before .before .before .before))
-
-returns-3 : tie.Need-returns-3
-returns-3 c =
-    let xs = c .before .before .before .before .before .before .before .before .before .before .before .before .before .before
-    .before .args .bytes .now in
-    let used = c .before .before .before .before .before .before .before .before .plain-requests in
-    let n = used .result .packets in
-    let count = count-is (c .before .before .before .before .before .before .before .before .before) in
-    let all : n ≡ allPackets (sessionOf xs) = used .ensures .1 ∙ ap (λ (k : ℕ). packetsOf (slice 0 k (sessionOf xs .requests))) count in
-    let requests : anyOf isBadRequestEntry 20 (sessionOf xs .head .count) (drop 40 xs) ≡ false =
-    sym (ap (λ (k : ℕ). anyOf isBadRequestEntry 20 k (drop 40 xs)) count) ∙ used .ensures .0
-    (neither (used .result .bad) _ (c .before .before .before .before .before .if2 .left) .0) in
-    let fits = c .before .before .are-plain-packets .ensures (c .before .if3 .taken) in
-    let whole : n - 0 ≡ n = omega arith in
-    let cfg = c .before .before .before .before .before .before .before .before .before .before .config-at in
-    λ e.
-    young-counted xs (front (c .before .before .before .before .before .before .before .before .before .before .before))
-    (live (c .before .before .before .before .before .before .before .before .before .before .before)) (cfg .ensures ∙ config-there xs)
-    (c .before .before .before .before .iso-max-xfer-size .ensures) (c .before .before .before .iso-ring-size .ensures) all
-    (omega (arith, few (c .before .before .before .before .before))) requests (sym (ap (ltb (room (cfg .result))) whole) ∙ fits .0)
-    (sym (ap (λ (k : ℕ). anyOf (isBadPlanEntry (c .before .before .before .before .iso-max-xfer-size .result) (c .before .before
-    .before .iso-ring-size .result)) 7 k (drop 1320 xs)) whole) ∙ fits .1)
+cast-result c = omega (arith, few (c .before .before .before .before .before .before .before))
 
 returns-4 : tie.Need-returns-4
-returns-4 c = λ e. absurd (omega arith)
+returns-4 c =
+    let xs = c .before .before .before .before .before .before .before .before .before .before .before .before .before .before .before .before .before .args .bytes .now in
+    let used = c .before .before .before .before .before .before .before .before .before .before .plain-requests in
+    let count = count-is (c .before .before .before .before .before .before .before .before .before .before .before) in
+    let all : used .result .packets ≡ allPackets (sessionOf xs) =
+    used .ensures .1 ∙ ap (λ (k : ℕ). packetsOf (slice 0 k (sessionOf xs .requests))) count in
+    let requests : anyOf isBadRequestEntry 20 (sessionOf xs .head .count) (drop 40 xs) ≡ false =
+    sym (ap (λ (k : ℕ). anyOf isBadRequestEntry 20 k (drop 40 xs)) count) ∙ used .ensures .0 (neither (used .result .bad) _ (c .before .before .before .before .before .before .before .if2 .left) .0) in
+    let cfg = c .before .before .before .before .before .before .before .before .before .before .before .before .config-at in
+    λ e.
+    young-counted xs (front (c .before .before .before .before .before .before .before .before .before .before .before .before .before)) (live (c .before .before .before .before .before .before .before .before .before .before .before .before .before)) (cfg .ensures ∙ config-there xs) (c .before .before .before .before .iso-max-xfer-size .ensures) (c .before .before .before .iso-ring-size .ensures) all
+    (omega (arith, few (c .before .before .before .before .before .before .before))) requests (sym (c .before .before .before .before .before .before .is-over-room .ensures) ∙ c .before .before .before .before .before .if3 .left) (c .before .before .all-unsettled .ensures (c .before .if4 .taken))
+
+returns-5 : tie.Need-returns-5
+returns-5 c = λ e. absurd (omega arith)
 
 pub packets-in-spec : {M : Type 1} → statement M
 packets-in-spec =
@@ -113,9 +107,11 @@ packets-in-spec =
     u16-at-requires
     plain-requests-requires
     returns-2
+    is-over-room-requires
+    returns-3
     iso-max-xfer-size-requires
     iso-ring-size-requires
-    are-plain-packets-requires
+    all-unsettled-requires
     cast-result
-    returns-3
-    returns-4)
+    returns-4
+    returns-5)
