@@ -1,6 +1,7 @@
 // Cancelling on a session's bytes where they stand: document 01, "Cancel". One request's outcome is written, or the reason.
 ghost use mathlib.Core.Path.{_≡_};
-ghost use Prim.Native.Nat.{_≤_};
+ghost use Prim.Native.Nat.{_≤_, _<_};
+ghost use lib.Dec.{ltb};
 ghost use lib.ListN.{length};
 ghost use lib.Seq.{slice};
 ghost use Rattle.session.specs.Cancel.{placeOf, cancelled};
@@ -15,11 +16,13 @@ use crate::end::put_outcome;
 use crate::entries::request_at;
 use crate::load::head_at;
 use crate::load::reason_at;
+use crate::numbers::u64_at;
 use crate::poll::halt_at;
 use session::IsoAnswer;
 use session::IsoHaltReason;
 use session::IsoOutcome;
 use session::has_reason;
+use std::num::wrapping_sub_u64;
 
 // The place of the first request with the number, or `count`.
 pub(crate) fn place_at(bytes: &[u8], count: u16, id: u64) -> u16
@@ -40,6 +43,25 @@ pub(crate) fn place_at(bytes: &[u8], count: u16, id: u64) -> u16
     i
 }
 
+// Numbers are drawn in turn, so that a request mostly stands as far behind the first as its number does. Where none is completed any place with the
+// number is as good as the first with it, since both are pending; so that one is asked before the walk.
+fn found_at(bytes: &[u8], done: u16, count: u16, id: u64) -> u16
+    requires { ⌜ (8488 ≤ length (now bytes)) × (count ≤ 64) ⌝ }
+    ensures { λ r. ⌜ (ltb r done ≡ ltb (placeOf id (slice 0 count (sessionOf (now (bytes .entry)) .requests))) done)
+        × (ltb r count ≡ ltb (placeOf id (slice 0 count (sessionOf (now (bytes .entry)) .requests))) count)
+        × (r < done → r ≡ placeOf id (slice 0 count (sessionOf (now (bytes .entry)) .requests))) ⌝ }
+{
+    if done == 0 {
+        let behind = wrapping_sub_u64(id, u64_at(bytes, 40));
+        if behind < count as u64 {
+            if u64_at(bytes, 40 + 20 * behind as usize) == id {
+                return behind as u16;
+            }
+        }
+    }
+    place_at(bytes, count, id)
+}
+
 pub(crate) fn cancel_at(bytes: &mut [u8], bad: bool, id: u64) -> PortReply
     requires { ⌜ (layoutNumber (now bytes) ≡ 0) × (bad ≡ isBadRecord (sessionOf (now bytes))) ⌝ }
     ensures { λ r. ⌜ (r ≡ replyPort (cancelled (sessionOf (now (bytes .entry))) id))
@@ -49,7 +71,7 @@ pub(crate) fn cancel_at(bytes: &mut [u8], bad: bool, id: u64) -> PortReply
         return reply_refused(18);
     }
     let head = head_at(bytes);
-    let at = place_at(bytes, head.count, id);
+    let at = found_at(bytes, head.done, head.count, id);
     if at < head.done {
         put_outcome(bytes, 40 + 20 * at as usize, IsoOutcome::Cancelled);
         return reply_port(IsoAnswer::Done, false, false);

@@ -84,7 +84,7 @@ pub(crate) fn is_empty(bytes: &[u8]) -> bool
 }
 
 // The count of packets and the six bytes behind it, less 1, are a number up to 254 in a request that is good and has no outcome but done.
-fn summed_requests(bytes: &[u8], n: u16) -> Used
+fn plain_requests(bytes: &[u8], n: u16) -> Used
     requires { ⌜ (8488 ≤ length (now bytes)) × (n ≤ 64) ⌝ }
     ensures { λ r. ⌜ (r .bad ≡ false → anyOf isBadRequestEntry 20 n (drop 40 (now (bytes .entry))) ≡ false)
         × (r .packets ≡ packetsOf (slice 0 n (requestsOf (now (bytes .entry))))) ⌝ }
@@ -106,7 +106,7 @@ fn summed_requests(bytes: &[u8], n: u16) -> Used
 }
 
 // Many requests mostly have the same count of packets, as a camera's driver submits them: then it is the same number in each, and nothing is added up.
-fn plain_requests(bytes: &[u8], n: u16) -> Used
+fn young_requests(bytes: &[u8], n: u16) -> Used
     requires { ⌜ (8488 ≤ length (now bytes)) × (n ≤ 64) ⌝ }
     ensures { λ r. ⌜ (r .bad ≡ false → anyOf isBadRequestEntry 20 n (drop 40 (now (bytes .entry))) ≡ false)
         × (r .packets ≡ packetsOf (slice 0 n (requestsOf (now (bytes .entry))))) ⌝ }
@@ -122,7 +122,7 @@ fn plain_requests(bytes: &[u8], n: u16) -> Used
             }
         }
     }
-    summed_requests(bytes, n)
+    plain_requests(bytes, n)
 }
 
 // The packets in flight, whose plans are those from `from` to `to`: there is room for them, and none is settled. Of none there is nothing to ask.
@@ -203,14 +203,19 @@ fn packets_in(bytes: &[u8]) -> u32
     }
     let cfg = config_at(bytes);
     let speed = cfg.speed;
-    let used = plain_requests(bytes, u16_at(bytes, 32));
+    let used = young_requests(bytes, u16_at(bytes, 32));
     if used.bad | (used.packets > 255) {
         return 256;
     }
     if is_over_room(cfg, used.packets as u64) {
         return 256;
     }
-    if all_unsettled(bytes, used.packets, iso_max_xfer_size(speed), iso_ring_size(speed)) {
+    if all_unsettled(
+        bytes,
+        used.packets,
+        iso_max_xfer_size(speed),
+        iso_ring_size(speed),
+    ) {
         return used.packets as u32;
     }
     256

@@ -6,7 +6,9 @@ use Prim.Native.Nat.{ℕ, zero, suc, _+_, _-_, _≤_, _<_}
 use native.Mathlib.Nat.{le-of-eq}
 use native.Mathlib.Omega.{arith}
 use lib.Dec.{eqb}
+use lib.ListN.{length, getD}
 use lib.Seq.{slice, map-set-same}
+use borrow.Author.Tests.{eq-eqb}
 use Rattle.session.specs.declared.reply.IsoEvent.{IsoEvent}
 use Rattle.session.specs.declared.reply.PollWay.{PollWay}
 use Rattle.session.specs.declared.reply.PollWay.the-variants as way
@@ -22,6 +24,7 @@ use Rattle.session.specs.Reclaim.{isFound, looked}
 use Rattle.session.proofs.Laws.Ended.{packets-kept, ended-packets}
 use Rattle.session.proofs.Laws.Lists.{map-slice, map-amend}
 use Rattle.session.proofs.Laws.Record.{Sound}
+use Rattle.session.proofs.Laws.Replies.{place-here, place-next}
 use Rattle.session.proofs.Laws.Settled.{all-settled, settled-sound}
 use Rattle.port.specs.Layout.{layoutNumber, sessionOf, requestsIn, plansIn}
 use Rattle.port.specs.Places.{Left}
@@ -51,6 +54,24 @@ place-by id (q ∷ l) (r ∷ m) e =
     let head : q .id ≡ r .id = cc in
     let rest : map number l ≡ map number m = cc in
     ap₂ (λ (n k : ℕ). cond (eqb n id) 0 (suc k)) head (place-by id l m rest)
+
+-- a request with the number stands at its place or behind it
+pub place-reached : (id i t : ℕ) (l : List IsoRequest) → i < t → t ≤ length l → getD l i blankRequest .id ≡ id → placeOf id (slice 0 t l) ≤ i
+place-reached id i t l h k e = omega (arith, from i 0 (omega arith))
+  where
+    turn :
+        (j : ℕ) (b : Bool) → j < t → j ≤ i → eqb (getD l j blankRequest .id) id ≡ b → (b ≡ false → j + 1 + placeOf id (slice (j + 1) t l) ≤ i)
+        → j + placeOf id (slice j t l) ≤ i
+    turn j true m n this rest = omega (arith, place-here id j t l m k this)
+    turn j false m n other rest = omega (arith, place-next id j t l m k other, rest refl)
+
+    from : (left j : ℕ) → j + left ≡ i → j + placeOf id (slice j t l) ≤ i
+    from zero j m =
+        let here : j ≡ i = omega arith in
+        let this = eq-eqb (getD l j blankRequest .id) id (ap (λ (n : ℕ). getD l n blankRequest .id) here ∙ e) in
+        omega (arith, place-here id j t l (omega arith) k this)
+    from (suc left) j m =
+        turn j (eqb (getD l j blankRequest .id) id) (omega arith) (omega arith) refl (λ other. from left (j + 1) (omega arith))
 
 pub same-place : (id : ℕ) (s t : IsoChannelState) → InUse s t → requestAt id t ≡ requestAt id s
 same-place id s t u =

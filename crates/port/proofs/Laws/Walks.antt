@@ -12,7 +12,7 @@ use Rattle.session.specs.declared.types.IsoPacketPlan.{IsoPacketPlan}
 use Rattle.session.specs.declared.types.IsoChannelState.{IsoChannelState}
 use Rattle.session.specs.Session.{blankRequest, blankPlan, packetsOf, allPackets}
 use Rattle.session.proofs.Laws.Sums.{packets-next}
-use Rattle.port.specs.Bytes.{byteOf, u16Of}
+use Rattle.port.specs.Bytes.{byteOf, u16Of, u64Of}
 use Rattle.port.specs.Tags.{speedOf, directionOf, flagOf}
 use Rattle.port.specs.Layout.{configOf, headOf, requestBytes, requestOf, planBytes, planOf, layoutNumber, sessionOf, requestsIn, plansIn}
 use Rattle.port.specs.Places.{requestsOf, plansOf, withRequests, withPlans, Left}
@@ -53,6 +53,10 @@ unfolding requestOf
 packets-there xs i h =
     let on : 52 + 20 * i ≡ 40 + 20 * i + 12 = omega arith in
     ap (λ (n : ℕ). u16Of (drop n xs)) on ∙ field u16Of 12 (40 + 20 * i) xs ∙ ap (λ (r : IsoRequest). r .packets) (request-there xs i blankRequest h)
+
+pub id-there : (xs : List ℕ) (i : ℕ) → i < 64 → u64Of (drop (40 + 20 * i) xs) ≡ getD (requestsOf xs) i blankRequest .id
+unfolding requestOf
+id-there xs i h = ap (λ (r : IsoRequest). r .id) (request-there xs i blankRequest h)
 
 pub planned-there : (xs : List ℕ) (i : ℕ) → i < 1024 → u16Of (drop (1320 + 7 * i) xs) ≡ getD (plansOf xs) i blankPlan .planned
 unfolding planOf

@@ -1,5 +1,5 @@
 -- Each way out is the definition at the tests that led there; one writes a request's outcome, one the reason.
-use mathlib.Core.Path.{_≡_, refl, _∙_, sym, ap, ap₂, subst⁻¹}
+use mathlib.Core.Path.{_≡_, refl, _∙_, sym, ap, subst, subst⁻¹}
 use mathlib.Core.Bool.{true, false}
 use Prim.Native.Nat.{ℕ, _≤_, _<_}
 use native.Mathlib.Nat.{lt-of-lt-of-le, min-le-right}
@@ -40,31 +40,35 @@ good c =
 head-is : (c : tie.After-head-at) → c .head-at .result ≡ sessionOf (c .before .before .before .before .args .bytes .now) .head
 head-is c = c .head-at .ensures ∙ head-there (c .before .before .before .before .args .bytes .now)
 
-place-is :
-    (c : tie.After-place-at)
-    → c .place-at .result
-    ≡ requestAt (c .before .before .before .before .before .before .args .id)
-    (sessionOf (c .before .before .before .before .before .before .args .bytes .now))
-place-is c =
-    let start = c .before .before .before .before .before .before in
-    let s = sessionOf (start .args .bytes .now) in
-    c .place-at .ensures
-    ∙ ap (λ (h : IsoHead). placeOf (start .args .id) (slice 0 (h .count) (s .requests)))
-    (head-is (c .before .before))
+-- what was found stands on the same side of both counts as the place of the number
+found-is :
+    (c : tie.After-found-at)
+    → let s = sessionOf (c .before .before .before .before .before .before .args .bytes .now) in
+    let at = requestAt (c .before .before .before .before .before .before .args .id) s in
+    (ltb (c .found-at .result) (s .head .done) ≡ ltb at (s .head .done))
+    × (ltb (c .found-at .result) (s .head .count) ≡ ltb at (s .head .count))
+    × (c .found-at .result < s .head .done → c .found-at .result ≡ at)
+found-is c =
+    let s = sessionOf (c .before .before .before .before .before .before .args .bytes .now) in
+    subst (λ (h : IsoHead).
+    let at = placeOf (c .before .before .before .before .before .before .args .id) (slice 0 (h .count) (s .requests)) in
+    (ltb (c .found-at .result) (h .done) ≡ ltb at (h .done))
+    × (ltb (c .found-at .result) (h .count) ≡ ltb at (h .count))
+    × (c .found-at .result < h .done → c .found-at .result ≡ at)) (head-is (c .before .before)) (c .found-at .ensures)
 
 -- the place of a completed request
 in-use :
     (c : tie.Then2)
-    → c .before .before .place-at .result
+    → c .before .before .found-at .result
     < requestsIn (sessionOf (c .before .before .before .before .before .before .before .before .args .bytes .now))
 in-use c =
     let g = good (c .before .before .before .before .before .before) in
     let s = sessionOf (c .before .before .before .before .before .before .before .before .args .bytes .now) in
     let done : c .before .before .before .before .head-at .result .done ≡ s .head .done =
     ap (λ (h : IsoHead). h .done) (head-is (c .before .before .before .before)) in
-    subst⁻¹ (λ (n : ℕ). c .before .before .place-at .result < n) (requests-in s (g .count-in)) (omega (arith, done, c .if2 .taken, g .done-in))
+    subst⁻¹ (λ (n : ℕ). c .before .before .found-at .result < n) (requests-in s (g .count-in)) (omega (arith, done, c .if2 .taken, g .done-in))
 
-below : (c : tie.Then2) → c .before .before .place-at .result < 64
+below : (c : tie.Then2) → c .before .before .found-at .result < 64
 below c =
     lt-of-lt-of-le (in-use c)
     (min-le-right (sessionOf (c .before .before .before .before .before .before .before .before .args .bytes .now) .head .count) 64)
@@ -76,8 +80,8 @@ not-done :
     (sessionOf (c .before .before .before .before .before .before .before .before .args .bytes .now) .head .done)
     ≡ false
 not-done c =
-    sym (ap₂ (λ (n : ℕ) (h : IsoHead). ltb n (h .done)) (place-is (c .before .before)) (head-is (c .before .before .before .before)))
-    ∙ le-ltb (c .before .before .place-at .result) (c .before .before .before .before .head-at .result .done) (c .if2 .left)
+    sym (found-is (c .before .before) .0) ∙ sym (ap (λ (h : IsoHead). ltb (c .before .before .found-at .result) (h .done)) (head-is (c .before .before .before .before)))
+    ∙ le-ltb (c .before .before .found-at .result) (c .before .before .before .before .head-at .result .done) (c .if2 .left)
 
 known :
     (c : tie.Else3)
@@ -86,9 +90,8 @@ known :
     (sessionOf (c .before .before .before .before .before .before .before .before .before .before .args .bytes .now) .head .count)
     ≡ true
 known c =
-    sym (ap₂ (λ (n : ℕ) (h : IsoHead). ltb n (h .count)) (place-is (c .before .before .before .before))
-    (head-is (c .before .before .before .before .before .before)))
-    ∙ lt-ltb (c .before .before .before .before .place-at .result) (c .before .before .before .before .before .before .head-at .result .count)
+    sym (found-is (c .before .before .before .before) .1) ∙ sym (ap (λ (h : IsoHead). ltb (c .before .before .before .before .found-at .result) (h .count)) (head-is (c .before .before .before .before .before .before)))
+    ∙ lt-ltb (c .before .before .before .before .found-at .result) (c .before .before .before .before .before .before .head-at .result .count)
     (c .if3 .left)
 
 reason-is :
@@ -107,7 +110,7 @@ reply-refused-requires c κs = search needs
 
 returns : tie.Need-returns
 returns c =
-    let start = c .before .before .before in
+    let start = (c .before .before .before) in
     let s = sessionOf (start .args .bytes .now) in
     stays (start .args .bytes .now) (octets (c .before .before))
     (start .pre .0) (cancelled s (start .args .id))
@@ -116,12 +119,12 @@ returns c =
 
 head-at-requires : tie.Need-head-at-requires
 head-at-requires c κs =
-    let start = c .before .before .before in
+    let start = (c .before .before .before) in
     long-enough (start .args .bytes .now) refl (start .pre .0)
 
-place-at-requires : tie.Need-place-at-requires
-place-at-requires c κs =
-    let start = c .before .before .before .before .before in (
+found-at-requires : tie.Need-found-at-requires
+found-at-requires c κs =
+    let start = (c .before .before .before .before .before) in (
       long-enough (start .args .bytes .now) refl
           (start .pre .0),
       subst⁻¹ (λ (h : IsoHead). h .count ≤ 64) (head-is (c .before)) (good (c .before .before .before) .count-in),
@@ -138,7 +141,7 @@ add-put-outcome c = search needs
 
 put-outcome-requires : tie.Need-put-outcome-requires
 put-outcome-requires c κs =
-    let start = c .before .before .before .before .before .before .before .before .before in
+    let start = (c .before .before .before .before .before .before .before .before .before) in
     let enough : 8488 ≤ length (start .args .bytes .now) =
     long-enough (start .args .bytes .now) refl
     (start .pre .0) in
@@ -152,16 +155,15 @@ same-length c = search needs
 
 returns-2 : tie.Need-returns-2
 returns-2 c =
-    let start = c .before .before .before .before .before .before .before .before .before .before .before .before .before in
+    let start = (c .before .before .before .before .before .before .before .before .before .before .before .before .before) in
     let xs = start .args .bytes .now in
     let s = sessionOf xs in
     let done : ltb
     (requestAt (start .args .id) s)
     (s .head .done)
     ≡ true =
-    sym (ap₂ (λ (n : ℕ) (h : IsoHead). ltb n (h .done)) (place-is (c .before .before .before .before .before .before .before))
-    (head-is (c .before .before .before .before .before .before .before .before .before)))
-    ∙ lt-ltb (c .before .before .before .before .before .before .before .place-at .result)
+    sym (found-is (c .before .before .before .before .before .before .before) .0) ∙ sym (ap (λ (h : IsoHead). ltb (c .before .before .before .before .before .before .before .found-at .result) (h .done)) (head-is (c .before .before .before .before .before .before .before .before .before)))
+    ∙ lt-ltb (c .before .before .before .before .before .before .before .found-at .result)
     (c .before .before .before .before .before .before .before .before .before .head-at .result .done)
     (c .before .before .before .before .before .if2 .taken) in
     becomes xs
@@ -171,10 +173,10 @@ returns-2 c =
     (left-is
     (outcome-here xs (octets (c .before .before .before .before .before .before .before .before .before .before .before .before))
     (start .pre .0)
-    (c .before .before .before .before .before .before .before .place-at .result) outcome.Cancelled
+    (c .before .before .before .before .before .before .before .found-at .result) outcome.Cancelled
     (in-use (c .before .before .before .before .before))
     (below (c .before .before .before .before .before)) (c .before .before .before .put-outcome .ensures))
-    (ap (λ (n : ℕ). withCancelled n s) (place-is (c .before .before .before .before .before .before .before))))
+    (ap (λ (n : ℕ). withCancelled n s) (found-is (c .before .before .before .before .before .before .before) .2 (subst (λ (h : IsoHead). c .before .before .before .before .before .before .before .found-at .result < h .done) (head-is (c .before .before .before .before .before .before .before .before .before)) (c .before .before .before .before .before .if2 .taken)))))
 
 reply-refused-requires-2 : tie.Need-reply-refused-requires-2
 reply-refused-requires-2 c κs = search needs
@@ -184,14 +186,13 @@ same-length-2 c = search needs
 
 returns-3 : tie.Need-returns-3
 returns-3 c =
-    let start = c .before .before .before .before .before .before .before .before .before .before .before in
+    let start = (c .before .before .before .before .before .before .before .before .before .before .before) in
     let s = sessionOf (start .args .bytes .now) in
     let unknown : ltb (requestAt (start .args .id) s)
     (s .head .count)
     ≡ false =
-    sym (ap₂ (λ (n : ℕ) (h : IsoHead). ltb n (h .count)) (place-is (c .before .before .before .before .before))
-    (head-is (c .before .before .before .before .before .before .before)))
-    ∙ le-ltb (c .before .before .before .before .before .place-at .result)
+    sym (found-is (c .before .before .before .before .before) .1) ∙ sym (ap (λ (h : IsoHead). ltb (c .before .before .before .before .before .found-at .result) (h .count)) (head-is (c .before .before .before .before .before .before .before)))
+    ∙ le-ltb (c .before .before .before .before .before .found-at .result)
     (c .before .before .before .before .before .before .before .head-at .result .count)
     (c .before .if3 .taken) in
     stays (start .args .bytes .now)
@@ -204,7 +205,7 @@ returns-3 c =
 
 reason-at-requires : tie.Need-reason-at-requires
 reason-at-requires c κs =
-    let start = c .before .before .before .before .before .before .before .before .before .before .before in
+    let start = (c .before .before .before .before .before .before .before .before .before .before .before) in
     long-enough (start .args .bytes .now) refl
     (start .pre .0)
 
@@ -219,7 +220,7 @@ same-length-3 c = search needs
 
 returns-4 : tie.Need-returns-4
 returns-4 c =
-    let start = c .before .before .before .before .before .before .before .before .before .before .before .before .before .before .before in
+    let start = (c .before .before .before .before .before .before .before .before .before .before .before .before .before .before .before) in
     let s =
     sessionOf
     (start .args .bytes .now) in
@@ -247,8 +248,7 @@ same-length-4 c = search needs
 
 returns-5 : tie.Need-returns-5
 returns-5 c =
-    let start = c .before .before .before .before .before .before .before .before .before .before .before .before .before .before .before
-    .before .before .before .before in
+    let start = (c .before .before .before .before .before .before .before .before .before .before .before .before .before .before .before .before .before .before .before) in
     let s =
     sessionOf
     (start .args .bytes .now) in
@@ -261,8 +261,7 @@ returns-5 c =
     (fine (c .before .before .before .before .before .before .before .before .before .before .before .before .before .before .before .before .before))
     (not-done (c .before .before .before .before .before .before .before .before .before .before .before))
     (known (c .before .before .before .before .before .before .before .before .before))
-    (sym (reason-is (c .before .before .before .before .before .before)) ∙ c .before .before .before .before
-    .before .if4 .left)) (c .reply-port3 .ensures)
+    (sym (reason-is (c .before .before .before .before .before .before)) ∙ c .before .before .before .before .before .if4 .left)) (c .reply-port3 .ensures)
     (c .before .before .before .halt-at .ensures)
 
 pub cancel-at-spec : {M : Type 1} → statement M
@@ -272,7 +271,7 @@ cancel-at-spec =
     reply-refused-requires
     returns
     head-at-requires
-    place-at-requires
+    found-at-requires
     cast-put-outcome
     mul-put-outcome
     add-put-outcome

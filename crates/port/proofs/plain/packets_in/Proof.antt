@@ -1,7 +1,7 @@
 -- What is found young passes every test of both checks; where something is not, nothing is promised.
 use mathlib.Core.Path.{_≡_, _∙_, sym, ap}
 use mathlib.Core.Bool.{true, false, not}
-use Prim.Native.Nat.{ℕ, _-_, _≤_}
+use Prim.Native.Nat.{ℕ, _≤_}
 use native.Mathlib.Omega.{arith}
 use lib.Dec.{eqb, ltb}
 use lib.ListN.{drop}
@@ -9,10 +9,10 @@ use lib.Seq.{slice}
 use borrow.Author.Needs.{needs}
 use borrow.Author.Tests.{eqb-true, ltb-false, not-false}
 use Rattle.words.proofs.Laws.Tests.{neither}
-use Rattle.session.specs.Session.{room, packetsOf, allPackets}
+use Rattle.session.specs.Session.{packetsOf, allPackets}
 use Rattle.port.specs.Tags.{flagOf}
 use Rattle.port.specs.Layout.{anyOf, sessionOf}
-use Rattle.port.specs.Scan.{isBadRequestEntry, isBadPlanEntry, FreshFront}
+use Rattle.port.specs.Scan.{isBadRequestEntry, FreshFront}
 use Rattle.port.proofs.Laws.Fresh.{young-counted}
 use Rattle.port.proofs.Laws.Placed.{config-there}
 use Rattle.port.proofs.Laws.Walks.{count-there, live-there}
@@ -33,9 +33,9 @@ live c =
 count-is : (c : tie.After-u16-at) → c .u16-at .result ≡ sessionOf (c .before .before .before .before .before .before .args .bytes .now) .head .count
 count-is c = c .u16-at .ensures ∙ count-there (c .before .before .before .before .before .before .args .bytes .now)
 
-few : (c : tie.Else2) → c .before .before .before .plain-requests .result .packets ≤ 255
+few : (c : tie.Else2) → c .before .before .before .young-requests .result .packets ≤ 255
 few c =
-    let used = c .before .before .before .plain-requests .result in
+    let used = c .before .before .before .young-requests .result in
     ltb-false 255 (used .packets)
     (neither (used .bad) (ltb 255 (used .packets)) (c .if2 .left) .1)
 
@@ -54,8 +54,8 @@ config-at-requires c κs = search needs
 u16-at-requires : tie.Need-u16-at-requires
 u16-at-requires c κs = search needs
 
-plain-requests-requires : tie.Need-plain-requests-requires
-plain-requests-requires c κs =
+young-requests-requires : tie.Need-young-requests-requires
+young-requests-requires c κs =
     (c .before .before .before .before .before .before .pre, omega (arith, count-is c, front (c .before .before) .plain .few))
 
 returns-2 : tie.Need-returns-2
@@ -82,7 +82,7 @@ cast-result c = omega (arith, few (c .before .before .before .before .before .be
 returns-4 : tie.Need-returns-4
 returns-4 c =
     let xs = c .before .before .before .before .before .before .before .before .before .before .before .before .before .before .before .before .before .args .bytes .now in
-    let used = c .before .before .before .before .before .before .before .before .before .before .plain-requests in
+    let used = c .before .before .before .before .before .before .before .before .before .before .young-requests in
     let count = count-is (c .before .before .before .before .before .before .before .before .before .before .before) in
     let all : used .result .packets ≡ allPackets (sessionOf xs) =
     used .ensures .1 ∙ ap (λ (k : ℕ). packetsOf (slice 0 k (sessionOf xs .requests))) count in
@@ -105,7 +105,7 @@ packets-in-spec =
     returns
     config-at-requires
     u16-at-requires
-    plain-requests-requires
+    young-requests-requires
     returns-2
     is-over-room-requires
     returns-3

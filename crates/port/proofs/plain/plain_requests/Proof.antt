@@ -1,59 +1,108 @@
--- Requests that are alike are good, and have as many packets as there are of them times the packets of one; the others are added up.
-use mathlib.Core.Path.{sym}
-use mathlib.Core.Bool.{not}
-use Prim.Native.Nat.{_≤_}
-use native.Mathlib.Nat.{mul-le-mul}
+-- The invariant: what is put together is below none of the numbers passed; where it is small, a bad entry is among those still to be looked at
+-- exactly if one is in use. The sum so far and the packets of the others are the packets of all. The measure is how many are left.
+use mathlib.Core.Path.{_≡_, refl, _∙_, sym}
+use Prim.Native.Nat.{_+_, _-_, _*_, _≤_}
+use native.Mathlib.Nat.{zero-add}
 use native.Mathlib.Omega.{arith}
-use lib.Dec.{eqb, ltb}
+use lib.ListN.{drop}
+use lib.Seq.{slice}
 use borrow.Author.Needs.{needs}
-use borrow.Author.Tests.{eqb-false, ltb-true, not-true}
-use Rattle.port.proofs.Laws.Kept.{both}
-use Rattle.port.proofs.Laws.Several.{alike-good, alike-packets}
+use borrow.Author.Tests.{ltb-false}
+use Rattle.session.specs.Session.{packetsOf}
+use Rattle.session.proofs.Laws.Sums.{packets-past}
+use Rattle.port.specs.Layout.{anyOf}
+use Rattle.port.specs.Places.{requestsOf}
+use Rattle.port.specs.Scan.{isBadRequestEntry}
+use Rattle.port.proofs.Laws.Sounds.{request-passed}
+use Rattle.port.proofs.Laws.Tables.{any-first, any-end}
+use Rattle.port.proofs.Laws.Walks.{packets-more}
 use Rattle.port.proofs.plain.plain_requests.Statement.{statement}
 use Rattle.port.proofs.plain.plain_requests.Tie as tie
 
-within : (c : tie.Then2) → (1 ≤ c .before .u64-at .result) × (c .before .u64-at .result ≤ 255)
-within c =
-    let word = c .before .u64-at .result in
-    let two = both (not (eqb word 0)) (ltb word 256) (c .if2 .taken) in
-    let some = eqb-false word 0 (not-true (eqb word 0) (two .0)) in
-    let few = ltb-true word 256 (two .1) in
-    (omega (arith, some), omega (arith, few))
+abbrev Inv-loop : tie.InvT-loop
+Inv-loop bytes n words₀ sum₀ at₀ i₀ words sum at i =
+    (i ≤ n)
+    × (at ≡ 52 + 20 * i)
+    × (sum ≤ 65535 * i)
+    × (words ≤ 254 → anyOf isBadRequestEntry 20 (n - i) (drop (40 + 20 * i) bytes) ≡ anyOf isBadRequestEntry 20 n (drop 40 bytes))
+    × (sum + packetsOf (slice i n (requestsOf bytes)) ≡ packetsOf (slice 0 n (requestsOf bytes)))
 
-u64-at-requires : tie.Need-u64-at-requires
-u64-at-requires c κs = search needs
+abbrev μ-loop : tie.MeasureT-loop
+μ-loop bytes n words₀ sum₀ at₀ i₀ words sum at i = n - i
 
-are-alike-requires : tie.Need-are-alike-requires
-are-alike-requires c κs = search needs
+loop-holds : tie.Need-loop-holds Inv-loop μ-loop
+loop-holds c =
+    let a = c .before .args in
+    (omega arith, refl, omega arith, λ few. any-first isBadRequestEntry 20 (a .n) (drop 40 (a .bytes .now)), zero-add _)
 
-mul-t12 : tie.Need-mul-t12
-mul-t12 c =
-    let start = c .before .before .before .before .before .before in
-    omega (arith, mul-le-mul (start .pre .1) (within (c .before .before) .1))
+u64-at-requires : tie.Need-u64-at-requires Inv-loop μ-loop
+u64-at-requires c κs = omega arith
 
-returns : tie.Need-returns
+wrapping-sub-u64-requires : tie.Need-wrapping-sub-u64-requires Inv-loop μ-loop
+wrapping-sub-u64-requires c κs = search needs
+
+joined-requires : tie.Need-joined-requires Inv-loop μ-loop
+joined-requires c κs = search needs
+
+u16-at-requires : tie.Need-u16-at-requires Inv-loop μ-loop
+u16-at-requires c κs = omega arith
+
+cast-sum : tie.Need-cast-sum Inv-loop μ-loop
+cast-sum c = omega (arith, c .u16-at .ok)
+
+add-sum : tie.Need-add-sum Inv-loop μ-loop
+add-sum c = omega (arith, c .u16-at .ok)
+
+add-at : tie.Need-add-at Inv-loop μ-loop
+add-at c = omega arith
+
+add-i : tie.Need-add-i Inv-loop μ-loop
+add-i c = omega arith
+
+loop-less : tie.Need-loop-less Inv-loop μ-loop
+loop-less c = omega arith
+
+loop-again : tie.Need-loop-again Inv-loop μ-loop
+loop-again c =
+    let a = c .before .before .before .before .before .before .before .args in
+    let l = c .before .before .before .before .before .loop in
+    let xs = a .bytes .now in
+    let now = c .before .joined .ensures in
+    let less = c .before .before .wrapping-sub-u64 in (
+      omega arith,
+      omega arith,
+      omega (arith, c .u16-at .ok),
+      λ few.
+          request-passed xs (a .n) (l .i) (omega arith) (l .inv .1) (c .before .before .before .u64-at .ensures) (less .ensures) (omega (arith, few, now .1))
+          ∙ l .inv .3 (omega (arith, few, now .0)),
+      packets-more xs (a .n) (l .i) (l .sum) _ (omega arith) (omega arith) (l .inv .1) (c .u16-at .ensures) (l .inv .4),
+    )
+
+returns : tie.Need-returns Inv-loop μ-loop
 returns c =
-    let start = c .before .before .before .before .before .before in
-    let xs = start .args .bytes .now in
-    let n = start .args .n in
-    let word = c .before .before .before .u64-at .result in
-    let size = within (c .before .before) in
-    let same = c .before .are-alike .ensures (c .if3 .taken) in
-    (λ e. alike-good xs n word (start .pre .1) (size .0) (size .1) same, sym (alike-packets xs n word (start .pre .1) (size .0) (size .1) same))
-
-summed-requests-requires : tie.Need-summed-requests-requires
-summed-requests-requires c κs = search needs
-
-returns-2 : tie.Need-returns-2
-returns-2 c = search needs
+    let a = c .before .before .before .args in
+    let l = c .before .loop in
+    let xs = a .bytes .now in (
+      λ e.
+          sym (any-end isBadRequestEntry 20 (a .n) (l .i) (drop (40 + 20 * l .i) xs) (omega arith) ∙ l .inv .3 (ltb-false 254 (l .words) e)),
+      omega (arith, packets-past (l .i) (a .n) (requestsOf xs) (omega arith), l .inv .4),
+    )
 
 pub plain-requests-spec : {M : Type 1} → statement M
 plain-requests-spec =
     tie.close
     (tie.spec
+    Inv-loop
+    μ-loop
+    loop-holds
     u64-at-requires
-    are-alike-requires
-    mul-t12
-    returns
-    summed-requests-requires
-    returns-2)
+    wrapping-sub-u64-requires
+    joined-requires
+    u16-at-requires
+    cast-sum
+    add-sum
+    add-at
+    add-i
+    loop-less
+    loop-again
+    returns)
