@@ -44,14 +44,14 @@ pub(crate) fn place_at(bytes: &[u8], count: u16, id: u64) -> u16
 }
 
 // Numbers are drawn in turn, so that a request mostly stands as far behind the first as its number does. Where none is completed any place with the
-// number is as good as the first with it, since both are pending; so that one is asked before the walk.
+// number is as good as the first with it, since both are pending; so among many that one is asked before the walk.
 fn found_at(bytes: &[u8], done: u16, count: u16, id: u64) -> u16
     requires { ⌜ (8488 ≤ length (now bytes)) × (count ≤ 64) ⌝ }
     ensures { λ r. ⌜ (ltb r done ≡ ltb (placeOf id (slice 0 count (sessionOf (now (bytes .entry)) .requests))) done)
         × (ltb r count ≡ ltb (placeOf id (slice 0 count (sessionOf (now (bytes .entry)) .requests))) count)
         × (r < done → r ≡ placeOf id (slice 0 count (sessionOf (now (bytes .entry)) .requests))) ⌝ }
 {
-    if done == 0 {
+    if (done == 0) & (count > 7) {
         let behind = wrapping_sub_u64(id, u64_at(bytes, 40));
         if behind < count as u64 {
             if u64_at(bytes, 40 + 20 * behind as usize) == id {

@@ -105,26 +105,6 @@ fn plain_requests(bytes: &[u8], n: u16) -> Used
     }
 }
 
-// Many requests mostly have the same count of packets, as a camera's driver submits them: then it is the same number in each, and nothing is added up.
-fn young_requests(bytes: &[u8], n: u16) -> Used
-    requires { ⌜ (8488 ≤ length (now bytes)) × (n ≤ 64) ⌝ }
-    ensures { λ r. ⌜ (r .bad ≡ false → anyOf isBadRequestEntry 20 n (drop 40 (now (bytes .entry))) ≡ false)
-        × (r .packets ≡ packetsOf (slice 0 n (requestsOf (now (bytes .entry))))) ⌝ }
-{
-    if n > 7 {
-        let word = u64_at(bytes, 52);
-        if (word != 0) & (word < 256) {
-            if are_alike(bytes, n as usize, word) {
-                return Used {
-                    bad: false,
-                    packets: n as usize * word as usize,
-                };
-            }
-        }
-    }
-    plain_requests(bytes, n)
-}
-
 // The packets in flight, whose plans are those from `from` to `to`: there is room for them, and none is settled. Of none there is nothing to ask.
 fn are_plain_packets(
     bytes: &[u8],
@@ -203,20 +183,43 @@ fn packets_in(bytes: &[u8]) -> u32
     }
     let cfg = config_at(bytes);
     let speed = cfg.speed;
-    let used = young_requests(bytes, u16_at(bytes, 32));
+    let used = plain_requests(bytes, u16_at(bytes, 32));
     if used.bad | (used.packets > 255) {
         return 256;
     }
-    if is_over_room(cfg, used.packets as u64) {
+    let limit = iso_max_xfer_size(speed);
+    if are_plain_packets(bytes, cfg, 0, used.packets, limit, iso_ring_size(speed)) {
+        return used.packets as u32;
+    }
+    256
+}
+
+// The same at high speed where each of many requests has as many packets, as a camera's driver submits them: then nothing is added up, and the words are
+// compared, eight a turn. The first two tell most others.
+fn alike_packets(bytes: &[u8]) -> u32
+    requires { ⌜ 8488 ≤ length (now bytes) ⌝ }
+    ensures { λ r. ⌜ (r < 256 → Counted (now (bytes .entry)) r) ⌝ }
+{
+    let n = u16_at(bytes, 32) as usize;
+    let word = u64_at(bytes, 52);
+    if (n < 8) | ((word == 0) | (word > 31)) {
         return 256;
     }
-    if all_unsettled(
-        bytes,
-        used.packets,
-        iso_max_xfer_size(speed),
-        iso_ring_size(speed),
-    ) {
-        return used.packets as u32;
+    if (u64_at(bytes, 72) != word) | (!(byte_at(bytes, 5) == 0) | !(byte_at(bytes, 15) == 1)) {
+        return 256;
+    }
+    if !is_fresh_front(bytes) {
+        return 256;
+    }
+    let packets = n * word as usize;
+    if (packets > 255) | ((packets + 1) * u16_at(bytes, 8) as usize > 256) {
+        return 256;
+    }
+    if !are_alike(bytes, n, word) {
+        return 256;
+    }
+    if all_unsettled(bytes, packets, 3_072, 256) {
+        return packets as u32;
     }
     256
 }
@@ -226,5 +229,9 @@ pub(crate) fn young_packets(bytes: &[u8]) -> u32
     requires { ⌜ 8488 ≤ length (now bytes) ⌝ }
     ensures { λ r. ⌜ (r < 256 → Counted (now (bytes .entry)) r) ⌝ }
 {
+    let packets = alike_packets(bytes);
+    if packets < 256 {
+        return packets;
+    }
     packets_in(&bytes[0..])
 }

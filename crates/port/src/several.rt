@@ -33,19 +33,19 @@ fn are_same(bytes: &[u8], from: usize, n: usize, word: u64) -> bool
     true
 }
 
-// The same in the first `n`, four a turn.
+// The same in the first `n`, eight a turn.
 pub(crate) fn are_alike(bytes: &[u8], n: usize, word: u64) -> bool
-    requires { ⌜ (8488 ≤ length (now bytes)) × (4 ≤ n) × (n ≤ 64) ⌝ }
+    requires { ⌜ (8488 ≤ length (now bytes)) × (8 ≤ n) × (n ≤ 64) ⌝ }
     ensures { λ r. ⌜ (r ≡ true → anyOf (isOther word) 20 n (drop 40 (now (bytes .entry))) ≡ false) ⌝ }
 {
     let mut i: usize = 0;
-    while i + 4 < n {
-        if !are_same(bytes, i, 4, word) {
+    while i + 8 < n {
+        if !are_same(bytes, i, 8, word) {
             return false;
         }
-        i += 4;
+        i += 8;
     }
-    are_same(bytes, n - 4, 4, word)
+    are_same(bytes, n - 8, 8, word)
 }
 
 // Of a plan that is not settled the last three bytes, what it moved and its status, are 0. Then, and with its slot in the ring, the number of
@@ -67,12 +67,9 @@ pub(crate) fn are_unsettled(bytes: &[u8], from: usize, n: usize, limit: u16, slo
 
 // None of the first `n` plans is settled or bad, eight a turn.
 pub(crate) fn all_unsettled(bytes: &[u8], n: usize, limit: u16, slots: u16) -> bool
-    requires { ⌜ (8488 ≤ length (now bytes)) × (n ≤ 1024) ⌝ }
+    requires { ⌜ (8488 ≤ length (now bytes)) × (8 ≤ n) × (n ≤ 1024) ⌝ }
     ensures { λ r. ⌜ (r ≡ true → anyOf (isBadPlanEntry limit slots) 7 n (drop 1320 (now (bytes .entry))) ≡ false) ⌝ }
 {
-    if n < 8 {
-        return are_unsettled(bytes, 0, n, limit, slots);
-    }
     let mut i: usize = 0;
     while i + 8 < n {
         if !are_unsettled(bytes, i, 8, limit, slots) {

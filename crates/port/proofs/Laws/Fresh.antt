@@ -30,8 +30,8 @@ high-speed xs e zero =
     let high : sessionOf xs .cfg .speed ≡ High = sym (speed-there xs) ∙ ap speedOf (sym e ∙ zero) in
     (high, ap (λ (s : Speed). ringSize s * 2) high)
 
--- few packets fit a ring of 256 slots with a whole interval between them
-pub few-fit : (cfg : IsoConfig) (n : ℕ) → slots cfg ≡ 256 → n ≤ 15 → (n + 1) * cfg .interval ≤ 256 → ltb (room cfg) n ≡ false
+-- packets that fit a ring of 256 slots with a whole interval between them
+pub few-fit : (cfg : IsoConfig) (n : ℕ) → slots cfg ≡ 256 → n ≤ 255 → (n + 1) * cfg .interval ≤ 256 → ltb (room cfg) n ≡ false
 few-fit cfg n e few h = le-ltb (room cfg) n (room-fits cfg n (go (ltb 0 (cfg .interval)) refl))
   where
     go : (b : Bool) → ltb 0 (cfg .interval) ≡ b → (n + 1) * max 1 (cfg .interval) ≤ slots cfg

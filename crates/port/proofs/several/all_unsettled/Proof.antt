@@ -18,26 +18,20 @@ Inv-loop bytes n limit slots i₀ i = (i < n) × (anyOf (isBadPlanEntry limit sl
 abbrev μ-loop : tie.MeasureT-loop
 μ-loop bytes n limit slots i₀ i = n - i
 
-are-unsettled-requires : tie.Need-are-unsettled-requires Inv-loop μ-loop
-are-unsettled-requires c κs = (omega arith, omega arith)
-
-returns : tie.Need-returns Inv-loop μ-loop
-returns c = c .are-unsettled .ensures
-
 loop-holds : tie.Need-loop-holds Inv-loop μ-loop
 loop-holds c =
-    let a = c .before .before .args in
+    let a = c .before .args in
     let bad = isBadPlanEntry (a .limit) (a .slots) in
     (omega arith, sym (any-end bad 7 0 0 (drop 1320 (a .bytes .now)) (omega arith)))
 
 add-loop : tie.Need-add-loop Inv-loop μ-loop
 add-loop c = omega arith
 
-are-unsettled-requires-2 : tie.Need-are-unsettled-requires-2 Inv-loop μ-loop
-are-unsettled-requires-2 c κs = (omega arith, omega arith)
+are-unsettled-requires : tie.Need-are-unsettled-requires Inv-loop μ-loop
+are-unsettled-requires c κs = (omega arith, omega arith)
 
-returns-2 : tie.Need-returns-2 Inv-loop μ-loop
-returns-2 c = λ e. absurd (never (sym e))
+returns : tie.Need-returns Inv-loop μ-loop
+returns c = λ e. absurd (never (sym e))
 
 add-i : tie.Need-add-i Inv-loop μ-loop
 add-i c = omega arith
@@ -47,24 +41,27 @@ loop-less c = omega arith
 
 loop-again : tie.Need-loop-again Inv-loop μ-loop
 loop-again c =
-    let a = c .before .before .before .before .before .before .args in
+    let a = c .before .before .before .before .before .args in
     let l = c .before .before .before .loop in
     let bad = isBadPlanEntry (a .limit) (a .slots) in
     let on : 1320 + 7 * (l .i + 8 - 8) ≡ 1320 + 7 * l .i = omega arith in (
       omega arith,
       any-over bad 7 (l .i + 8) (l .i) 8 1320 (a .bytes .now) (omega arith) (omega arith) (l .inv .1)
-          (ap (λ (k : ℕ). anyOf bad 7 8 (drop k (a .bytes .now))) on ∙ c .before .are-unsettled2 .ensures (not-false _ (c .if2 .left))),
+          (ap (λ (k : ℕ). anyOf bad 7 8 (drop k (a .bytes .now))) on ∙ c .before .are-unsettled .ensures (not-false _ (c .if1 .left))),
     )
 
-are-unsettled-requires-3 : tie.Need-are-unsettled-requires-3 Inv-loop μ-loop
-are-unsettled-requires-3 c κs = (omega arith, omega arith)
+sub-are-unsettled : tie.Need-sub-are-unsettled Inv-loop μ-loop
+sub-are-unsettled c = omega arith
 
-returns-3 : tie.Need-returns-3 Inv-loop μ-loop
-returns-3 c =
-    let a = c .before .before .before .before .before .args in
+are-unsettled-requires-2 : tie.Need-are-unsettled-requires-2 Inv-loop μ-loop
+are-unsettled-requires-2 c κs = (omega arith, omega arith)
+
+returns-2 : tie.Need-returns-2 Inv-loop μ-loop
+returns-2 c =
+    let a = c .before .before .before .before .args in
     let l = c .before .before .loop in
     let bad = isBadPlanEntry (a .limit) (a .slots) in
-    λ e. any-over bad 7 (a .n) (l .i) 8 1320 (a .bytes .now) (omega arith) (omega arith) (l .inv .1) (c .are-unsettled3 .ensures e)
+    λ e. any-over bad 7 (a .n) (l .i) 8 1320 (a .bytes .now) (omega arith) (omega arith) (l .inv .1) (c .are-unsettled2 .ensures e)
 
 pub all-unsettled-spec : {M : Type 1} → statement M
 all-unsettled-spec =
@@ -72,14 +69,13 @@ all-unsettled-spec =
     (tie.spec
     Inv-loop
     μ-loop
-    are-unsettled-requires
-    returns
     loop-holds
     add-loop
-    are-unsettled-requires-2
-    returns-2
+    are-unsettled-requires
+    returns
     add-i
     loop-less
     loop-again
-    are-unsettled-requires-3
-    returns-3)
+    sub-are-unsettled
+    are-unsettled-requires-2
+    returns-2)

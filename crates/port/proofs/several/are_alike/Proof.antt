@@ -43,10 +43,10 @@ loop-again c =
     let a = c .before .before .before .before .before .args in
     let l = c .before .before .before .loop in
     let other = isOther (a .word) in
-    let on : 40 + 20 * (l .i + 4 - 4) ≡ 40 + 20 * l .i = omega arith in (
+    let on : 40 + 20 * (l .i + 8 - 8) ≡ 40 + 20 * l .i = omega arith in (
       omega arith,
-      any-over other 20 (l .i + 4) (l .i) 4 40 (a .bytes .now) (omega arith) (omega arith) (l .inv .1)
-          (ap (λ (k : ℕ). anyOf other 20 4 (drop k (a .bytes .now))) on ∙ c .before .are-same .ensures (not-false _ (c .if1 .left))),
+      any-over other 20 (l .i + 8) (l .i) 8 40 (a .bytes .now) (omega arith) (omega arith) (l .inv .1)
+          (ap (λ (k : ℕ). anyOf other 20 8 (drop k (a .bytes .now))) on ∙ c .before .are-same .ensures (not-false _ (c .if1 .left))),
     )
 
 sub-are-same : tie.Need-sub-are-same Inv-loop μ-loop
@@ -59,7 +59,7 @@ returns-2 : tie.Need-returns-2 Inv-loop μ-loop
 returns-2 c =
     let a = c .before .before .before .before .args in
     let l = c .before .before .loop in
-    λ e. any-over (isOther (a .word)) 20 (a .n) (l .i) 4 40 (a .bytes .now) (omega arith) (omega arith) (l .inv .1) (c .are-same2 .ensures e)
+    λ e. any-over (isOther (a .word)) 20 (a .n) (l .i) 8 40 (a .bytes .now) (omega arith) (omega arith) (l .inv .1) (c .are-same2 .ensures e)
 
 pub are-alike-spec : {M : Type 1} → statement M
 are-alike-spec =
