@@ -174,7 +174,7 @@ pub(crate) fn plain_sums(bytes: &[u8]) -> RequestSums
 }
 
 // The packets of a session with a live channel and nothing completed, so that all are pending. 256 where it is another, of which nothing is said.
-fn packets_in(bytes: &[u8]) -> u32
+fn summed_packets(bytes: &[u8]) -> u32
     requires { ⌜ 8488 ≤ length (now bytes) ⌝ }
     ensures { λ r. ⌜ (r < 256 → Counted (now (bytes .entry)) r) ⌝ }
 {
@@ -224,8 +224,8 @@ fn alike_packets(bytes: &[u8]) -> u32
     256
 }
 
-// The bytes are lent on as a part of them: so the compiler hands over where they begin, and not a place in memory where that is kept.
-pub(crate) fn young_packets(bytes: &[u8]) -> u32
+// Requests that are alike are told soonest.
+fn packets_in(bytes: &[u8]) -> u32
     requires { ⌜ 8488 ≤ length (now bytes) ⌝ }
     ensures { λ r. ⌜ (r < 256 → Counted (now (bytes .entry)) r) ⌝ }
 {
@@ -233,5 +233,13 @@ pub(crate) fn young_packets(bytes: &[u8]) -> u32
     if packets < 256 {
         return packets;
     }
+    summed_packets(bytes)
+}
+
+// The bytes are lent on as a part of them: so the compiler hands over where they begin, and not a place in memory where that is kept.
+pub(crate) fn young_packets(bytes: &[u8]) -> u32
+    requires { ⌜ 8488 ≤ length (now bytes) ⌝ }
+    ensures { λ r. ⌜ (r < 256 → Counted (now (bytes .entry)) r) ⌝ }
+{
     packets_in(&bytes[0..])
 }

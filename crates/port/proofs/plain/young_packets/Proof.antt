@@ -1,4 +1,4 @@
--- What one of the two says of the bytes; the part that is lent on is the whole of them.
+-- The part that is lent on is the whole of the bytes.
 use mathlib.Core.List.{List}
 use Prim.Native.Nat.{ℕ}
 use borrow.Author.Needs.{needs}
@@ -6,12 +6,6 @@ use Rattle.port.specs.Scan.{Counted}
 use Rattle.port.proofs.Laws.Runs.{lent-whole}
 use Rattle.port.proofs.plain.young_packets.Statement.{statement}
 use Rattle.port.proofs.plain.young_packets.Tie as tie
-
-alike-packets-requires : tie.Need-alike-packets-requires
-alike-packets-requires c κs = search needs
-
-returns : tie.Need-returns
-returns c = c .before .alike-packets .ensures
 
 sub-packets-in : tie.Need-sub-packets-in
 sub-packets-in c = search needs
@@ -25,10 +19,11 @@ part-packets-in-end c = search needs
 packets-in-requires : tie.Need-packets-in-requires
 packets-in-requires c κs = search needs
 
-returns-2 : tie.Need-returns-2
-returns-2 c = λ few. lent-whole (λ (l : List ℕ). Counted l (c .packets-in .result)) (c .before .before .before .before .before .args .bytes .now) (c .packets-in .ensures few)
+returns : tie.Need-returns
+returns c =
+    λ few. lent-whole (λ (l : List ℕ). Counted l (c .packets-in .result)) (c .before .before .before .args .bytes .now) (c .packets-in .ensures few)
 
 pub young-packets-spec : {M : Type 1} → statement M
 young-packets-spec =
     tie.close
-    (tie.spec alike-packets-requires returns sub-packets-in part-packets-in-start part-packets-in-end packets-in-requires returns-2)
+    (tie.spec sub-packets-in part-packets-in-start part-packets-in-end packets-in-requires returns)

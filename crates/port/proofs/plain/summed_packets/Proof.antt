@@ -16,8 +16,8 @@ use Rattle.port.specs.Scan.{isBadRequestEntry, isBadPlanEntry, FreshFron
 use Rattle.port.proofs.Laws.Fresh.{young-counted}
 use Rattle.port.proofs.Laws.Placed.{config-there}
 use Rattle.port.proofs.Laws.Walks.{count-there, live-there}
-use Rattle.port.proofs.plain.packets_in.Statement.{statement}
-use Rattle.port.proofs.plain.packets_in.Tie as tie
+use Rattle.port.proofs.plain.summed_packets.Statement.{statement}
+use Rattle.port.proofs.plain.summed_packets.Tie as tie
 
 front : (c : tie.Else1) → FreshFront (c .before .before .before .before .args .bytes .now)
 front c = c .before .before .is-fresh-front .ensures (not-false (c .before .before .is-fresh-front .result) (neither _ _ (c .if1 .left) .0))
@@ -102,8 +102,8 @@ returns-3 c =
 returns-4 : tie.Need-returns-4
 returns-4 c = λ e. absurd (omega arith)
 
-pub packets-in-spec : {M : Type 1} → statement M
-packets-in-spec =
+pub summed-packets-spec : {M : Type 1} → statement M
+summed-packets-spec =
     tie.close
     (tie.spec
     is-fresh-front-requires
