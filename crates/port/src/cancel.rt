@@ -51,11 +51,13 @@ fn found_at(bytes: &[u8], done: u16, count: u16, id: u64) -> u16
         × (ltb r count ≡ ltb (placeOf id (slice 0 count (sessionOf (now (bytes .entry)) .requests))) count)
         × (r < done → r ≡ placeOf id (slice 0 count (sessionOf (now (bytes .entry)) .requests))) ⌝ }
 {
-    if (done == 0) & (count > 7) {
-        let behind = wrapping_sub_u64(id, u64_at(bytes, 40));
-        if behind < count as u64 {
-            if u64_at(bytes, 40 + 20 * behind as usize) == id {
-                return behind as u16;
+    if done == 0 {
+        if count > 7 {
+            let behind = wrapping_sub_u64(id, u64_at(bytes, 40));
+            if behind < count as u64 {
+                if u64_at(bytes, 40 + 20 * behind as usize) == id {
+                    return behind as u16;
+                }
             }
         }
     }

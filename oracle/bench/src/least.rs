@@ -14,8 +14,8 @@ const PACKETS: usize = 52;
 const PLANS: usize = 1_320;
 const SLOTS: u64 = 256;
 const LIMIT: u64 = 3_072;
-/// requests that are tested one by one; more have their bits put together
-const FEW: u64 = 8;
+/// entries that are tested one by one; more are looked at eight a turn
+const FEW: usize = 8;
 
 /// the number at an offset
 #[inline(always)]
@@ -32,28 +32,58 @@ fn is_good_front(bytes: *const u8) -> bool {
     names | limits | u64::from(at::<u32>(bytes, 28) & !0xff) == 0
 }
 
+/// the count of packets of a request and the six bytes behind it
+#[inline(always)]
+fn request(bytes: *const u8, i: usize) -> u64 {
+    at(bytes, PACKETS + 20 * i)
+}
+
+/// a plan and the byte before it
+#[inline(always)]
+fn plan(bytes: *const u8, i: usize) -> u64 {
+    at(bytes, PLANS - 1 + 7 * i)
+}
+
+/// eight entries a turn, the last turn over some that were looked at already
+#[inline(always)]
+fn by_eights(n: usize, good: impl Fn(usize) -> bool) -> bool {
+    let mut i = 0;
+    while i + 8 < n {
+        if !good(i) {
+            return false;
+        }
+        i += 8;
+    }
+    good(n - 8)
+}
+
 /// the packets of all requests, where each has some and no outcome
 #[inline(always)]
-fn packets_of(bytes: *const u8, count: u64) -> Option<u64> {
-    let word = |i: u64| at::<u64>(bytes, PACKETS + 20 * i as usize);
+fn packets_of(bytes: *const u8, count: usize) -> Option<u64> {
     if count < FEW {
-        return (0..count).try_fold(0, |sum, i| (word(i).wrapping_sub(1) < 255).then(|| sum + word(i)));
+        return (0..count).try_fold(0, |sum, i| (request(bytes, i).wrapping_sub(1) < 255).then(|| sum + request(bytes, i)));
     }
-    let (bits, sum) = (0..count).fold((0, 0), |(bits, sum), i| (bits | word(i).wrapping_sub(1), sum + (word(i) & 0xffff)));
+    let first = request(bytes, 0);
+    if first.wrapping_sub(1) < 255 && by_eights(count, |i| (i..i + 8).all(|i| request(bytes, i) == first)) {
+        return Some(count as u64 * first);
+    }
+    let (bits, sum) = (0..count).map(|i| request(bytes, i)).fold((0, 0), |(bits, sum), w| (bits | w.wrapping_sub(1), sum + (w & 0xffff)));
     (bits < 255).then_some(sum)
 }
 
 /// each plan within the limit, in the ring and not settled
 #[inline(always)]
-fn are_good_plans(bytes: *const u8, packets: u64) -> bool {
-    let word = |i: u64| at::<u64>(bytes, PLANS - 1 + 7 * i as usize);
+fn are_good_plans(bytes: *const u8, packets: usize) -> bool {
     let in_ring = |bits: u64| bits >> 24 < SLOTS;
-    let bits = if packets < FEW {
-        (0..packets).try_fold(0, |bits, i| Some(bits | word(i)).filter(|bits| in_ring(*bits)))
-    } else {
-        Some((0..packets).fold(0, |bits, i| bits | word(i))).filter(|bits| in_ring(*bits))
-    };
-    bits.is_some_and(|bits| bits >> 8 & 0xffff <= LIMIT)
+    let within = |bits: u64| bits >> 8 & 0xffff <= LIMIT;
+    if packets < FEW {
+        let bits = (0..packets).try_fold(0, |bits, i| Some(bits | plan(bytes, i)).filter(|bits| in_ring(*bits)));
+        return bits.is_some_and(within);
+    }
+    by_eights(packets, |i| {
+        let bits = (i..i + 8).fold(0, |bits, i| bits | plan(bytes, i));
+        in_ring(bits) && within(bits)
+    })
 }
 
 /// the tests of 17 and 18; the count of requests and the reason to end are one number up to 64 where there is no reason
@@ -70,7 +100,7 @@ fn is_good(bytes: *const u8, len: usize) -> bool {
         return false;
     }
     let interval = u64::from(at::<u16>(bytes, 8)).max(1);
-    packets_of(bytes, count).is_some_and(|packets| (packets + 1) * interval <= SLOTS && are_good_plans(bytes, packets))
+    packets_of(bytes, count as usize).is_some_and(|packets| (packets + 1) * interval <= SLOTS && are_good_plans(bytes, packets as usize))
 }
 
 /// the oldest request's last slot is still the controller's, or there is no request
@@ -99,8 +129,11 @@ extern "C" fn poll(bytes: *mut u8, len: usize, ring: *mut u32, words: usize, rep
 #[inline(never)]
 extern "C" fn cancel(bytes: *mut u8, len: usize, id: u64) -> Reply {
     if is_good(bytes, len) {
-        let count = u64::from(at::<u16>(bytes, 32));
-        if (0..count).any(|i| at::<u64>(bytes, 40 + 20 * i as usize) == id) {
+        let count = usize::from(at::<u16>(bytes, 32));
+        let number = |i: usize| at::<u64>(bytes, 40 + 20 * i);
+        // numbers are drawn in turn
+        let guess = id.wrapping_sub(number(0)) as usize;
+        if guess < count && number(guess) == id || (0..count).any(|i| number(i) == id) {
             // SAFETY: the six bytes of the reason lie in the session
             unsafe {
                 bytes.add(34).cast::<u16>().write_unaligned(1);
