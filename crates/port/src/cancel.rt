@@ -44,27 +44,26 @@ pub(crate) fn place_at(bytes: &[u8], count: u16, id: u64) -> u16
 }
 
 // Numbers are drawn in turn, so that a request mostly stands as far behind the first as its number does. Where none is completed any place with the
-// number is as good as the first with it, since both are pending; so among many that one is asked before the walk.
-fn found_at(bytes: &[u8], done: u16, count: u16, id: u64) -> u16
+// number is as good as the first with it, since both are pending. So among many requests that place is asked before the walk.
+fn found_at(bytes: &[u8], done: u16, count: u16, id: u64, many: bool) -> u16
     requires { ⌜ (8488 ≤ length (now bytes)) × (count ≤ 64) ⌝ }
     ensures { λ r. ⌜ (ltb r done ≡ ltb (placeOf id (slice 0 count (sessionOf (now (bytes .entry)) .requests))) done)
         × (ltb r count ≡ ltb (placeOf id (slice 0 count (sessionOf (now (bytes .entry)) .requests))) count)
         × (r < done → r ≡ placeOf id (slice 0 count (sessionOf (now (bytes .entry)) .requests))) ⌝ }
 {
-    if done == 0 {
-        if count > 7 {
-            let behind = wrapping_sub_u64(id, u64_at(bytes, 40));
-            if behind < count as u64 {
-                if u64_at(bytes, 40 + 20 * behind as usize) == id {
-                    return behind as u16;
-                }
+    if many & (done == 0) {
+        let behind = wrapping_sub_u64(id, u64_at(bytes, 40));
+        if behind < count as u64 {
+            if u64_at(bytes, 40 + 20 * behind as usize) == id {
+                return behind as u16;
             }
         }
     }
     place_at(bytes, count, id)
 }
 
-pub(crate) fn cancel_at(bytes: &mut [u8], bad: bool, id: u64) -> PortReply
+// `many` says that a walk over the requests is worth a look beforehand; what is done does not depend on it.
+pub(crate) fn cancel_at(bytes: &mut [u8], bad: bool, id: u64, many: bool) -> PortReply
     requires { ⌜ (layoutNumber (now bytes) ≡ 0) × (bad ≡ isBadRecord (sessionOf (now bytes))) ⌝ }
     ensures { λ r. ⌜ (r ≡ replyPort (cancelled (sessionOf (now (bytes .entry))) id))
         × (Left (now (bytes .entry)) (now (bytes .exit)) (cancelled (sessionOf (now (bytes .entry))) id .session)) ⌝ }
@@ -73,7 +72,7 @@ pub(crate) fn cancel_at(bytes: &mut [u8], bad: bool, id: u64) -> PortReply
         return reply_refused(18);
     }
     let head = head_at(bytes);
-    let at = found_at(bytes, head.done, head.count, id);
+    let at = found_at(bytes, head.done, head.count, id, many);
     if at < head.done {
         put_outcome(bytes, 40 + 20 * at as usize, IsoOutcome::Cancelled);
         return reply_port(IsoAnswer::Done, false, false);

@@ -2,15 +2,16 @@
 use mathlib.Core.Path.{_≡_, _∙_, sym, ap}
 use Prim.Native.Nat.{ℕ, _<_}
 use native.Mathlib.Omega.{arith}
-use lib.Dec.{ltb}
+use lib.Dec.{eqb, ltb}
 use lib.ListN.{getD}
 use lib.Seq.{slice}
 use borrow.Author.Needs.{needs}
-use borrow.Author.Tests.{lt-ltb, le-ltb}
+use borrow.Author.Tests.{eqb-true, lt-ltb, le-ltb}
 use Rattle.session.specs.Session.{blankRequest}
 use Rattle.session.specs.Cancel.{placeOf}
 use Rattle.port.specs.Layout.{sessionOf}
 use Rattle.port.proofs.Laws.InUse.{place-reached}
+use Rattle.port.proofs.Laws.Kept.{both}
 use Rattle.port.proofs.Laws.Placed.{requests-many}
 use Rattle.port.proofs.Laws.Walks.{id-there}
 use Rattle.port.proofs.cancel.found_at.Statement.{statement}
@@ -36,16 +37,16 @@ cast-result c = search needs
 
 returns : tie.Need-returns
 returns c =
-    let xs = c .before .before .before .before .before .before .before .before .args .bytes .now in
-    let a = c .before .before .before .before .before .before .before .before .args in
+    let xs = c .before .before .before .before .before .before .before .args .bytes .now in
+    let a = c .before .before .before .before .before .before .before .args in
     let behind = c .before .before .before .wrapping-sub-u64 .result in
     let requests = sessionOf xs .requests in
-    let in-use : behind < a .count = c .before .before .if3 .taken in
-    let few = c .before .before .before .before .before .before .before .before .pre .1 in
-    let this : getD requests behind blankRequest .id ≡ a .id = sym (id-there xs behind (omega (arith, in-use, few))) ∙ sym (c .before .u64-at2 .ensures) ∙ c .if4 .taken in
+    let in-use : behind < a .count = c .before .before .if2 .taken in
+    let few = c .before .before .before .before .before .before .before .pre .1 in
+    let this : getD requests behind blankRequest .id ≡ a .id = sym (id-there xs behind (omega (arith, in-use, few))) ∙ sym (c .before .u64-at2 .ensures) ∙ c .if3 .taken in
     let reached = place-reached (a .id) behind (a .count) requests in-use (omega (arith, few, requests-many xs)) this in
     let place = placeOf (a .id) (slice 0 (a .count) requests) in
-    let none : a .done ≡ 0 = c .before .before .before .before .before .before .if1 .taken in (
+    let none : a .done ≡ 0 = eqb-true (a .done) 0 (both (a .many) (eqb (a .done) 0) (c .before .before .before .before .before .if1 .taken) .1) in (
       le-ltb behind (a .done) (omega (arith, none)) ∙ sym (le-ltb place (a .done) (omega (arith, none))),
       lt-ltb behind (a .count) in-use ∙ sym (lt-ltb place (a .count) (omega (arith, in-use, reached))),
       λ below. absurd (omega (arith, none, below)),
