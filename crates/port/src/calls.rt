@@ -87,12 +87,17 @@ fn reply_of(n: u64) -> PortReply
     }
 }
 
-// The usual way of a cancel.
+// The usual way of a cancel, shortest walk first.
 fn cancel_more(session: &mut [u8], id: u64) -> u64
     requires { ⌜ 8488 ≤ length (now session) ⌝ }
     ensures { λ r. ⌜ (replyOf r ≡ replyBy (now (session .entry)) (λ (s : IsoChannelState). cancelled s id))
         × (now (session .exit) ≡ bytesBy (now (session .entry)) (λ (s : IsoChannelState). cancelled s id .session)) ⌝ }
 {
+    if u16_at(session, 30) == 0 {
+        if young_packets(session) < 256 {
+            return number_of(cancel_at(session, false, id, true));
+        }
+    }
     let verdict = verdict_of(verdict_more(session));
     if verdict.refusal != 0 {
         return number_of(reply_refused(verdict.refusal));
@@ -100,20 +105,8 @@ fn cancel_more(session: &mut [u8], id: u64) -> u64
     number_of(cancel_at(session, verdict.bad, id, false))
 }
 
-// The way of a cancel beside many requests, shortest walk first.
-fn cancel_many(session: &mut [u8], id: u64) -> u64
-    requires { ⌜ 8488 ≤ length (now session) ⌝ }
-    ensures { λ r. ⌜ (replyOf r ≡ replyBy (now (session .entry)) (λ (s : IsoChannelState). cancelled s id))
-        × (now (session .exit) ≡ bytesBy (now (session .entry)) (λ (s : IsoChannelState). cancelled s id .session)) ⌝ }
-{
-    if young_packets(session) < 256 {
-        return number_of(cancel_at(session, false, id, true));
-    }
-    cancel_more(session, id)
-}
-
-// Few requests are looked at in the call itself. `cancel_more` and `cancel_many` are called from two places each: from one alone they would become a part
-// of the call, and their registers were saved here.
+// Few requests are looked at in the call itself; where one is completed, or there are many, the usual way is taken at once. It is called from several
+// places: from one alone it would become a part of the call, and its registers were saved here.
 #[no_mangle]
 pub extern "C" fn dwc2_iso_cancel(session: &mut [u8], id: u64) -> PortReply
     ensures { λ r. ⌜ (r ≡ replyBy (now (session .entry)) (λ (s : IsoChannelState). cancelled s id))
@@ -126,12 +119,12 @@ pub extern "C" fn dwc2_iso_cancel(session: &mut [u8], id: u64) -> PortReply
         return reply_of(cancel_more(session, id));
     }
     if u16_at(session, 32) > 7 {
-        return reply_of(cancel_many(session, id));
+        return reply_of(cancel_more(session, id));
     }
     if is_few(session) {
         return cancel_at(session, false, id, false);
     }
-    reply_of(cancel_many(session, id))
+    reply_of(cancel_more(session, id))
 }
 
 #[no_mangle]

@@ -48,8 +48,8 @@ returns-2 c = (c .reply-of .ensures ∙ c .before .before .before .cancel-more .
 u16-at-requires-2 : tie.Need-u16-at-requires-2
 u16-at-requires-2 c κs = search needs
 
-cancel-many-requires : tie.Need-cancel-many-requires
-cancel-many-requires c κs = search needs
+cancel-more-requires-2 : tie.Need-cancel-more-requires-2
+cancel-more-requires-2 c κs = search needs
 
 reply-of-requires-2 : tie.Need-reply-of-requires-2
 reply-of-requires-2 c κs = search needs
@@ -58,7 +58,7 @@ same-length-2 : tie.Need-same-length-2
 same-length-2 c = search needs
 
 returns-3 : tie.Need-returns-3
-returns-3 c = (c .reply-of2 .ensures ∙ c .before .before .before .cancel-many .ensures .0, c .before .before .before .cancel-many .ensures .1)
+returns-3 c = (c .reply-of2 .ensures ∙ c .before .before .before .cancel-more2 .ensures .0, c .before .before .before .cancel-more2 .ensures .1)
 
 is-few-requires : tie.Need-is-few-requires
 is-few-requires c κs = search needs
@@ -76,8 +76,8 @@ returns-4 c =
     let done = c .before .before .cancel-at .ensures in
     reply-done (a .session .now) (λ (s : IsoChannelState). cancelled s (a .id)) (both .0) refl (done .0) (done .1)
 
-cancel-many-requires-2 : tie.Need-cancel-many-requires-2
-cancel-many-requires-2 c κs = search needs
+cancel-more-requires-3 : tie.Need-cancel-more-requires-3
+cancel-more-requires-3 c κs = search needs
 
 reply-of-requires-3 : tie.Need-reply-of-requires-3
 reply-of-requires-3 c κs = search needs
@@ -86,7 +86,7 @@ same-length-4 : tie.Need-same-length-4
 same-length-4 c = search needs
 
 returns-5 : tie.Need-returns-5
-returns-5 c = (c .reply-of3 .ensures ∙ c .before .before .before .cancel-many2 .ensures .0, c .before .before .before .cancel-many2 .ensures .1)
+returns-5 c = (c .reply-of3 .ensures ∙ c .before .before .before .cancel-more3 .ensures .0, c .before .before .before .cancel-more3 .ensures .1)
 
 pub dwc2-iso-cancel-spec : {M : Type 1} → statement M
 dwc2-iso-cancel-spec =
@@ -100,7 +100,7 @@ dwc2-iso-cancel-spec =
     same-length
     returns-2
     u16-at-requires-2
-    cancel-many-requires
+    cancel-more-requires-2
     reply-of-requires-2
     same-length-2
     returns-3
@@ -108,7 +108,7 @@ dwc2-iso-cancel-spec =
     cancel-at-requires
     same-length-3
     returns-4
-    cancel-many-requires-2
+    cancel-more-requires-3
     reply-of-requires-3
     same-length-4
     returns-5)
