@@ -23,6 +23,7 @@ pub mod Saved
 pub mod Scans
 pub mod Settling
 pub mod Several
+pub mod Setup
 pub mod Sounds
 pub mod Steps
 pub mod Submits

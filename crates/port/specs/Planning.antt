@@ -1,6 +1,6 @@
 -- Planning by numbers (include/dwc2_port.h): what the numbers name, and the answers as numbers.
 use mathlib.Core.Bool.{Bool, _||_, cond}
-use mathlib.Core.List.{List, map}
+use mathlib.Core.List.{List, _++_, map}
 use Prim.Native.Nat.{ℕ}
 use lib.Dec.{eqb, ltb}
 use lib.ListN.{replicate}
@@ -34,6 +34,7 @@ use Rattle.port.specs.declared.setup.PortSetupPacket.{PortSetupPacket}
 use Rattle.port.specs.declared.planning.PortSplit.{PortSplit}
 use Rattle.port.specs.declared.stages.PortStage.{PortStage}
 use Rattle.port.specs.declared.ring_sums.PortNumber.{PortNumber}
+use Rattle.port.specs.Bytes.{u32Bytes}
 use Rattle.port.specs.Sums.{isBadSpeed, isBadDirection}
 use Rattle.port.specs.Tags.{speedOf, directionOf, flagOf, flagTag}
 
@@ -186,6 +187,10 @@ setupNumbers p = record { refusal = answerNumber (p .answer); bytes = p .bytes }
 
 abbrev pub unnamedSetup : PortSetupPacket
 unnamedSetup = record { refusal = 18; bytes = replicate 8 0 }
+
+-- the packet whose bytes are those of two numbers
+abbrev pub setupWords : ℕ → ℕ → ℕ → PortSetupPacket
+setupWords refusal first last = record { refusal = refusal; bytes = u32Bytes first ++ u32Bytes last }
 
 abbrev pub setupPacketNumbers : ℕ → ℕ → ℕ → ℕ → ℕ → ℕ → ℕ → PortSetupPacket
 setupPacketNumbers type recipient direction request value index len =

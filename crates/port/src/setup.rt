@@ -1,51 +1,16 @@
-// The setup packet by numbers, for C. It answers as crate `plan` does for what the numbers name; 18 and zeros where one names nothing.
-ghost use mathlib.Core.Bool.{cond};
+// The setup packet by numbers, for C: what crate `plan` answers for what the numbers name; 18 and zeros where one names nothing.
 ghost use mathlib.Core.Path.{_≡_};
-ghost use Rattle.plan.specs.Numbers.{answerNumber};
-ghost use Rattle.port.specs.Planning.{requestTypeOf, recipientOf, isBadSetup, setupOf, setupNumbers, unnamedSetup, setupPacketNumbers};
+ghost use mathlib.Core.Bool.{false};
+ghost use Prim.Native.Nat.{_+_, _*_, _≤_};
+ghost use Rattle.plan.specs.ControlPlan.{requestTypeByte};
+ghost use Rattle.port.specs.Planning.{requestTypeOf, recipientOf, isBadSetup, setupWords, setupPacketNumbers};
+ghost use Rattle.port.specs.Tags.{directionOf};
 use crate::ring_sums::is_bad_direction;
-use crate::stages::plan_number;
-use crate::tags::direction_of;
-use plan::ControlSetup;
-use plan::PlanAnswer;
-use plan::Recipient;
-use plan::RequestType;
-use plan::SetupPacket;
 
 #[repr(C)]
 pub struct PortSetupPacket {
     pub refusal: u32,
     pub bytes: [u8; 8],
-}
-
-fn request_type_of(n: u8) -> RequestType
-    ensures { λ r. ⌜ r ≡ requestTypeOf n ⌝ }
-{
-    if n == 0 {
-        return RequestType::Standard;
-    }
-    if n == 1 {
-        return RequestType::Class;
-    }
-    if n == 2 {
-        return RequestType::Vendor;
-    }
-    RequestType::Reserved
-}
-
-fn recipient_of(n: u8) -> Recipient
-    ensures { λ r. ⌜ r ≡ recipientOf n ⌝ }
-{
-    if n == 0 {
-        return Recipient::Device;
-    }
-    if n == 1 {
-        return Recipient::Interface;
-    }
-    if n == 2 {
-        return Recipient::Endpoint;
-    }
-    Recipient::Other
 }
 
 fn is_bad_setup(request_type: u8, recipient: u8, direction: u8) -> bool
@@ -54,54 +19,43 @@ fn is_bad_setup(request_type: u8, recipient: u8, direction: u8) -> bool
     (request_type > 3) | ((recipient > 3) | is_bad_direction(direction))
 }
 
-fn setup_of(request_type: u8, recipient: u8, request: u8, value: u16, index: u16) -> ControlSetup
-    ensures { λ r. ⌜ r ≡ setupOf «request_type» recipient request value index ⌝ }
+// Each number that names something is its own field.
+fn type_byte(request_type: u8, recipient: u8, direction: u8) -> u8
+    requires { ⌜ isBadSetup «request_type» recipient direction ≡ false ⌝ }
+    ensures { λ r. ⌜ r ≡ requestTypeByte (requestTypeOf «request_type») (recipientOf recipient) (directionOf direction) ⌝ }
 {
-    ControlSetup {
-        request_type: request_type_of(request_type),
-        recipient: recipient_of(recipient),
-        request,
-        value,
-        index,
-    }
+    128 * direction + 32 * request_type + recipient
 }
 
-fn unless(bad: bool, x: u8) -> u8
-    ensures { λ r. ⌜ r ≡ cond bad 0 x ⌝ }
+fn first_word(kind: u8, request: u8, value: u16) -> u32
+    ensures { λ r. ⌜ r ≡ kind + 256 * request + 65536 * value ⌝ }
 {
-    if bad {
-        return 0;
-    }
-    x
+    kind as u32 + 256 * request as u32 + 65_536 * value as u32
 }
 
-fn refusal_unless(bad: bool, answer: PlanAnswer) -> u32
-    ensures { λ r. ⌜ r ≡ cond bad 18 (answerNumber answer) ⌝ }
+fn last_word(index: u16, len: u64) -> u32
+    requires { ⌜ len ≤ 65535 ⌝ }
+    ensures { λ r. ⌜ r ≡ index + 65536 * len ⌝ }
 {
-    if bad {
-        return 18;
-    }
-    plan_number(answer)
+    index as u32 + 65_536 * len as u32
 }
 
-// The bytes are chosen one by one, in one literal, and so stay in registers: a table of zeros on one way and the packet's bytes on the
-// other would be joined in memory and read back across two stores.
-fn setup_numbers(bad: bool, p: SetupPacket) -> PortSetupPacket
-    ensures { λ r. ⌜ r ≡ cond bad unnamedSetup (setupNumbers p) ⌝ }
+// The bytes are those of two numbers, and so the answer stays in registers: chosen one by one they take half as long again, and tables of bytes, or one
+// number of eight, would be joined with the refusal in memory and read back across two stores.
+fn packet_of(refusal: u32, first: u32, last: u32) -> PortSetupPacket
+    ensures { λ r. ⌜ r ≡ setupWords refusal first last ⌝ }
 {
-    let answer = p.answer;
-    let bytes = p.bytes;
     PortSetupPacket {
-        refusal: refusal_unless(bad, answer),
+        refusal,
         bytes: [
-            unless(bad, bytes[0]),
-            unless(bad, bytes[1]),
-            unless(bad, bytes[2]),
-            unless(bad, bytes[3]),
-            unless(bad, bytes[4]),
-            unless(bad, bytes[5]),
-            unless(bad, bytes[6]),
-            unless(bad, bytes[7]),
+            (first % 65_536 % 256) as u8,
+            (first % 65_536 / 256) as u8,
+            (first / 65_536 % 256) as u8,
+            (first / 65_536 / 256) as u8,
+            (last % 65_536 % 256) as u8,
+            (last % 65_536 / 256) as u8,
+            (last / 65_536 % 256) as u8,
+            (last / 65_536 / 256) as u8,
         ],
     }
 }
@@ -118,10 +72,12 @@ pub extern "C" fn dwc2_setup_packet_bytes(
 ) -> PortSetupPacket
     ensures { λ r. ⌜ r ≡ setupPacketNumbers «request_type» recipient direction request value index len ⌝ }
 {
-    let bad = is_bad_setup(request_type, recipient, direction);
-    let setup = setup_of(request_type, recipient, request, value, index);
-    setup_numbers(
-        bad,
-        plan::setup_packet_bytes(setup, direction_of(direction), len),
-    )
+    if is_bad_setup(request_type, recipient, direction) {
+        return packet_of(18, 0, 0);
+    }
+    if len > 65_535 {
+        return packet_of(19, 0, 0);
+    }
+    let kind = type_byte(request_type, recipient, direction);
+    packet_of(0, first_word(kind, request, value), last_word(index, len))
 }
