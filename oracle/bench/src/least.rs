@@ -64,7 +64,7 @@ fn packets_of(bytes: *const u8, count: usize) -> Option<u64> {
         return (0..count).try_fold(0, |sum, i| (request(bytes, i).wrapping_sub(1) < 255).then(|| sum + request(bytes, i)));
     }
     let first = request(bytes, 0);
-    if first.wrapping_sub(1) < 255 && by_eights(count, |i| (i..i + 8).all(|i| request(bytes, i) == first)) {
+    if first.wrapping_sub(1) < 255 && by_eights(count, |i| (i..i + 8).fold(0, |apart, i| apart | request(bytes, i) ^ first) == 0) {
         return Some(count as u64 * first);
     }
     let (bits, sum) = (0..count).map(|i| request(bytes, i)).fold((0, 0), |(bits, sum), w| (bits | w.wrapping_sub(1), sum + (w & 0xffff)));
