@@ -40,21 +40,24 @@ good c =
 head-is : (c : tie.After-head-at) → c .head-at .result ≡ sessionOf (c .before .before .before .before .args .bytes .now) .head
 head-is c = c .head-at .ensures ∙ head-there (c .before .before .before .before .args .bytes .now)
 
--- what was found stands on the same side of both counts as the place of the number
+-- what was found stands on the same side of both counts, as they were read, as the place of the number
 found-is :
     (c : tie.After-found-at)
     → let s = sessionOf (c .before .before .before .before .before .before .args .bytes .now) in
     let at = requestAt (c .before .before .before .before .before .before .args .id) s in
-    (ltb (c .found-at .result) (s .head .done) ≡ ltb at (s .head .done))
-    × (ltb (c .found-at .result) (s .head .count) ≡ ltb at (s .head .count))
-    × (c .found-at .result < s .head .done → c .found-at .result ≡ at)
+    (ltb at (s .head .done) ≡ ltb (c .found-at .result) (c .before .before .head-at .result .done))
+    × (ltb at (s .head .count) ≡ ltb (c .found-at .result) (c .before .before .head-at .result .count))
+    × (c .found-at .result < c .before .before .head-at .result .done → c .found-at .result ≡ at)
 found-is c =
-    let s = sessionOf (c .before .before .before .before .before .before .args .bytes .now) in
+    let start = c .before .before .before .before .before .before in
+    let s = sessionOf (start .args .bytes .now) in
+    let read = c .before .before .head-at .result in
+    let here = c .found-at .ensures in
     subst (λ (h : IsoHead).
-    let at = placeOf (c .before .before .before .before .before .before .args .id) (slice 0 (h .count) (s .requests)) in
-    (ltb (c .found-at .result) (h .done) ≡ ltb at (h .done))
-    × (ltb (c .found-at .result) (h .count) ≡ ltb at (h .count))
-    × (c .found-at .result < h .done → c .found-at .result ≡ at)) (head-is (c .before .before)) (c .found-at .ensures)
+    let at = placeOf (start .args .id) (slice 0 (h .count) (s .requests)) in
+    (ltb at (h .done) ≡ ltb (c .found-at .result) (read .done))
+    × (ltb at (h .count) ≡ ltb (c .found-at .result) (read .count))
+    × (c .found-at .result < read .done → c .found-at .result ≡ at)) (head-is (c .before .before)) (sym (here .0), sym (here .1), here .2)
 
 -- the place of a completed request
 in-use :
@@ -80,7 +83,7 @@ not-done :
     (sessionOf (c .before .before .before .before .before .before .before .before .args .bytes .now) .head .done)
     ≡ false
 not-done c =
-    sym (found-is (c .before .before) .0) ∙ sym (ap (λ (h : IsoHead). ltb (c .before .before .found-at .result) (h .done)) (head-is (c .before .before .before .before)))
+    found-is (c .before .before) .0
     ∙ le-ltb (c .before .before .found-at .result) (c .before .before .before .before .head-at .result .done) (c .if2 .left)
 
 known :
@@ -90,7 +93,7 @@ known :
     (sessionOf (c .before .before .before .before .before .before .before .before .before .before .args .bytes .now) .head .count)
     ≡ true
 known c =
-    sym (found-is (c .before .before .before .before) .1) ∙ sym (ap (λ (h : IsoHead). ltb (c .before .before .before .before .found-at .result) (h .count)) (head-is (c .before .before .before .before .before .before)))
+    found-is (c .before .before .before .before) .1
     ∙ lt-ltb (c .before .before .before .before .found-at .result) (c .before .before .before .before .before .before .head-at .result .count)
     (c .if3 .left)
 
@@ -156,14 +159,15 @@ same-length c = search needs
 returns-2 : tie.Need-returns-2
 returns-2 c =
     let start = (c .before .before .before .before .before .before .before .before .before .before .before .before .before) in
+    let found = c .before .before .before .before .before .before .before in
     let xs = start .args .bytes .now in
     let s = sessionOf xs in
     let done : ltb
     (requestAt (start .args .id) s)
     (s .head .done)
     ≡ true =
-    sym (found-is (c .before .before .before .before .before .before .before) .0) ∙ sym (ap (λ (h : IsoHead). ltb (c .before .before .before .before .before .before .before .found-at .result) (h .done)) (head-is (c .before .before .before .before .before .before .before .before .before)))
-    ∙ lt-ltb (c .before .before .before .before .before .before .before .found-at .result)
+    found-is found .0
+    ∙ lt-ltb (found .found-at .result)
     (c .before .before .before .before .before .before .before .before .before .head-at .result .done)
     (c .before .before .before .before .before .if2 .taken) in
     becomes xs
@@ -173,10 +177,10 @@ returns-2 c =
     (left-is
     (outcome-here xs (octets (c .before .before .before .before .before .before .before .before .before .before .before .before))
     (start .pre .0)
-    (c .before .before .before .before .before .before .before .found-at .result) outcome.Cancelled
+    (found .found-at .result) outcome.Cancelled
     (in-use (c .before .before .before .before .before))
     (below (c .before .before .before .before .before)) (c .before .before .before .put-outcome .ensures))
-    (ap (λ (n : ℕ). withCancelled n s) (found-is (c .before .before .before .before .before .before .before) .2 (subst (λ (h : IsoHead). c .before .before .before .before .before .before .before .found-at .result < h .done) (head-is (c .before .before .before .before .before .before .before .before .before)) (c .before .before .before .before .before .if2 .taken)))))
+    (ap (λ (n : ℕ). withCancelled n s) (found-is found .2 (c .before .before .before .before .before .if2 .taken))))
 
 reply-refused-requires-2 : tie.Need-reply-refused-requires-2
 reply-refused-requires-2 c κs = search needs
@@ -191,7 +195,7 @@ returns-3 c =
     let unknown : ltb (requestAt (start .args .id) s)
     (s .head .count)
     ≡ false =
-    sym (found-is (c .before .before .before .before .before) .1) ∙ sym (ap (λ (h : IsoHead). ltb (c .before .before .before .before .before .found-at .result) (h .count)) (head-is (c .before .before .before .before .before .before .before)))
+    found-is (c .before .before .before .before .before) .1
     ∙ le-ltb (c .before .before .before .before .before .found-at .result)
     (c .before .before .before .before .before .before .before .head-at .result .count)
     (c .before .if3 .taken) in

@@ -43,7 +43,8 @@ returns c =
     let requests = sessionOf xs .requests in
     let in-use : behind < a .count = c .before .before .if2 .taken in
     let few = c .before .before .before .before .before .before .before .pre .1 in
-    let this : getD requests behind blankRequest .id ≡ a .id = sym (id-there xs behind (omega (arith, in-use, few))) ∙ sym (c .before .u64-at2 .ensures) ∙ c .if3 .taken in
+    let this : getD requests behind blankRequest .id ≡ a .id =
+    sym (id-there xs behind (omega (arith, in-use, few))) ∙ sym (c .before .u64-at2 .ensures) ∙ c .if3 .taken in
     let reached = place-reached (a .id) behind (a .count) requests in-use (omega (arith, few, requests-many xs)) this in
     let place = placeOf (a .id) (slice 0 (a .count) requests) in
     let none : a .done ≡ 0 = eqb-true (a .done) 0 (both (a .many) (eqb (a .done) 0) (c .before .before .before .before .before .if1 .taken) .1) in (

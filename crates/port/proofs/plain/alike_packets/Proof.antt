@@ -37,7 +37,8 @@ names : (c : tie.Else2) → (c .before .before .byte-at .result ≡ 0) × (c .be
 names c =
     let speed = c .before .before .byte-at .result in
     let live = c .before .byte-at2 .result in
-    let two = neither (not (eqb (c .before .before .before .u64-at2 .result) (c .before .before .before .before .before .u64-at .result))) (not (eqb speed 0) || not (eqb live 1)) (c .if2 .left) in
+    let second = eqb (c .before .before .before .u64-at2 .result) (c .before .before .before .before .before .u64-at .result) in
+    let two = neither (not second) (not (eqb speed 0) || not (eqb live 1)) (c .if2 .left) in
     let three = neither (not (eqb speed 0)) (not (eqb live 1)) (two .1) in
     (eqb-true speed 0 (not-false (eqb speed 0) (three .0)), eqb-true live 1 (not-false (eqb live 1) (three .1)))
 
@@ -51,10 +52,13 @@ within c =
 
 fits :
     (c : tie.Else4)
-    → let packets = c .before .before .before .before .before .before .before .before .before .before .u16-at .result * c .before .before .before .before .before .before .before .before .before .u64-at .result in
-    (packets ≤ 255) × ((packets + 1) * c .before .u16-at2 .result ≤ 256)
+    → let n = c .before .before .before .before .before .before .before .before .before .before .u16-at .result in
+    let word = c .before .before .before .before .before .before .before .before .before .u64-at .result in
+    (n * word ≤ 255) × ((n * word + 1) * c .before .u16-at2 .result ≤ 256)
 fits c =
-    let packets = c .before .before .before .before .before .before .before .before .before .before .u16-at .result * c .before .before .before .before .before .before .before .before .before .u64-at .result in
+    let n = c .before .before .before .before .before .before .before .before .before .before .u16-at .result in
+    let word = c .before .before .before .before .before .before .before .before .before .u64-at .result in
+    let packets = n * word in
     let two = neither (ltb 255 packets) (ltb 256 ((packets + 1) * c .before .u16-at2 .result)) (c .if4 .left) in
     (ltb-false 255 packets (two .0), ltb-false 256 ((packets + 1) * c .before .u16-at2 .result) (two .1))
 
@@ -102,7 +106,9 @@ cast-if4 c = search needs
 
 mul-if4 : tie.Need-mul-if4
 mul-if4 c =
-    let low : c .before .before .before .before .before .before .before .before .before .u16-at .result * c .before .before .before .before .before .before .before .before .u64-at .result + 1 ≤ 2031586 = omega (arith, within (c .before .before .before .before .before .before .before)) in
+    let n = c .before .before .before .before .before .before .before .before .before .u16-at .result in
+    let word = c .before .before .before .before .before .before .before .before .u64-at .result in
+    let low : n * word + 1 ≤ 2031586 = omega (arith, within (c .before .before .before .before .before .before .before)) in
     let high : c .u16-at2 .result ≤ 65535 = omega (arith, c .u16-at2 .ok) in
     omega (arith, mul-le-mul low high)
 
@@ -110,7 +116,10 @@ returns-4 : tie.Need-returns-4
 returns-4 c = λ e. absurd (omega arith)
 
 are-alike-requires : tie.Need-are-alike-requires
-are-alike-requires c κs = (c .before .before .before .before .before .before .before .before .before .before .before .before .pre, sizes (c .before .before .before .before .before .before .before .before) .0, omega (arith, count-is (c .before .before .before .before .before .before .before .before .before .before), front (c .before .before) .plain .few))
+are-alike-requires c κs =
+    let count = count-is (c .before .before .before .before .before .before .before .before .before .before) in
+    let long = c .before .before .before .before .before .before .before .before .before .before .before .before .pre in
+    (long, sizes (c .before .before .before .before .before .before .before .before) .0, omega (arith, count, front (c .before .before) .plain .few))
 
 returns-5 : tie.Need-returns-5
 returns-5 c = λ e. absurd (omega arith)
@@ -119,7 +128,8 @@ all-unsettled-requires : tie.Need-all-unsettled-requires
 all-unsettled-requires c κs =
     let size = sizes (c .before .before .before .before .before .before .before .before .before .before) in
     let few = fits (c .before .before) .0 in
-    (c .before .before .before .before .before .before .before .before .before .before .before .before .before .before .pre, mul-le-mul (size .0) (size .1), omega (arith, few))
+    let long = c .before .before .before .before .before .before .before .before .before .before .before .before .before .before .pre in
+    (long, mul-le-mul (size .0) (size .1), omega (arith, few))
 
 cast-result : tie.Need-cast-result
 cast-result c = omega (arith, fits (c .before .before .before .before) .0)
@@ -143,7 +153,8 @@ returns-6 c =
     sym (ap (λ (k : ℕ). anyOf isBadRequestEntry 20 k (drop 40 xs)) count) ∙ alike-good xs n word most (size .1) short same in
     let name = names (c .before .before .before .before .before .before .before .before) in
     let speed = high-speed xs (c .before .before .before .before .before .before .before .before .before .before .byte-at .ensures) (name .0) .0 in
-    let live : s .head .live ≡ true = sym (live-there xs) ∙ ap flagOf (sym (c .before .before .before .before .before .before .before .before .before .byte-at2 .ensures) ∙ name .1) in
+    let live : s .head .live ≡ true =
+    sym (live-there xs) ∙ ap flagOf (sym (c .before .before .before .before .before .before .before .before .before .byte-at2 .ensures) ∙ name .1) in
     let interval = c .before .before .before .before .before .u16-at2 .ensures ∙ interval-there xs in
     let apart : (n * word + 1) * s .cfg .interval ≤ 256 = omega (arith, room .1, ap (λ (k : ℕ). (n * word + 1) * k) interval) in
     λ e.
