@@ -2,7 +2,7 @@
 -- further on is reached by `drop`.
 use mathlib.Core.List.{List, [], _∷_, _++_}
 use Prim.Native.Nat.{ℕ, _+_, _*_, _/_, _%_}
-use lib.ListN.{getD, drop}
+use lib.ListN.{getD, drop, replicate}
 
 unfoldable pub byteOf : List ℕ → ℕ
 byteOf xs = getD xs 0 0
@@ -24,3 +24,6 @@ u32Bytes x = u16Bytes (x % 65536) ++ u16Bytes (x / 65536)
 
 unfoldable pub u64Bytes : ℕ → List ℕ
 u64Bytes x = u32Bytes (x % 4294967296) ++ u32Bytes (x / 4294967296)
+
+unfoldable pub zeros : ℕ → List ℕ
+zeros n = replicate n 0

@@ -1,6 +1,6 @@
 // What the calls answer, as C has it: numbers only. include/dwc2_port.h says what each field means.
 ghost use mathlib.Core.Path.{_≡_};
-ghost use Rattle.session.specs.Numbers.{openNumber, submitNumber, submitValue, answerNumber};
+ghost use Rattle.session.specs.Numbers.{submitNumber, submitValue, answerNumber};
 ghost use Rattle.session.specs.declared.reply.ReclaimAnswer.the-variants.{Refused};
 ghost use Rattle.port.specs.Tags.{flagTag};
 ghost use Rattle.port.specs.Calls.{portReply, replyRefused, reclaimPort, reclaimRefused, transferOf, isCut, submitPort, submitRefused};
@@ -8,7 +8,6 @@ use crate::tags::outcome_tagged;
 use session::IsoAnswer;
 use session::IsoChannelStart;
 use session::IsoTransfer;
-use session::OpenAnswer;
 use session::ReclaimAnswer;
 use session::SubmitAnswer;
 
@@ -220,15 +219,5 @@ pub(crate) fn submit_port(answer: SubmitAnswer, start: IsoChannelStart) -> PortS
         hcintmsk: start.hcintmsk,
         frame_count: list.count as u32,
         frames,
-    }
-}
-
-pub(crate) fn open_number(answer: OpenAnswer) -> u32
-    ensures { λ r. ⌜ r ≡ openNumber answer ⌝ }
-{
-    match answer {
-        OpenAnswer::Opened => 0,
-        OpenAnswer::ShortRing => 17,
-        OpenAnswer::BadConfig => 18,
     }
 }

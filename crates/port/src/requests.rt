@@ -4,17 +4,18 @@ ghost use lib.ListN.{length};
 ghost use Rattle.port.specs.Calls.{openBy, openBytes, openRing, isBadNames, configBy, submitBy, submitBytes, submitRing};
 use crate::answers::PortSubmitted;
 use crate::answers::PortTransfer;
-use crate::answers::open_number;
 use crate::answers::submit_refused;
 use crate::answers::transfer_of;
-use crate::save::save_session;
+use crate::save::put_idle;
 use crate::submit::submit_at;
 use crate::tags::direction_of;
 use crate::tags::mode_of;
 use crate::tags::speed_of;
 use crate::verdict::verdict_at;
-use session::IsoChannelState;
 use session::IsoConfig;
+use session::clear_first;
+use session::is_bad_config;
+use session::ring_words;
 
 fn config_of(
     speed: u8,
@@ -40,6 +41,7 @@ fn config_of(
     }
 }
 
+// Refused or not, the session becomes an idle one of what was offered; it is written where it stands and made nowhere else.
 #[no_mangle]
 pub extern "C" fn dwc2_iso_open(
     session: &mut [u8],
@@ -79,11 +81,16 @@ pub extern "C" fn dwc2_iso_open(
         device,
         mult,
     );
-    let opened = IsoChannelState::open(cfg, ring);
-    let after = opened.session;
-    save_session(session, after);
-    let answer = opened.answer;
-    open_number(answer)
+    put_idle(session, cfg);
+    let words = ring_words(cfg);
+    if ring.len() < words {
+        return 17;
+    }
+    if is_bad_config(cfg) {
+        return 18;
+    }
+    clear_first(ring, words);
+    0
 }
 
 #[no_mangle]

@@ -1,27 +1,22 @@
-// A session into its bytes.
+// The parts of a session that stand before its tables, into its bytes; and an idle session whole.
 ghost use mathlib.Core.Path.{_≡_};
-ghost use Prim.Native.Nat.{_≤_};
+ghost use Prim.Native.Nat.{_+_, _≤_};
 ghost use lib.ListN.{length};
 ghost use lib.Seq.{sets};
-ghost use Rattle.port.specs.Layout.{markBytes, configBytes, headBytes, requestBytes, planBytes, tableBytes, saved};
-use crate::entries::put_plan;
-use crate::entries::put_request;
-use crate::entries::put_tagged;
+ghost use Rattle.session.specs.Session.{idleSession};
+ghost use Rattle.port.specs.Bytes.{zeros};
+ghost use Rattle.port.specs.Layout.{markBytes, configBytes, headBytes, saved};
 use crate::numbers::put_byte;
 use crate::numbers::put_three;
 use crate::numbers::put_u16;
 use crate::numbers::put_u32;
 use crate::numbers::put_u64;
 use crate::tags::direction_tag;
-use crate::tags::fatal_tagged;
 use crate::tags::flag_tag;
 use crate::tags::mode_tag;
 use crate::tags::speed_tag;
-use session::IsoChannelState;
 use session::IsoConfig;
 use session::IsoHead;
-use session::IsoPacketPlan;
-use session::IsoRequest;
 
 fn put_mark(bytes: &mut [u8])
     requires { ⌜ 8488 ≤ length (now bytes) ⌝ }
@@ -62,48 +57,34 @@ pub(crate) fn put_head(bytes: &mut [u8], head: IsoHead)
     put_u16(bytes, 32, head.count);
 }
 
-fn put_requests(bytes: &mut [u8], requests: [IsoRequest; 64])
-    requires { ⌜ 8488 ≤ length (now bytes) ⌝ }
-    ensures { λ _. ⌜ now (bytes .exit) ≡ sets (now (bytes .entry)) 40 (tableBytes requestBytes requests) ⌝ }
+fn put_zeros(bytes: &mut [u8], from: usize, n: usize)
+    requires { ⌜ from + n ≤ length (now bytes) ⌝ }
+    ensures { λ _. ⌜ now (bytes .exit) ≡ sets (now (bytes .entry)) from (zeros n) ⌝ }
 {
-    let mut at: usize = 40;
     let mut i: usize = 0;
-    while i < 64 {
-        let request = requests[i];
-        put_request(bytes, at, request);
-        at += 20;
+    while i < n {
+        bytes[from + i] = 0;
         i += 1;
     }
 }
 
-fn put_plans(bytes: &mut [u8], plans: [IsoPacketPlan; 1024])
+// An idle session where it is to stand: no reason to end and tables without an entry in use are zeros. The bytes behind the session stay as they were.
+pub(crate) fn put_idle(bytes: &mut [u8], cfg: IsoConfig)
     requires { ⌜ 8488 ≤ length (now bytes) ⌝ }
-    ensures { λ _. ⌜ now (bytes .exit) ≡ sets (now (bytes .entry)) 1320 (tableBytes planBytes plans) ⌝ }
+    ensures { λ _. ⌜ now (bytes .exit) ≡ sets (now (bytes .entry)) 0 (saved (idleSession cfg)) ⌝ }
 {
-    let mut at: usize = 1_320;
-    let mut i: usize = 0;
-    while i < 1_024 {
-        let plan = plans[i];
-        put_plan(bytes, at, plan);
-        at += 7;
-        i += 1;
-    }
-}
-
-// The bytes behind the session stay as they were.
-pub(crate) fn save_session(bytes: &mut [u8], session: IsoChannelState)
-    requires { ⌜ 8488 ≤ length (now bytes) ⌝ }
-    ensures { λ _. ⌜ now (bytes .exit) ≡ sets (now (bytes .entry)) 0 (saved session) ⌝ }
-{
-    let cfg = session.cfg;
-    let head = session.head;
-    let fatal = session.fatal;
-    let requests = session.requests;
-    let plans = session.plans;
     put_mark(bytes);
     put_config(bytes, cfg);
-    put_head(bytes, head);
-    put_tagged(bytes, 34, fatal_tagged(fatal));
-    put_requests(bytes, requests);
-    put_plans(bytes, plans);
+    put_head(
+        bytes,
+        IsoHead {
+            next_request_id: 1,
+            live: false,
+            td_last: 0,
+            start_full_frame: 0,
+            done: 0,
+            count: 0,
+        },
+    );
+    put_zeros(bytes, 34, 8_454);
 }

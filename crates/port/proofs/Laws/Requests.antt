@@ -1,5 +1,5 @@
 -- Submitting and opening by bytes, at each way out.
-use mathlib.Core.Path.{_≡_, refl, _∙_, sym, ap}
+use mathlib.Core.Path.{_≡_, refl, _∙_, sym, ap, ap₂}
 use mathlib.Core.Bool.{Bool, true, false, cond}
 use mathlib.Core.List.{List}
 use Prim.Native.Nat.{ℕ, _≤_, _<_}
@@ -8,12 +8,15 @@ use lib.ListN.{length}
 use lib.Seq.{sets}
 use borrow.Author.Tests.{eq-eqb, lt-ltb, le-ltb}
 use Rattle.session.specs.Numbers.{openNumber}
-use Rattle.session.specs.Open.{opened, openedRing}
+use Rattle.session.specs.Open.{openAnswer, opened, ringAfter, openedRing}
+use Rattle.session.specs.Record.{isBadConfig}
+use Rattle.session.specs.Session.{ringWords, cleared, idleSession}
 use Rattle.session.specs.Submit.{submitted, submittedRing}
-use Rattle.session.specs.declared.open.Opened.{Opened}
 use Rattle.session.specs.declared.transfer.IsoTransfer.{IsoTransfer}
 use Rattle.session.specs.declared.transfer.Submitted.{Submitted}
 use Rattle.session.specs.declared.types.IsoConfig.{IsoConfig}
+use Rattle.session.specs.declared.types.OpenAnswer.{OpenAnswer}
+use Rattle.session.specs.declared.types.OpenAnswer.the-variants as answer
 use Rattle.session.specs.declared.types.IsoChannelState.{IsoChannelState}
 use Rattle.port.specs.declared.answers.PortSubmitted.{PortSubmitted}
 use Rattle.port.specs.declared.answers.PortTransfer.{PortTransfer}
@@ -126,15 +129,52 @@ module _ (xs : List ℕ) (bad : Bool) (cfg : IsoConfig) (ring : List ℕ) where
     open-by xs bad (λ (n : ℕ). ring) (openedRing cfg ring) true h e,
   )
 
-  pub open-done :
-      {c : IsoConfig} {o : Opened} {r : ℕ} {after words : List ℕ} → 8488 ≤ length xs → bad ≡ false → c ≡ cfg → o ≡ opened c (length ring)
-      → words ≡ openedRing c ring
-      → r ≡ openNumber (o .answer)
-      → after ≡ sets xs 0 (saved (o .session))
-      → Opens r after words
-  open-done {o = o} h e k g w p b =
-      let given : o ≡ opened cfg (length ring) = g ∙ ap (λ (x : IsoConfig). opened x (length ring)) k in (
-        p ∙ ap (λ (x : Opened). openNumber (x .answer)) given ∙ open-by xs bad (λ (n : ℕ). n) number false h e,
-        b ∙ ap (λ (x : Opened). sets xs 0 (saved (x .session))) given ∙ open-by xs bad (λ (n : ℕ). xs) bytes false h e,
-        w ∙ ap (λ (x : IsoConfig). openedRing x ring) k ∙ open-by xs bad (λ (n : ℕ). ring) (openedRing cfg ring) false h e,
+  -- with names that name something: the session is written whatever is answered, the ring by the answer
+  open-as :
+      {c : IsoConfig} {after : List ℕ} (a : OpenAnswer) → 8488 ≤ length xs → bad ≡ false → c ≡ cfg
+      → openAnswer c (length ring) ≡ a
+      → after ≡ sets xs 0 (saved (idleSession c))
+      → Opens (openNumber a) after (ringAfter a c ring)
+  open-as {c} a h e k g b =
+      let given : a ≡ openAnswer cfg (length ring) = sym g ∙ ap (λ (x : IsoConfig). openAnswer x (length ring)) k in (
+        ap openNumber given ∙ open-by xs bad (λ (n : ℕ). n) number false h e,
+        b ∙ ap (λ (x : IsoConfig). sets xs 0 (saved (idleSession x))) k ∙ open-by xs bad (λ (n : ℕ). xs) bytes false h e,
+        ap₂ (λ (x : OpenAnswer) (y : IsoConfig). ringAfter x y ring) given k ∙ open-by xs bad (λ (n : ℕ). ring) (openedRing cfg ring) false h e,
       )
+
+  pub open-short-ring :
+      {c : IsoConfig} {n : ℕ} {after : List ℕ} → 8488 ≤ length xs → bad ≡ false → c ≡ cfg → after ≡ sets xs 0 (saved (idleSession c))
+      → n ≡ ringWords c
+      → length ring < n
+      → Opens 17 after ring
+  open-short-ring {c} {n} h e k b w short = open-as answer.ShortRing h e k told b
+    where
+      told : openAnswer c (length ring) ≡ answer.ShortRing
+      told = rw (sym (ap (ltb (length ring)) w) ∙ lt-ltb (length ring) n short)
+
+  pub open-config :
+      {c : IsoConfig} {n : ℕ} {t : Bool} {after : List ℕ} → 8488 ≤ length xs → bad ≡ false → c ≡ cfg → after ≡ sets xs 0 (saved (idleSession c))
+      → n ≡ ringWords c
+      → n ≤ length ring
+      → t ≡ isBadConfig c
+      → t ≡ true
+      → Opens 18 after ring
+  open-config {c} {n} h e k b w long f g = open-as answer.BadConfig h e k told b
+    where
+      told : openAnswer c (length ring) ≡ answer.BadConfig
+      told = rw (sym (ap (ltb (length ring)) w) ∙ le-ltb (length ring) n long, sym f ∙ g)
+
+  pub open-done :
+      {c : IsoConfig} {n : ℕ} {t : Bool} {after words : List ℕ} → 8488 ≤ length xs → bad ≡ false → c ≡ cfg → after ≡ sets xs 0 (saved (idleSession c))
+      → n ≡ ringWords c
+      → n ≤ length ring
+      → t ≡ isBadConfig c
+      → t ≡ false
+      → words ≡ cond (ltb (length ring) n) ring (cleared n ring)
+      → Opens 0 after words
+  open-done {c} {n} h e k b w long f g z =
+      let opens = open-as answer.Opened h e k told b in
+      (opens .0, opens .1, z ∙ ap (λ (t : Bool). cond t ring (cleared n ring)) (le-ltb (length ring) n long) ∙ ap (λ (m : ℕ). cleared m ring) w ∙ opens .2)
+    where
+      told : openAnswer c (length ring) ≡ answer.Opened
+      told = rw (sym (ap (ltb (length ring)) w) ∙ le-ltb (length ring) n long, sym f ∙ g)

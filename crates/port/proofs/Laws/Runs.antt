@@ -2,10 +2,10 @@
 -- itself.
 use mathlib.Core.Path.{_≡_, refl, _∙_, sym, ap, ap₂, subst}
 use mathlib.Core.List.{List, [], _∷_, _++_}
-use Prim.Native.Nat.{ℕ, zero, suc, _+_, _-_, _*_, _≤_}
+use Prim.Native.Nat.{ℕ, zero, suc, _+_, _-_, _*_, _≤_, _<_}
 use native.Mathlib.Nat.{add-zero}
 use native.Mathlib.Omega.{arith}
-use lib.ListN.{length, getD, take, drop, set, length-append, take-append-drop, drop-of-length-le}
+use lib.ListN.{length, getD, take, drop, set, replicate, length-append, take-append-drop, drop-of-length-le}
 use lib.Seq.{slice, sets, sets-eq, length-sets, drop-at, drop-cons, take-all, take-add, take-set-le, drop-set-lt, drop-set-add, length-slice, length-take-le}
 use Rattle.session.proofs.Laws.Lists.{slice-next, slice-past, slice-split, slice-after-set}
 
@@ -27,6 +27,14 @@ module _ {A : Type 0} where
       → next ≡ sets l at (xs ++ ys)
   then l at p xs ys e f g =
       g ∙ ap (λ (m : List A). sets m p ys) e ∙ ap (λ (n : ℕ). sets (sets l at xs) n ys) f ∙ sets-append xs l at ys
+
+  -- one of a run that is the same throughout, and the rest of it
+  pub same-more :
+      (l : List A) (a : A) (from i n : ℕ) → i < n → sets (set l (from + i) a) (from + (i + 1)) (replicate (n - (i + 1)) a) ≡ sets l (from + i) (replicate (n - i) a)
+  same-more l a from i n h =
+      let on : from + (i + 1) ≡ suc (from + i) = omega arith in
+      let more : suc (n - (i + 1)) ≡ n - i = omega arith in
+      ap (λ (k : ℕ). sets (set l (from + i) a) k (replicate (n - (i + 1)) a)) on ∙ ap (λ (k : ℕ). sets l (from + i) (replicate k a)) more
 
 -- ---- runs stored behind a list's front, or before its end
 
