@@ -25,5 +25,6 @@ u32Bytes x = u16Bytes (x % 65536) ++ u16Bytes (x / 65536)
 unfoldable pub u64Bytes : ℕ → List ℕ
 u64Bytes x = u32Bytes (x % 4294967296) ++ u32Bytes (x / 4294967296)
 
+-- as many zeros; the thousands of an idle session are never written out, so it does not unfold by itself
 unfoldable pub zeros : ℕ → List ℕ
 zeros n = replicate n 0
