@@ -16,6 +16,14 @@ pub fn pending(count: usize) -> Vec<Step> {
     vec![Step::Submit(1), Step::Serve(0, 1), Step::Reclaim(1, COMPLETE)]
 }
 
+/// `count` requests that are not alike, of one and two packets in turn, not served
+fn unlike(count: usize) -> Vec<Step> {
+    if count > 0 {
+        return (0..count).map(|i| Step::Submit(1 + i % 2)).collect();
+    }
+    pending(0)
+}
+
 /// `count` requests of one packet each, completed and waiting
 fn completed(count: usize) -> Vec<Step> {
     if count == 0 {
@@ -108,6 +116,8 @@ pub fn curves() -> Vec<Curve> {
         curve("pending", "reclaim 1", &waiting, |k| (served(1, k), Timed::Reclaim(1, COMPLETE))),
         curve("pending", "poll, none served", &waiting, |k| (pending(k), Timed::Poll(Some(0)))),
         curve("pending", "cancel the last", some, |k| (pending(k), Timed::Cancel(k as u64))),
+        curve("pending", "poll, none served, several sizes", &waiting, |k| (unlike(k), Timed::Poll(Some(0)))),
+        curve("pending", "cancel the last, several sizes", some, |k| (unlike(k), Timed::Cancel(k as u64))),
         curve("completed", "submit 1", &waiting, |c| (completed(c), Timed::Submit(1))),
         curve("completed", "reclaim the first", some, |c| (completed(c), Timed::Reclaim(1, None))),
         curve("completed", "reclaim the last", some, |c| (completed(c), Timed::Reclaim(c as u64, None))),

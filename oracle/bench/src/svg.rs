@@ -3,7 +3,7 @@
 use std::fmt::Write;
 
 const INK: &str = "#222";
-const COLOURS: [&str; 4] = ["#0b5fa5", "#c1440e", "#2e7d32", "#6a1b9a"];
+const COLOURS: [&str; 6] = ["#0b5fa5", "#c1440e", "#2e7d32", "#6a1b9a", "#8bc34a", "#ba68c8"];
 
 fn text(out: &mut String, x: f64, y: f64, anchor: &str, words: &str) {
     let _ = writeln!(out, "<text x=\"{x:.1}\" y=\"{y:.1}\" text-anchor=\"{anchor}\">{words}</text>");
