@@ -56,12 +56,23 @@ byte-small xs h = h 0
 pub u16-small : (xs : List ℕ) → Octets xs → u16Of xs < 65536
 u16-small xs h = omega (arith, u16-low xs, byte-small xs h, byte-small (drop 1 xs) (octets-drop 1 xs h))
 
-pub u16-kept : (xs : List ℕ) → Octets xs → 2 ≤ length xs → u16Bytes (u16Of xs) ≡ take 2 xs
+-- the bytes of a number are those of its two halves
+pub u16-halves : (a b : ℕ) → a < 256 → u16Bytes (a + 256 * b) ≡ a ∷ b ∷ []
 unfolding u16Bytes
-u16-kept xs h k =
-    let low : u16Of xs % 256 ≡ byteOf xs = omega (arith, u16-low xs, byte-small xs h) in
-    let high : u16Of xs / 256 ≡ byteOf (drop 1 xs) = omega (arith, u16-low xs, byte-small xs h) in
-    ap₂ (λ (a b : ℕ). a ∷ b ∷ []) low high ∙ two-kept xs k
+u16-halves a b h =
+    let low : (a + 256 * b) % 256 ≡ a = omega (arith, h) in
+    let high : (a + 256 * b) / 256 ≡ b = omega (arith, h) in
+    ap₂ (λ (x y : ℕ). x ∷ y ∷ []) low high
+
+pub u32-halves : (a b : ℕ) → a < 65536 → u32Bytes (a + 65536 * b) ≡ u16Bytes a ++ u16Bytes b
+unfolding u32Bytes
+u32-halves a b h =
+    let low : (a + 65536 * b) % 65536 ≡ a = omega (arith, h) in
+    let high : (a + 65536 * b) / 65536 ≡ b = omega (arith, h) in
+    ap₂ (λ (x y : ℕ). u16Bytes x ++ u16Bytes y) low high
+
+pub u16-kept : (xs : List ℕ) → Octets xs → 2 ≤ length xs → u16Bytes (u16Of xs) ≡ take 2 xs
+u16-kept xs h k = ap u16Bytes (u16-low xs) ∙ u16-halves (byteOf xs) (byteOf (drop 1 xs)) (byte-small xs h) ∙ two-kept xs k
 
 u32-low : (xs : List ℕ) → u32Of xs ≡ u16Of xs + 65536 * u16Of (drop 2 xs)
 unfolding u32Of
@@ -71,11 +82,9 @@ u32-small : (xs : List ℕ) → Octets xs → u32Of xs < 4294967296
 u32-small xs h = omega (arith, u32-low xs, u16-small xs h, u16-small (drop 2 xs) (octets-drop 2 xs h))
 
 pub u32-kept : (xs : List ℕ) → Octets xs → 4 ≤ length xs → u32Bytes (u32Of xs) ≡ take 4 xs
-unfolding u32Bytes
 u32-kept xs h k =
-    let low : u32Of xs % 65536 ≡ u16Of xs = omega (arith, u32-low xs, u16-small xs h) in
-    let high : u32Of xs / 65536 ≡ u16Of (drop 2 xs) = omega (arith, u32-low xs, u16-small xs h) in
-    ap₂ (λ (a b : ℕ). u16Bytes a ++ u16Bytes b) low high
+    ap u32Bytes (u32-low xs)
+    ∙ u32-halves (u16Of xs) (u16Of (drop 2 xs)) (u16-small xs h)
     ∙ join 2 2 xs (u16-kept xs h (omega arith)) (u16-kept (drop 2 xs) (octets-drop 2 xs h) (omega (arith, length-drop 2 xs)))
 
 u64-low : (xs : List ℕ) → u64Of xs ≡ u32Of xs + 4294967296 * u32Of (drop 4 xs)

@@ -15,6 +15,7 @@ use Rattle.port.specs.declared.setup.PortSetupPacket.{PortSetupPacket}
 use Rattle.port.specs.Bytes.{u16Bytes, u32Bytes}
 use Rattle.port.specs.Planning.{requestTypeOf, recipientOf, isBadSetup, setupOf, setupNumbers, unnamedSetup, setupWords, setupPacketNumbers}
 use Rattle.port.specs.Tags.{directionOf}
+use Rattle.port.proofs.Laws.Kept.{u16-halves, u32-halves}
 use Rattle.port.proofs.Laws.Planning.{first-of, second-of}
 
 -- ---- the first byte
@@ -63,20 +64,6 @@ byte-named t r d good =
 
 -- ---- the bytes
 
-halves : (a b : ℕ) → a < 65536 → u32Bytes (a + 65536 * b) ≡ u16Bytes a ++ u16Bytes b
-unfolding u32Bytes
-halves a b h =
-    let low : (a + 65536 * b) % 65536 ≡ a = omega (arith, h) in
-    let high : (a + 65536 * b) / 65536 ≡ b = omega (arith, h) in
-    ap₂ (λ (x y : ℕ). u16Bytes x ++ u16Bytes y) low high
-
-two : (a b : ℕ) → a < 256 → u16Bytes (a + 256 * b) ≡ a ∷ b ∷ []
-unfolding u16Bytes
-two a b h =
-    let low : (a + 256 * b) % 256 ≡ a = omega (arith, h) in
-    let high : (a + 256 * b) / 256 ≡ b = omega (arith, h) in
-    ap₂ (λ (x y : ℕ). x ∷ y ∷ []) low high
-
 packet-bytes :
     (kind request value index len : ℕ) → kind < 256 → request < 256 → index < 65536
     → u32Bytes (kind + 256 * request + 65536 * value) ++ u32Bytes (index + 65536 * len)
@@ -84,7 +71,9 @@ packet-bytes :
 unfolding u16Bytes
 packet-bytes kind request value index len hk hr hi =
     let front : kind + 256 * request < 65536 = omega (arith, hk, hr) in
-    ap₂ _++_ (halves (kind + 256 * request) value front ∙ ap (λ (xs : List ℕ). xs ++ u16Bytes value) (two kind request hk)) (halves index len hi)
+    ap₂ _++_
+    (u32-halves (kind + 256 * request) value front ∙ ap (λ (xs : List ℕ). xs ++ u16Bytes value) (u16-halves kind request hk))
+    (u32-halves index len hi)
 
 -- ---- the ways out of the call
 

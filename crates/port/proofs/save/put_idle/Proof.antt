@@ -21,7 +21,12 @@ same-length c = search needs
 
 returns : tie.Need-returns
 returns c =
-    idle-put (c .before .before .before .before .before .before .before .before .before .before .before .before .before .before .before .before .before .args .bytes .now) (c .before .before .before .before .before .before .before .before .before .before .before .before .before .before .before .before .before .args .cfg) (c .before .before .before .before .before .before .before .before .before .before .before .before .before .before .put-mark .ensures) (c .before .before .before .before .before .before .before .before .before .before .put-config .ensures) (c .before .before .before .before .before .before .put-head .ensures) (c .before .before .put-zeros .ensures)
+    let a = c .before .before .before .before .before .before .before .before .before .before .before .before .before .before .before .before .before .args in
+    idle-put (a .bytes .now) (a .cfg)
+    (c .before .before .before .before .before .before .before .before .before .before .before .before .before .before .put-mark .ensures)
+    (c .before .before .before .before .before .before .before .before .before .before .put-config .ensures)
+    (c .before .before .before .before .before .before .put-head .ensures)
+    (c .before .before .put-zeros .ensures)
 
 pub put-idle-spec : {M : Type 1} → statement M
 put-idle-spec =
