@@ -1,5 +1,7 @@
 // The film of `./run`: the library at work on a simulated controller, five scenes. What is drawn comes from the session and the ring
 // that the proved calls gave; only prose and titles are literals.
+#![tactic(auto)]
+
 mod cells;
 mod cut;
 mod disk;

@@ -4,7 +4,7 @@ use session::IsoMode;
 
 // Open a session; submit packets at a frame reading, so many, with so many words that may be stored; the controller serves a slot and
 // leaves a status word; collect a request; recover.
-#[derive(Drop)]
+#[derive(Clone, Copy)]
 pub(crate) enum Act {
     Open(Speed, u16, IsoMode),
     Submit(u32, u32, u32),

@@ -9,7 +9,7 @@ use session::{
 use words::Direction;
 
 // What a call said: its kind, the number of the request or of the refusal, and the bytes handed out.
-#[derive(Drop)]
+#[derive(Clone, Copy)]
 pub(crate) struct Said {
     pub kind: u64,
     pub number: u64,
@@ -31,7 +31,7 @@ pub(crate) const DISCONNECTED: u64 = 5;
 // What no scene comes to: a request that is not settled yet, or ended another way.
 pub(crate) const OTHER: u64 = 6;
 
-#[derive(Drop)]
+#[derive(Clone, Copy)]
 pub(crate) struct Step {
     pub session: IsoChannelState,
     pub said: Said,

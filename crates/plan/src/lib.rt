@@ -1,5 +1,7 @@
 // Planning of bulk, interrupt and control transfers: document 01, "Planning transfers". No public function has a `requires`: what
 // cannot be planned is refused with 01's number, and a refusal alters nothing.
+#![tactic(auto)]
+
 mod control;
 mod data;
 mod refusals;

@@ -8,7 +8,7 @@ use crate::types::{ControlSetup, PlanAnswer, Recipient, RequestType};
 use words::Direction;
 
 // The eight bytes of a setup packet, or zeros where the length is refused.
-#[derive(Drop)]
+#[derive(Clone, Copy)]
 pub struct SetupPacket {
     pub answer: PlanAnswer,
     pub bytes: [u8; 8],

@@ -4,7 +4,7 @@ ghost use Rattle.words.specs.Words.{packets};
 ghost use Rattle.plan.specs.Planning.{chunk_of, split_of};
 
 // The lengths of the descriptors of a transfer: `count` of them, each `chunk` but the last, which is `last`.
-#[derive(Drop)]
+#[derive(Clone, Copy)]
 pub struct DmaSplit {
     pub chunk: u32,
     pub count: u64,

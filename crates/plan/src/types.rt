@@ -3,14 +3,14 @@ use crate::toggle::DataToggle;
 use ring::Speed;
 use words::Direction;
 
-#[derive(Drop)]
+#[derive(Clone, Copy)]
 pub enum DataKind {
     Bulk,
     Interrupt,
 }
 
 // A bulk or interrupt transfer of `len` bytes at `base`. `toggle` is the one that the last transfer of the endpoint left.
-#[derive(Drop)]
+#[derive(Clone, Copy)]
 pub struct DataRequest {
     pub kind: DataKind,
     pub direction: Direction,
@@ -25,7 +25,7 @@ pub struct DataRequest {
 }
 
 // A control transfer on endpoint 0.
-#[derive(Drop)]
+#[derive(Clone, Copy)]
 pub struct ControlRequest {
     pub direction: Direction,
     pub device: u8,
@@ -37,7 +37,7 @@ pub struct ControlRequest {
 }
 
 // USB 2.0, table 9-2: bmRequestType's type and recipient, bRequest, wValue, wIndex.
-#[derive(Drop)]
+#[derive(Clone, Copy)]
 pub enum RequestType {
     Standard,
     Class,
@@ -45,7 +45,7 @@ pub enum RequestType {
     Reserved,
 }
 
-#[derive(Drop)]
+#[derive(Clone, Copy)]
 pub enum Recipient {
     Device,
     Interface,
@@ -53,7 +53,7 @@ pub enum Recipient {
     Other,
 }
 
-#[derive(Drop)]
+#[derive(Clone, Copy)]
 pub struct ControlSetup {
     pub request_type: RequestType,
     pub recipient: Recipient,
@@ -63,7 +63,7 @@ pub struct ControlSetup {
 }
 
 // What a stage is for. Only the setup stage has a descriptor of another form.
-#[derive(Drop)]
+#[derive(Clone, Copy)]
 pub enum Dwc2StageRole {
     Data,
     ControlSetup,
@@ -74,7 +74,7 @@ pub enum Dwc2StageRole {
 // One programming of a channel: `descs` descriptors from number `desc_base` of the caller's array on, for `len` bytes from
 // `dma_addr` on. Every descriptor but the last takes the chunk of the packet size that `hcchar` holds. The role is one byte wide and
 // stands last: in front, the rest of a stage would be copied from its second byte on, by loads that wait for the stores they cross.
-#[derive(Drop)]
+#[derive(Clone, Copy)]
 pub struct Dwc2TransferStage {
     pub hcchar: u32,
     pub hctsiz: u32,
@@ -86,7 +86,7 @@ pub struct Dwc2TransferStage {
 }
 
 // The answer of a planning call; Numbers.antt in specs/ has document 01's number for each.
-#[derive(Drop)]
+#[derive(Clone, Copy)]
 pub enum PlanAnswer {
     Planned,
     ShortBuffer,
@@ -97,7 +97,7 @@ pub enum PlanAnswer {
 }
 
 // The first `count` stages in the order in which they run, and the toggle that a transfer without a short packet leaves.
-#[derive(Drop)]
+#[derive(Clone, Copy)]
 pub struct Dwc2DataPlan {
     pub answer: PlanAnswer,
     pub toggle: DataToggle,
@@ -106,7 +106,7 @@ pub struct Dwc2DataPlan {
 }
 
 // Control data is at most 65,535 bytes, which one descriptor holds; where there is none, `data` is blank and not run.
-#[derive(Drop)]
+#[derive(Clone, Copy)]
 pub struct Dwc2ControlPlan {
     pub answer: PlanAnswer,
     pub has_data: bool,
@@ -116,7 +116,7 @@ pub struct Dwc2ControlPlan {
 }
 
 // The bytes that a finished stage moved.
-#[derive(Drop)]
+#[derive(Clone, Copy)]
 pub enum StageLength {
     Moved(u32),
     Refused(PlanAnswer),

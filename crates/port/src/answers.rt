@@ -9,7 +9,7 @@ use crate::tags::outcome_tagged;
 use session::{IsoAnswer, IsoChannelStart, IsoTransfer, ReclaimAnswer, SubmitAnswer};
 
 #[repr(C)]
-#[derive(Drop)]
+#[derive(Clone, Copy)]
 pub struct PortReply {
     pub refusal: u32,
     pub taken: u32,
@@ -17,7 +17,7 @@ pub struct PortReply {
 }
 
 #[repr(C)]
-#[derive(Drop)]
+#[derive(Clone, Copy)]
 pub struct PortReclaimed {
     pub refusal: u32,
     pub completed: u32,
@@ -31,7 +31,7 @@ pub struct PortReclaimed {
 }
 
 #[repr(C)]
-#[derive(Drop)]
+#[derive(Clone, Copy)]
 pub struct PortTransfer {
     pub base: u64,
     pub buffer_len: u32,
@@ -46,7 +46,7 @@ pub struct PortTransfer {
 }
 
 #[repr(C)]
-#[derive(Drop)]
+#[derive(Clone, Copy)]
 pub struct PortSubmitted {
     pub value: u64,
     pub refusal: u32,

@@ -1,4 +1,6 @@
 // The C interface: document 01, "What must change shape", and include/dwc2_port.h. A session crosses as bytes (docs/LAYOUT.md).
+#![tactic(auto)]
+
 mod answers;
 mod calls;
 mod cancel;

@@ -63,7 +63,7 @@ fn requests_in(bytes: &[u8]) -> u16
 }
 
 // What a walk over the requests in use finds: whether one is bad by the test that it makes and, where none is, the sum of their packets.
-#[derive(Drop)]
+#[derive(Clone, Copy)]
 pub(crate) struct Used {
     pub bad: bool,
     pub packets: usize,

@@ -15,7 +15,7 @@ use plan::{
 };
 
 #[repr(C)]
-#[derive(Drop)]
+#[derive(Clone, Copy)]
 pub struct PortSplit {
     pub count: u64,
     pub chunk: u32,
@@ -23,7 +23,7 @@ pub struct PortSplit {
 }
 
 #[repr(C)]
-#[derive(Drop)]
+#[derive(Clone, Copy)]
 pub struct PortDataRequest {
     pub base: u64,
     pub len: u64,
@@ -38,7 +38,7 @@ pub struct PortDataRequest {
 }
 
 #[repr(C)]
-#[derive(Drop)]
+#[derive(Clone, Copy)]
 pub struct PortDataPlan {
     pub refusal: u32,
     pub toggle: u32,
@@ -47,7 +47,7 @@ pub struct PortDataPlan {
 }
 
 #[repr(C)]
-#[derive(Drop)]
+#[derive(Clone, Copy)]
 pub struct PortControlRequest {
     pub len: u64,
     pub setup_dma: u64,
@@ -59,7 +59,7 @@ pub struct PortControlRequest {
 }
 
 #[repr(C)]
-#[derive(Drop)]
+#[derive(Clone, Copy)]
 pub struct PortControlPlan {
     pub refusal: u32,
     pub has_data: u32,

@@ -54,7 +54,7 @@ pub(crate) fn recover_at(bytes: &mut [u8], bad: bool, ring: &mut [u32]) -> PortR
 }
 
 // What a poll says: whether it took the event, and whether the channel is to halt.
-#[derive(Drop)]
+#[derive(Clone, Copy)]
 pub(crate) struct PollSaid {
     pub taken: bool,
     pub halt: bool,

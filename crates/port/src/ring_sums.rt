@@ -12,7 +12,7 @@ use words::Dwc2Pid;
 
 // `refusal` is 0 or the refusal number; refused, `value` is 0.
 #[repr(C)]
-#[derive(Drop)]
+#[derive(Clone, Copy)]
 pub struct PortNumber {
     pub refusal: u32,
     pub value: u32,
@@ -20,7 +20,7 @@ pub struct PortNumber {
 
 // The first `count` entries of the frame list, in the order of service; the others are 0.
 #[repr(C)]
-#[derive(Drop)]
+#[derive(Clone, Copy)]
 pub struct PortFrames {
     pub refusal: u32,
     pub count: u32,

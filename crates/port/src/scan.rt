@@ -15,7 +15,7 @@ use ring::{iso_max_xfer_size, iso_ring_size};
 use session::{is_bad_config, is_bad_plan, is_bad_request, is_bad_state, is_over_room};
 
 // The packets of all requests in use and of the pending ones, unless something was found bad.
-#[derive(Drop)]
+#[derive(Clone, Copy)]
 pub(crate) struct RequestSums {
     pub bad: bool,
     pub all: u32,

@@ -7,7 +7,7 @@ ghost use Rattle.port.specs.Tags.{direction_of};
 use crate::ring_sums::is_bad_direction;
 
 #[repr(C)]
-#[derive(Drop)]
+#[derive(Clone, Copy)]
 pub struct PortSetupPacket {
     pub refusal: u32,
     pub bytes: [u8; 8],

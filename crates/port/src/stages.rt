@@ -8,7 +8,7 @@ use crate::ring_sums::PortNumber;
 use plan::{Dwc2StageRole, Dwc2TransferStage, PlanAnswer, StageLength};
 
 #[repr(C)]
-#[derive(Drop)]
+#[derive(Clone, Copy)]
 pub struct PortStage {
     pub role: u32,
     pub hcchar: u32,

@@ -9,7 +9,7 @@ use session::{IsoFatal, IsoHaltReason, IsoMode, IsoOutcome, TransferStatus};
 use words::{Direction, Dwc2TransferFault};
 
 // A tag, with the fault and the interrupt word that go with it.
-#[derive(Drop)]
+#[derive(Clone, Copy)]
 pub(crate) struct Tagged {
     pub tag: u8,
     pub kind: u8,

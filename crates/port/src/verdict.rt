@@ -12,7 +12,7 @@ use crate::numbers::u16_at;
 use crate::plain::{is_empty, plain_sums, young_packets};
 use crate::scan::sums_at;
 
-#[derive(Drop)]
+#[derive(Clone, Copy)]
 pub(crate) struct Verdict {
     pub refusal: u16,
     pub bad: bool,

@@ -40,7 +40,7 @@ pub(crate) fn flag(yes: bool) -> u64 {
 }
 
 // How many numbers a line has, how many of them before its colon, and the place behind it in the text.
-#[derive(Drop)]
+#[derive(Clone, Copy)]
 pub(crate) struct Line {
     pub at: usize,
     pub count: usize,
@@ -48,7 +48,7 @@ pub(crate) struct Line {
 }
 
 // Whether all answers are the listed ones; where not, the place of the first that is another, what is listed, and what was answered.
-#[derive(Drop)]
+#[derive(Clone, Copy)]
 pub(crate) struct Verdict {
     pub same: bool,
     pub place: usize,

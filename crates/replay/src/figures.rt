@@ -2,7 +2,7 @@
 ghost use Rattle.std.specs.Prelude.{◌≤◌};
 
 // A place in a line: the number so far, whether one has begun, how many were read, and how many stood before the colon.
-#[derive(Drop)]
+#[derive(Clone, Copy)]
 pub(crate) struct Scan {
     pub value: u64,
     pub begun: bool,

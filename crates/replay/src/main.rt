@@ -3,6 +3,8 @@
 // (source document 000), and the model of document 01 agreed with the Rust at each of these calls. `oracle list --seed 1 | cmp - stdin`
 // shows whether it is still the same list. The head of the oracle's list.rs says what a line holds. Digits are 0 to 9 and A to F in
 // capitals, so that the names on a line are passed over.
+#![tactic(auto)]
+
 mod answers;
 mod digest;
 mod figures;

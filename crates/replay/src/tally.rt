@@ -4,7 +4,7 @@ use libc::STDOUT_FILENO;
 
 // How many lines were read, how many of them differ, and of the first of these: its number, which of its answers, what is listed, and
 // what was answered.
-#[derive(Drop)]
+#[derive(Clone, Copy)]
 pub(crate) struct Found {
     pub lines: u64,
     pub differ: u64,

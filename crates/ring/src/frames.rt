@@ -6,7 +6,7 @@ use crate::grid::at_least_one;
 use crate::speed::{Speed, at_speed};
 
 // The frame list has 64 entries. The first `count` bytes are the entries of one channel, in the order of service.
-#[derive(Drop)]
+#[derive(Clone, Copy)]
 pub struct IsoServiceFrames {
     pub count: u16,
     pub frames: [u8; 64],

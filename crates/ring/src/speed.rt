@@ -2,7 +2,7 @@
 ghost use Rattle.std.specs.Prelude.{◌≡◌, ◌≤◌, max};
 ghost use Rattle.ring.specs.RingSums.{at_speed, ring_size, packet_limit};
 
-#[derive(Drop)]
+#[derive(Clone, Copy)]
 pub enum Speed {
     High,
     Full,

@@ -1,5 +1,7 @@
 // The camera session: document 01, "The session". One endpoint, opened once; the session goes in as a value and comes back as one,
 // the descriptor ring is lent. No public function has a `requires`: what cannot be done is refused with 01's number.
+#![tactic(auto)]
+
 mod cancel;
 mod end;
 mod open;

@@ -8,7 +8,7 @@ use crate::tables::{blank_plan, blank_request};
 use crate::types::{IsoChannelState, IsoConfig, IsoFatal, IsoHead, OpenAnswer};
 use ring::iso_ring_size;
 
-#[derive(Drop)]
+#[derive(Clone, Copy)]
 pub struct Opened {
     pub answer: OpenAnswer,
     pub session: IsoChannelState,

@@ -13,7 +13,7 @@ use ring::{iso_max_packets, iso_max_xfer_size, iso_ring_size};
 
 // What one walk finds: whether the record is bad, and where it is not, the packets of all requests and of the pending ones, the
 // newest packet's slot, and a yes for each slot below 256 that a pending packet has.
-#[derive(Drop)]
+#[derive(Clone, Copy)]
 pub(crate) struct RecordScan {
     pub bad: bool,
     pub all: u32,

@@ -6,7 +6,7 @@ ghost use Rattle.session.specs.Poll.{reply, refused_reply};
 use crate::types::{IsoChannelState, IsoHaltReason, IsoOutcome};
 
 // What the interrupt handler left for the channel: whether there is an event, whether the port is gone, and the interrupt word.
-#[derive(Drop)]
+#[derive(Clone, Copy)]
 pub struct IsoEvent {
     pub reported: bool,
     pub unplugged: bool,
@@ -15,7 +15,7 @@ pub struct IsoEvent {
 
 // What a poll does: nothing, end the session, ask for a halt, wait for one, or settle; the oldest request at once where the
 // complete bit is set.
-#[derive(Drop)]
+#[derive(Clone, Copy)]
 pub enum PollWay {
     Nothing,
     End(IsoOutcome),
@@ -24,14 +24,14 @@ pub enum PollWay {
     Settle(bool),
 }
 
-#[derive(Drop)]
+#[derive(Clone, Copy)]
 pub enum IsoAnswer {
     Done,
     Refused(u16),
 }
 
 // The answer of a call, whether it took the event, whether it asks the caller to halt the channel, and the session.
-#[derive(Drop)]
+#[derive(Clone, Copy)]
 pub struct IsoReply {
     pub answer: IsoAnswer,
     pub taken: bool,
@@ -40,7 +40,7 @@ pub struct IsoReply {
 }
 
 // A completed request with its outcome, the bytes moved and its packets; or it is still pending; or a refusal.
-#[derive(Drop)]
+#[derive(Clone, Copy)]
 pub enum ReclaimAnswer {
     Completed(IsoOutcome, u32, u16),
     NotYet,
@@ -48,7 +48,7 @@ pub enum ReclaimAnswer {
 }
 
 // As `IsoReply`, with the answer of a reclaim.
-#[derive(Drop)]
+#[derive(Clone, Copy)]
 pub struct Reclaimed {
     pub answer: ReclaimAnswer,
     pub taken: bool,

@@ -4,7 +4,7 @@ use ring::IsoServiceFrames;
 
 // A request as the caller brings it, beside the lengths of its packets: what kind it is, its buffer, the frame readings, whether a
 // channel is to be had, whether the port is connected before programming and before enabling, and how many words may be stored.
-#[derive(Drop)]
+#[derive(Clone, Copy)]
 pub struct IsoTransfer {
     pub isochronous: bool,
     pub has_buffer: bool,
@@ -20,7 +20,7 @@ pub struct IsoTransfer {
 
 // What a submission asks of the session's tables: whether the record is bad, and where it is not, the packets of all requests and of
 // the pending ones, the slot of its first packet, and whether one of its slots is a pending request's. Small, since it is handed on.
-#[derive(Drop)]
+#[derive(Clone, Copy)]
 pub struct SubmitScan {
     pub bad: bool,
     pub all: u32,
@@ -31,7 +31,7 @@ pub struct SubmitScan {
 
 // The way that a submission goes: refused with nothing altered, refused with its number spent, unplugged at a gate, cut, or
 // accepted.
-#[derive(Drop)]
+#[derive(Clone, Copy)]
 pub enum SubmitWay {
     Refuse(u16),
     TooLong(u32),
@@ -42,7 +42,7 @@ pub enum SubmitWay {
     Accept,
 }
 
-#[derive(Drop)]
+#[derive(Clone, Copy)]
 pub enum SubmitAnswer {
     Accepted(u64),
     Cut,
@@ -51,7 +51,7 @@ pub enum SubmitAnswer {
 }
 
 // What the caller programs where the submission was the first; else not `first`, and zeros.
-#[derive(Drop)]
+#[derive(Clone, Copy)]
 pub struct IsoChannelStart {
     pub first: bool,
     pub hcchar: u32,
@@ -61,7 +61,7 @@ pub struct IsoChannelStart {
 }
 
 // The session stands first: behind a part that ends unaligned it would be copied twice.
-#[derive(Drop)]
+#[derive(Clone, Copy)]
 pub struct Submitted {
     pub session: IsoChannelState,
     pub answer: SubmitAnswer,
@@ -70,7 +70,7 @@ pub struct Submitted {
 
 // A submission as small things: what it answers, the numbers that it leaves, and the packets that it adds. Packet i of them has its
 // plan at `to` + i and the slot `insert` + i × `step` in a ring of `slots`.
-#[derive(Drop)]
+#[derive(Clone, Copy)]
 pub struct SubmitParts {
     pub answer: SubmitAnswer,
     pub start: IsoChannelStart,

@@ -3,14 +3,14 @@ use ring::Speed;
 use words::{Direction, Dwc2TransferFault};
 
 // Guarded mode adds refusal 13 and nothing else.
-#[derive(Drop)]
+#[derive(Clone, Copy)]
 pub enum IsoMode {
     Compatible,
     Guarded,
 }
 
 // One endpoint configuration, fixed at opening.
-#[derive(Drop)]
+#[derive(Clone, Copy)]
 pub struct IsoConfig {
     pub speed: Speed,
     pub direction: Direction,
@@ -23,27 +23,27 @@ pub struct IsoConfig {
 }
 
 // Why a session is ending.
-#[derive(Drop)]
+#[derive(Clone, Copy)]
 pub enum IsoHaltReason {
     Cancelled,
     Fault(Dwc2TransferFault, u32),
 }
 
 // None while the session runs.
-#[derive(Drop)]
+#[derive(Clone, Copy)]
 pub enum IsoFatal {
     Nothing,
     Reason(IsoHaltReason),
 }
 
-#[derive(Drop)]
+#[derive(Clone, Copy)]
 pub enum TransferStatus {
     Completed,
     Error,
 }
 
 // One packet in flight or not yet handed out: the length asked for, its slot, the length moved and how it ended.
-#[derive(Drop)]
+#[derive(Clone, Copy)]
 pub struct IsoPacketPlan {
     pub planned: u16,
     pub desc_index: u16,
@@ -52,7 +52,7 @@ pub struct IsoPacketPlan {
 }
 
 // How a completed request ended; a pending one has `Done` until it does.
-#[derive(Drop)]
+#[derive(Clone, Copy)]
 pub enum IsoOutcome {
     Done,
     Disconnected,
@@ -61,7 +61,7 @@ pub enum IsoOutcome {
     UnexpectedHalt(u32),
 }
 
-#[derive(Drop)]
+#[derive(Clone, Copy)]
 pub struct IsoRequest {
     pub id: u64,
     pub packets: u16,
@@ -70,7 +70,7 @@ pub struct IsoRequest {
 }
 
 // The numbers of a session: of `count` requests the first `done` are completed, the others pending.
-#[derive(Drop)]
+#[derive(Clone, Copy)]
 pub struct IsoHead {
     pub next_request_id: u64,
     pub live: bool,
@@ -82,7 +82,7 @@ pub struct IsoHead {
 
 // Requests stand in the order of submission, and the plans of all of them behind one another in the same order. What stands past
 // the counts is not read.
-#[derive(Drop)]
+#[derive(Clone, Copy)]
 pub struct IsoChannelState {
     pub cfg: IsoConfig,
     pub head: IsoHead,
@@ -91,7 +91,7 @@ pub struct IsoChannelState {
     pub plans: [IsoPacketPlan; 1024],
 }
 
-#[derive(Drop)]
+#[derive(Clone, Copy)]
 pub enum OpenAnswer {
     Opened,
     ShortRing,

@@ -11,7 +11,7 @@ use session::{
 };
 use words::Direction;
 
-#[derive(Drop)]
+#[derive(Clone, Copy)]
 pub(crate) struct Step {
     pub session: IsoChannelState,
     pub said: [u64; 9],

@@ -1,5 +1,7 @@
 // The session of document 01 played on a simulated controller: each answer on a line beside the number worked out by hand from
 // document 01. Yes is 1, no is 0, and a call that is not refused answers 0.
+#![tactic(auto)]
+
 mod answers;
 mod begin;
 mod calls;

@@ -134,7 +134,7 @@ pub(crate) const SCRIPT: [u32; 105] = [
     0,
 ];
 
-#[derive(Drop)]
+#[derive(Clone, Copy)]
 struct Act {
     kind: u32,
     a: u32,

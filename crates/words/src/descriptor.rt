@@ -6,7 +6,7 @@ ghost use Rattle.words.specs.Field.{get};
 use crate::numbers::{at_least_one, flag};
 use crate::types::Direction;
 
-#[derive(Drop)]
+#[derive(Clone, Copy)]
 pub struct DmaDescriptor {
     pub status: u32,
     pub paddr: u32,

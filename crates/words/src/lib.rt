@@ -1,4 +1,6 @@
 // Descriptor and register words: document 01, "Words". Every function is total: a value too wide for its field is cut to it.
+#![tactic(auto)]
+
 mod address;
 mod channel;
 mod descriptor;

@@ -1,5 +1,7 @@
 // Document 01's worked numbers through the code: each on a line beside what the code answers. The claim that the definitions
 // give them stands in proofs/Claim.antt.
+#![tactic(auto)]
+
 mod camera;
 mod planning;
 mod ring_sums;
