@@ -70,6 +70,7 @@ Holds es w k = get (entry es k).field w ≡ (entry es k).value % 2 ^ (entry es k
 
 -- the entries are read back over anything that lies below them
 read_above : (p lo : ℕ) (es : List Entry) → lo < 2 ^ p → T (ascending p es) → (k : ℕ) → k < length es → Holds es (lo + word es) k
+read_above p lo [] l h k b = elim b [ ]
 read_above p lo (e ∷ es) l h zero b =
     let f : Field = e.field in
     let v : ℕ = e.value % 2 ^ f.width in
