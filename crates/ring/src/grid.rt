@@ -1,13 +1,13 @@
 // The grid of slots that a channel visits: document 01, "Ring sums".
 ghost use Rattle.std.specs.Prelude.{◌≡◌, ◌<◌, max};
-ghost use Rattle.ring.specs.Gcd.{gcd as Gcd·gcd};
+ghost use Rattle.ring.specs.Gcd.{gcd};
 ghost use Rattle.ring.specs.RingSums.{ring_size, grid_step, capacity, grid_gap, grid_slot};
 
 use crate::speed::{Speed, iso_ring_size};
 
 // The greatest common divisor by Euclid's rule on remainders; 1 for 0 and 0, so that nothing divides by 0.
 pub fn gcd(a: u16, b: u16) -> u16
-    ensures { result ≡ Gcd·gcd a b }
+    ensures { result ≡ gcd a b }
 {
     if b == 0 {
         return at_least_one(a);

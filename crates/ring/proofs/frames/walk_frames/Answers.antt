@@ -1,15 +1,13 @@
 -- `walk_frames` writes the entries one after the other. The invariant: `count` entries stand at the front of the table, fewer than the steps
 -- that come round, and `frame` is the next of them. The measure is how many are left; the loop ends where the next would be the first.
-use Rattle.std.proofs.Common.{◌≡◌, ℕ, suc, ◌+◌, ◌-◌, ◌/◌, ◌%◌, ◌<◌, ◌≤◌, List, length, get_or, set, replicate, sym, ap, ◌∙◌, subst, ap₂, ⊎_elim, mod-lt, mod-eq_of_lt, eq-or-lt_of_le, zero-add, div-le_self, add-one, arith}
-use mathlib.Core.Path.{subst⁻¹}
+use Rattle.std.proofs.Common.{◌≡◌, ℕ, suc, ◌+◌, ◌/◌, ◌%◌, ◌<◌, ◌≤◌, List, length, get_or, set, replicate, sym, ap, ◌∙◌, subst, ap₂, ⊎_elim, mod-eq_of_lt, eq-or-lt_of_le, zero-add, div-le_self, add-one, arith}
 use lib.Seq.{paste, paste-zero, paste-suc}
 use Rattle.ring.specs.Gcd.{gcd}
 use Rattle.ring.specs.RingSums.{slot_at, slots_from, walk, frame_table}
 use Rattle.ring.specs.declared.frames.IsoServiceFrames.{IsoServiceFrames}
 use Rattle.ring.proofs.Lists.{paste-replicate}
 use Rattle.ring.proofs.Steps.{turns_pos, steps_apart, steps_round, walk_is, next_slot, first_slot, length-slots_from, get_or-slots_from}
-use Rattle.ring.proofs.frames.walk_frames.Statement.{statement}
-use Rattle.ring.proofs.frames.walk_frames.Tie as tie
+use Rattle.ring.proofs.frames.walk_frames.Goals as goal
 
 -- how many entries there are, which they are, and the table with the first of them
 abbrev turns : ℕ → ℕ
@@ -68,84 +66,32 @@ module _ (first step : ℕ) (below : first < 64) where
       ∙ ap (tabled (length (entries first step))) (paste-replicate 64 0 (entries first step))
       ∙ ap frame_table (sym (walk_is 64 step (omega arith) first 64 below (few step)))
 
-abbrev invariant-loop : tie.invariant-loop
-invariant-loop first step frames₀ count₀ frame₀ frames count frame =
-    (count < turns step) × (frame ≡ slot_at 64 first step count) × (frames ≡ written first step count)
-
-abbrev decreases-loop : tie.decreases-loop
-decreases-loop first step frames₀ count₀ frame₀ frames count frame = turns step - count
-
-loop-holds : tie.Need-loop-init invariant-loop decreases-loop
-loop-holds c =
+pub loop-frame-init : goal.loop-frame-init
+loop-frame-init c =
     let a = c.args in
     (turns_pos 64 a.step (omega arith), begins a.first a.step c.requires.0, paste-zero (replicate 64 0) 0 (entries a.first a.step))
 
-cast-at : tie.Need-overflow-cast-at invariant-loop decreases-loop
-cast-at c = omega (arith, few c.before.args.step)
-
--- an entry is below 64
-entry_below : (c : tie.At-loop invariant-loop decreases-loop) → c.loop.frame < 64
-entry_below c = subst⁻¹ (λ (x : ℕ). x < 64) c.loop.invariant.1 (mod-lt _ (omega arith))
-
-cast-frames : tie.Need-overflow-cast-frames invariant-loop decreases-loop
-cast-frames c = omega (arith, entry_below c)
-
-array-write-frames : tie.Need-array-write-frames invariant-loop decreases-loop
-array-write-frames c = omega (arith, few c.before.args.step)
-
-add-count : tie.Need-overflow-add-count invariant-loop decreases-loop
-add-count c = omega (arith, few c.before.args.step)
-
-add-frame : tie.Need-overflow-add-frame invariant-loop decreases-loop
-add-frame c = omega (arith, entry_below c)
-
--- the next frame is the next entry, and the table has the present one
-next_frame :
-    (c : tie.At-loop invariant-loop decreases-loop)
-    → (c.loop.frame + c.before.args.step) % 64 ≡ slot_at 64 c.before.args.first c.before.args.step (c.loop.count + 1)
-next_frame c =
-    ap (λ (x : ℕ). (x + c.before.args.step) % 64) c.loop.invariant.1
-    ∙ goes_on c.before.args.first c.before.args.step c.before.requires.0 c.loop.count
-
-next_table :
-    (c : tie.At-loop invariant-loop decreases-loop)
-    → set c.loop.frames c.loop.count c.loop.frame ≡ written c.before.args.first c.before.args.step (c.loop.count + 1)
-next_table c =
-    ap₂ (λ (l : List ℕ) (x : ℕ). set l c.loop.count x) c.loop.invariant.2 c.loop.invariant.1
-    ∙ stores c.before.args.first c.before.args.step c.before.requires.0 c.loop.count c.loop.invariant.0
-
-loop-less : tie.Need-loop-smaller invariant-loop decreases-loop
-loop-less c = omega arith
-
-loop-again : tie.Need-loop-preserved invariant-loop decreases-loop
-loop-again c =
-    let a = c.before.before.args in (
-      not_last a.first a.step c.before.before.requires.0 c.before.loop.count c.before.loop.invariant.0
-          (λ same. c.loop-test.false (next_frame c.before ∙ same)),
-      next_frame c.before,
-      next_table c.before,
+pub loop-frame-preserved : goal.loop-frame-preserved
+loop-frame-preserved c =
+    let next_frame : (c.loop-frame.frame + c.args.step) % 64 ≡ slot_at 64 c.args.first c.args.step (c.loop-frame.count + 1) = ap (λ (x : ℕ). (x + c.args.step) % 64) c.loop-frame.invariant.1
+    ∙ goes_on c.args.first c.args.step c.requires.0 c.loop-frame.count in
+    let next_table : set c.loop-frame.frames c.loop-frame.count c.loop-frame.frame ≡ written c.args.first c.args.step (c.loop-frame.count + 1) = ap₂ (λ (l : List ℕ) (x : ℕ). set l c.loop-frame.count x) c.loop-frame.invariant.2 c.loop-frame.invariant.1
+    ∙ stores c.args.first c.args.step c.requires.0 c.loop-frame.count c.loop-frame.invariant.0 in
+    let a = c.args in (
+      not_last a.first a.step c.requires.0 c.loop-frame.count c.loop-frame.invariant.0
+          (λ same. c.if-frame-first.false (next_frame ∙ same)),
+      next_frame,
+      next_table,
     )
 
-returns : tie.Need-returns invariant-loop decreases-loop
+pub returns : goal.returns
 returns c =
-    let a = c.before.before.args in
-    let all : c.before.loop.count + 1 ≡ turns a.step =
-    last a.first a.step c.before.before.requires.0 c.before.loop.count c.before.loop.invariant.0
-    (sym (next_frame c.before) ∙ c.loop-test.true) in
-    ap (tabled (c.before.loop.count + 1)) (next_table c.before) ∙ table a.first a.step c.before.before.requires.0 (c.before.loop.count + 1) all
-
-pub walk-frames-spec : {M : Type 1} → statement M
-walk-frames-spec =
-    tie.close
-    (tie.spec
-    invariant-loop
-    decreases-loop
-    loop-holds
-    cast-at
-    cast-frames
-    array-write-frames
-    add-count
-    add-frame
-    loop-less
-    loop-again
-    returns)
+    let next_frame : (c.loop-frame.frame + c.args.step) % 64 ≡ slot_at 64 c.args.first c.args.step (c.loop-frame.count + 1) = ap (λ (x : ℕ). (x + c.args.step) % 64) c.loop-frame.invariant.1
+    ∙ goes_on c.args.first c.args.step c.requires.0 c.loop-frame.count in
+    let next_table : set c.loop-frame.frames c.loop-frame.count c.loop-frame.frame ≡ written c.args.first c.args.step (c.loop-frame.count + 1) = ap₂ (λ (l : List ℕ) (x : ℕ). set l c.loop-frame.count x) c.loop-frame.invariant.2 c.loop-frame.invariant.1
+    ∙ stores c.args.first c.args.step c.requires.0 c.loop-frame.count c.loop-frame.invariant.0 in
+    let a = c.args in
+    let all : c.loop-frame.count + 1 ≡ turns a.step =
+    last a.first a.step c.requires.0 c.loop-frame.count c.loop-frame.invariant.0
+    (sym next_frame ∙ c.if-frame-first.true) in
+    ap (tabled (c.loop-frame.count + 1)) next_table ∙ table a.first a.step c.requires.0 (c.loop-frame.count + 1) all
