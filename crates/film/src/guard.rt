@@ -1,9 +1,11 @@
 // Scene 2: document 01's P6, in both modes.
 use crate::page::page;
+use std::io;
 
 // The two acts of serving are one row.
-pub(crate) fn scene(cells: &[u8], seen: &[u64]) {
+pub(crate) fn scene(rt: &impl Print, cells: &[u8], seen: &[u64]) -> io::Result<()> {
     page(
+        rt,
         b"2. A slot whose result nobody has collected
    Full speed, interval 1 (document 01, P6). Request 1 stands in slots 10 and 11,
    and the controller has served both: 100 bytes came, then 192. Now two packets

@@ -2,10 +2,12 @@
 use crate::disk::request;
 use crate::print::{say, text};
 use plan::{DataToggle, Dwc2TransferStage};
+use std::io;
 use std::num::wrapping_sub_u32;
 
-pub(crate) fn scene() {
+pub(crate) fn scene(rt: &impl Print) -> io::Result<()> {
     text(
+        rt,
         b"4. A long write in two stages
    33423361 bytes to a disk, packets of 512, buffer at 0x10000000 (document 01,
    P7). A stage is at most 256 descriptors, and one of them holds 130560 bytes: the
@@ -14,43 +16,52 @@ pub(crate) fn scene() {
    address is the buffer's plus all lengths before it.
 
 ",
-    );
+    )?;
     let mut array = [0u32; 2048];
     let plan = plan::data_stages(request(33_423_361, DataToggle::data0()), &mut array);
     let made = plan.stages;
-    stages(made, &array);
+    stages(rt, made, &array)
 }
 
-fn stages(stages: [Dwc2TransferStage; 4], array: &[u32; 2048]) {
+fn stages(rt: &impl Print, stages: [Dwc2TransferStage; 4], array: &[u32; 2048]) -> io::Result<()> {
     let first = stages[0];
     let second = stages[1];
     stage(
+        rt,
         b"stage 1     bytes #, descriptors #
   first     address 0x@  status 0x@
   last      address 0x@  status 0x@
 ",
         first,
         array,
-    );
+    )?;
     stage(
+        rt,
         b"stage 2     bytes #, descriptors #
   first     address 0x@  status 0x@
 
 ",
         second,
         array,
-    );
+    )?;
     let between = wrapping_sub_u32(second.dma_addr, first.dma_addr);
     say(
+        rt,
         b"   Stage 2 starts # bytes behind stage 1.\n\n",
         &[between as u64],
-    );
+    )
 }
 
-fn stage(marked: &[u8], stage: Dwc2TransferStage, array: &[u32; 2048]) {
+fn stage(
+    rt: &impl Print,
+    marked: &[u8],
+    stage: Dwc2TransferStage,
+    array: &[u32; 2048],
+) -> io::Result<()> {
     let first = stage.desc_base % 1024;
     let last = last_of(first, stage.descs);
     say(
+        rt,
         marked,
         &[
             stage.len as u64,
@@ -60,7 +71,7 @@ fn stage(marked: &[u8], stage: Dwc2TransferStage, array: &[u32; 2048]) {
             word_of(array, last, 1),
             word_of(array, last, 0),
         ],
-    );
+    )
 }
 
 fn last_of(first: u32, descs: u32) -> u32 {

@@ -16,9 +16,11 @@ mod step;
 mod submission;
 
 use crate::print::text;
+use std::io;
 
-fn main() {
+fn main(rt: HostRuntime) -> io::Result<()> {
     text(
+        &rt,
         b"The film: a camera's ring and a disk's transfers on a simulated USB host
 controller, played by the library. It is proved against document 01, the paper of
 rules. Three earlier drivers failed in the field; the scenes say how, and why it
@@ -37,19 +39,20 @@ to the controller. One character below is one slot:
   ^  in the line below: the cursor, where a next packet would follow
 
 ",
-    );
+    )?;
     let mut cells = [0u8; play::CELLS];
     let mut seen = [0u64; play::NUMBERS];
     play::play(&mut cells, &mut seen);
-    submission::scene(&cells, &seen);
-    guard::scene(&cells, &seen);
-    cut::scene(&cells, &seen);
-    long::scene();
-    empty::scene();
+    submission::scene(&rt, &cells, &seen)?;
+    guard::scene(&rt, &cells, &seen)?;
+    cut::scene(&rt, &cells, &seen)?;
+    long::scene(&rt)?;
+    empty::scene(&rt)?;
     text(
+        &rt,
         b"Read next: README.md, what stands where; docs/READING.md, a way through the rules
 and the proofs; include/dwc2_port.h, these calls from C; crates/session/specs, the
 rules that this film keeps, as the prover reads them.
 ",
-    );
+    )
 }

@@ -2,18 +2,26 @@
 use crate::play::{BYTES, CHANGED, CURSOR, KIND, NUMBER, WORD, seen_at};
 use crate::print::{between, say, text};
 use crate::step::{ACCEPTED, CUT, DISCONNECTED, DONE, REFUSED};
+use std::io;
 
 // The page begins before an act: `>` goes to the next act, `_` to the next 64 slots of its ring. `$` prints 64 cells, `=` 32 from slot
 // 20 on, and `%` the cursor below; `&` what the call said, `~` that in one word, `?` the word that it stored. Of two runs side by side
 // `|` prints 32 cells each and `+` the cursors; `]` is what was said in the right one.
-pub(crate) fn page(marked: &[u8], act: usize, cells: &[u8], seen: &[u64]) {
+pub(crate) fn page(
+    rt: &impl Print,
+    marked: &[u8],
+    act: usize,
+    cells: &[u8],
+    seen: &[u64],
+) -> io::Result<()> {
     let mut row = act % 32 * 4;
     let mut i: usize = 0;
     while i < marked.len() {
         row = moved(marked[i], row);
-        mark(marked[i], row, cells, seen);
+        mark(rt, marked[i], row, cells, seen)?;
         i += 1;
     }
+    Ok(())
 }
 
 // Four rows of 64 cells an act.
@@ -25,101 +33,102 @@ fn moved(byte: u8, row: usize) -> usize {
     }
 }
 
-fn mark(byte: u8, row: usize, cells: &[u8], seen: &[u64]) {
+fn mark(rt: &impl Print, byte: u8, row: usize, cells: &[u8], seen: &[u64]) -> io::Result<()> {
     match byte {
-        b'>' | b'_' => {}
-        b'$' => part(cells, row, 0, 64),
-        b'=' => part(cells, row, 20, 32),
-        b'|' => pair(cells, row),
-        _ => said(byte, row / 4, seen),
+        b'>' | b'_' => Ok(()),
+        b'$' => part(rt, cells, row, 0, 64),
+        b'=' => part(rt, cells, row, 20, 32),
+        b'|' => pair(rt, cells, row),
+        _ => said(rt, byte, row / 4, seen),
     }
 }
 
-fn said(byte: u8, act: usize, seen: &[u64]) {
+fn said(rt: &impl Print, byte: u8, act: usize, seen: &[u64]) -> io::Result<()> {
     match byte {
-        b'%' => cursor(seen, act),
-        b'+' => cursors(seen, act),
-        b'&' => answer(seen, act),
-        b']' => answer(seen, act % 32 + 8),
-        b'~' => outcome(seen_at(seen, act, KIND)),
-        b'?' => last_word(seen_at(seen, act, CHANGED), seen_at(seen, act, WORD)),
-        _ => text(&[byte]),
+        b'%' => cursor(rt, seen, act),
+        b'+' => cursors(rt, seen, act),
+        b'&' => answer(rt, seen, act),
+        b']' => answer(rt, seen, act % 32 + 8),
+        b'~' => outcome(rt, seen_at(seen, act, KIND)),
+        b'?' => last_word(rt, seen_at(seen, act, CHANGED), seen_at(seen, act, WORD)),
+        _ => text(rt, &[byte]),
     }
 }
 
 // The remainders bound the place, and change nothing.
-fn part(cells: &[u8], row: usize, slot: usize, n: usize) {
+fn part(rt: &impl Print, cells: &[u8], row: usize, slot: usize, n: usize) -> io::Result<()> {
     let from = row % 128 * 64 + slot % 64;
-    between(cells, from, from + n % 65);
+    between(rt, cells, from, from + n % 65)
 }
 
 // The right run stands eight acts behind the left one.
-fn pair(cells: &[u8], row: usize) {
-    part(cells, row, 0, 32);
-    spaces(0, 4);
-    part(cells, row % 128 + 32, 0, 32);
+fn pair(rt: &impl Print, cells: &[u8], row: usize) -> io::Result<()> {
+    part(rt, cells, row, 0, 32)?;
+    spaces(rt, 0, 4)?;
+    part(rt, cells, row % 128 + 32, 0, 32)
 }
 
-fn spaces(from: usize, to: usize) {
+fn spaces(rt: &impl Print, from: usize, to: usize) -> io::Result<()> {
     between(
+        rt,
         b"                                                                                ",
         from,
         to,
-    );
+    )
 }
 
-fn cursor(seen: &[u64], act: usize) {
-    spaces(0, (seen_at(seen, act, CURSOR) % 64) as usize);
-    text(b"^");
+fn cursor(rt: &impl Print, seen: &[u64], act: usize) -> io::Result<()> {
+    spaces(rt, 0, (seen_at(seen, act, CURSOR) % 64) as usize)?;
+    text(rt, b"^")
 }
 
-fn cursors(seen: &[u64], act: usize) {
+fn cursors(rt: &impl Print, seen: &[u64], act: usize) -> io::Result<()> {
     let left = (seen_at(seen, act, CURSOR) % 32) as usize;
-    cursor(seen, act);
-    spaces(left + 1, 36);
-    cursor(seen, act % 32 + 8);
+    cursor(rt, seen, act)?;
+    spaces(rt, left + 1, 36)?;
+    cursor(rt, seen, act % 32 + 8)
 }
 
-fn answer(seen: &[u64], act: usize) {
+fn answer(rt: &impl Print, seen: &[u64], act: usize) -> io::Result<()> {
     let kind = seen_at(seen, act, KIND);
     let numbers = [seen_at(seen, act, NUMBER), seen_at(seen, act, BYTES)];
     if kind == ACCEPTED {
-        return say(b"accepted as request #", &numbers);
+        return say(rt, b"accepted as request #", &numbers);
     }
     if kind == REFUSED {
-        return say(b"refused with #", &numbers);
+        return say(rt, b"refused with #", &numbers);
     }
-    ended(kind, &numbers)
+    ended(rt, kind, &numbers)
 }
 
-fn ended(kind: u64, numbers: &[u64]) {
+fn ended(rt: &impl Print, kind: u64, numbers: &[u64]) -> io::Result<()> {
     if kind == DONE {
-        return say(b"request # done, # bytes", numbers);
+        return say(rt, b"request # done, # bytes", numbers);
     }
     if kind == DISCONNECTED {
-        return say(b"request # disconnected", numbers);
+        return say(rt, b"request # disconnected", numbers);
     }
-    say(b"request # not done", numbers)
+    say(rt, b"request # not done", numbers)
 }
 
-fn outcome(kind: u64) {
+fn outcome(rt: &impl Print, kind: u64) -> io::Result<()> {
     if kind == CUT {
-        return text(b"cut       ");
+        return text(rt, b"cut       ");
     }
     if kind == ACCEPTED {
-        return text(b"accepted  ");
+        return text(rt, b"accepted  ");
     }
-    text(b"refused   ")
+    text(rt, b"refused   ")
 }
 
 // Of a slot's two words the second is its address.
-fn last_word(changed: u64, value: u64) {
+fn last_word(rt: &impl Print, changed: u64, value: u64) -> io::Result<()> {
     let numbers = [changed / 2, value];
     if changed >= 512 {
-        return text(b"none");
+        return text(rt, b"none");
     }
     if changed % 2 == 1 {
-        return say(b"slot #, address 0x@", &numbers);
+        return say(rt, b"slot #, address 0x@", &numbers);
     }
-    say(b"slot #, status  0x@", &numbers)
+    say(rt, b"slot #, status  0x@", &numbers)
 }

@@ -1,32 +1,33 @@
 // Printing a text, and a text with numbers in it.
-use libc::STDOUT_FILENO;
+use std::io;
 
-pub(crate) fn text(bytes: &[u8]) {
-    io::write_all(STDOUT_FILENO, bytes);
+pub(crate) fn text(rt: &impl Print, bytes: &[u8]) -> io::Result<()> {
+    rt.write_all(bytes)
 }
 
 // At each `#` stands the next of the numbers, at each `@` the next one as a word.
-pub(crate) fn say(bytes: &[u8], numbers: &[u64]) {
+pub(crate) fn say(rt: &impl Print, bytes: &[u8], numbers: &[u64]) -> io::Result<()> {
     let mut next: usize = 0;
     let mut i: usize = 0;
     while i < bytes.len() {
-        next = put(bytes[i], numbers, next);
+        next = put(rt, bytes[i], numbers, next)?;
         i += 1;
     }
+    Ok(())
 }
 
 // One character; how many numbers are printed then, of at most eight.
-fn put(byte: u8, numbers: &[u64], next: usize) -> usize {
+fn put(rt: &impl Print, byte: u8, numbers: &[u64], next: usize) -> io::Result<usize> {
     if byte == b'#' {
-        io::print_decimal(STDOUT_FILENO, number_at(numbers, next));
-        return next % 8 + 1;
+        rt.print(number_at(numbers, next))?;
+        return Ok(next % 8 + 1);
     }
     if byte == b'@' {
-        io::print_hex(STDOUT_FILENO, number_at(numbers, next), 8);
-        return next % 8 + 1;
+        print!(rt; "{:08x}", number_at(numbers, next))?;
+        return Ok(next % 8 + 1);
     }
-    io::write_all(STDOUT_FILENO, &[byte]);
-    next
+    rt.write_all(&[byte])?;
+    Ok(next)
 }
 
 fn number_at(numbers: &[u64], at: usize) -> u64 {
@@ -37,12 +38,12 @@ fn number_at(numbers: &[u64], at: usize) -> u64 {
 }
 
 // The bytes from one place to another.
-pub(crate) fn between(bytes: &[u8], from: usize, to: usize) {
+pub(crate) fn between(rt: &impl Print, bytes: &[u8], from: usize, to: usize) -> io::Result<()> {
     if from > to {
-        return;
+        return Ok(());
     }
     if to > bytes.len() {
-        return;
+        return Ok(());
     }
-    io::write_all(STDOUT_FILENO, &bytes[from..to]);
+    rt.write_all(&bytes[from..to])
 }

@@ -1,8 +1,10 @@
 // Scene 1: document 01's P8, word by word.
 use crate::page::page;
+use std::io;
 
-pub(crate) fn scene(cells: &[u8], seen: &[u64]) {
+pub(crate) fn scene(rt: &impl Print, cells: &[u8], seen: &[u64]) -> io::Result<()> {
     page(
+        rt,
         b"1. A submission, word by word
    High speed, interval 8, three packets of 192 bytes at address 0x1000 (document
    01, P8). The same call is made seven times, with one word more that it may

@@ -5,6 +5,8 @@
 // capitals, so that the names on a line are passed over.
 #![tactic(auto)]
 
+ghost use Rattle.std.specs.Prelude.{IfOk, ◌≤◌, length};
+
 mod answers;
 mod digest;
 mod figures;
@@ -14,16 +16,32 @@ mod ring_calls;
 mod session_calls;
 mod tally;
 
-use libc::STDIN_FILENO;
+use std::io;
+use std::io::Read;
 
-fn main() {
+fn main(rt: HostRuntime) -> io::Result<()> {
     let mut text = [0u8; 300000];
-    run(&mut text);
+    run(&rt, &mut text)
 }
 
-fn run(text: &mut [u8]) {
-    let n = io::read_full(STDIN_FILENO, text);
+fn run(rt: &(impl Input + Print), text: &mut [u8]) -> io::Result<()> {
+    let n = read_full(&mut rt.reader(), text)?;
     let mut counts = [0u64; 25];
     let found = lines::replay(&text[..n], &mut counts);
-    tally::tell(&counts, found);
+    tally::tell(rt, &counts, found)
+}
+
+// Reads until the text is full or the input ends; how many bytes it read.
+fn read_full(input: &mut impl Read, text: &mut [u8]) -> io::Result<usize>
+    ensures { IfOk result (λ n. n ≤ length text.new) }
+{
+    let mut done = 0;
+    while done < text.len() {
+        let n = input.read(&mut text[done..])?;
+        if n == 0 {
+            return Ok(done);
+        }
+        done += n;
+    }
+    Ok(done)
 }

@@ -1,6 +1,6 @@
 // What was replayed and what differed, as lines.
 use crate::answers::{Verdict, flag, nth, put};
-use libc::STDOUT_FILENO;
+use std::io;
 
 // How many lines were read, how many of them differ, and of the first of these: its number, which of its answers, what is listed, and
 // what was answered.
@@ -56,28 +56,29 @@ pub(crate) fn bump(counts: &mut [u64], kind: u64) {
 }
 
 // Names with a semicolon behind each, in the order of the kinds' numbers: each on a line with its count.
-fn rows(names: &[u8], counts: &[u64]) {
+fn rows(rt: &impl Print, names: &[u8], counts: &[u64]) -> io::Result<()> {
     let mut kind: usize = 0;
     let mut at: usize = 0;
     while at < names.len() {
-        kind = shown(names[at], counts, kind);
+        kind = shown(rt, names[at], counts, kind)?;
         at += 1;
     }
+    Ok(())
 }
 
-fn shown(byte: u8, counts: &[u64], kind: usize) -> usize {
+fn shown(rt: &impl Print, byte: u8, counts: &[u64], kind: usize) -> io::Result<usize> {
     if byte == b';' {
-        part(b" ", nth(counts, kind));
-        io::write_all(STDOUT_FILENO, b"\n");
-        return std::num::wrapping_add_usize(kind, 1);
+        part(rt, b" ", nth(counts, kind))?;
+        println!(rt)?;
+        return Ok(std::num::wrapping_add_usize(kind, 1));
     }
-    io::write_all(STDOUT_FILENO, &[byte]);
-    kind
+    rt.write_all(&[byte])?;
+    Ok(kind)
 }
 
-fn part(name: &[u8], n: u64) {
-    io::write_all(STDOUT_FILENO, name);
-    io::print_decimal(STDOUT_FILENO, n);
+fn part(rt: &impl Print, name: &[u8], n: u64) -> io::Result<()> {
+    rt.write_all(name)?;
+    rt.print(n)
 }
 
 // All lines but those that store a word of the controller's.
@@ -94,23 +95,24 @@ fn calls(counts: &[u64]) -> u64 {
     )
 }
 
-pub(crate) fn tell(counts: &[u64], found: Found) {
+pub(crate) fn tell(rt: &impl Print, counts: &[u64], found: Found) -> io::Result<()> {
     rows(
+        rt,
         b"open;submit;poll;reclaim;cancel;reset;store into the ring;ring size;packet limit;gcd;capacity;starting frame;slot of a frame;grid;SCHINFO;frame list;PID;next number;data plan;control plan;stage read back;setup bytes;split;packets;store into the array;",
         counts,
-    );
+    )?;
     if found.differ > 0 {
-        first(found);
+        first(rt, found)?;
     }
-    part(b"", found.differ);
-    part(b" of ", calls(counts));
-    io::write_all(STDOUT_FILENO, b" calls differ\n");
+    part(rt, b"", found.differ)?;
+    part(rt, b" of ", calls(counts))?;
+    println!(rt; " calls differ")
 }
 
-fn first(found: Found) {
-    part(b"first: line ", found.line);
-    part(b", answer ", found.place as u64);
-    part(b", listed ", found.listed);
-    part(b", answered ", found.said);
-    io::write_all(STDOUT_FILENO, b"\n");
+fn first(rt: &impl Print, found: Found) -> io::Result<()> {
+    part(rt, b"first: line ", found.line)?;
+    part(rt, b", answer ", found.place as u64)?;
+    part(rt, b", listed ", found.listed)?;
+    part(rt, b", answered ", found.said)?;
+    println!(rt)
 }

@@ -11,8 +11,13 @@ mod field;
 mod play;
 mod row;
 
-fn main() {
+use std::io;
+
+fn main(rt: HostRuntime) -> io::Result<()> {
     let mut seen = [0u64; 1750];
     play::all(&play::SCRIPT, &mut seen);
-    row::last(begin::all(&seen) + fault::all(&seen) + end::all(&seen));
+    row::last(
+        &rt,
+        begin::all(&rt, &seen)? + fault::all(&rt, &seen)? + end::all(&rt, &seen)?,
+    )
 }

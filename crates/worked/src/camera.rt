@@ -1,5 +1,5 @@
 // P6 and P8: a camera's requests on its ring.
-ghost use Rattle.std.specs.Prelude.{◌≡◌, [], ◌∷◌, ◌≤◌, ◌*◌, ◌/◌, length, get_or};
+ghost use Rattle.std.specs.Prelude.{◌≡◌, IfOk, [], ◌∷◌, ◌≤◌, ◌*◌, ◌/◌, length, get_or};
 ghost use Rattle.ring.specs.declared.speed.Speed.TheVariants.{Full};
 ghost use Rattle.session.specs.Numbers.{submit_number};
 ghost use Rattle.session.specs.Session.{idle_session};
@@ -10,85 +10,109 @@ ghost use Rattle.worked.specs.Camera.{camera_config, camera_transfer, use_mark, 
 use crate::row::row;
 use ring::Speed;
 use session::{IsoChannelState, IsoConfig, IsoMode, IsoTransfer, SubmitAnswer};
+use std::io;
 use words::Direction;
 
 // Words 20 and 22 are the status of slots 10 and 11. Served, they are zero here, so that the slots in use after the second call are
 // those that it wrote.
-pub(crate) fn p6() -> u32
-    ensures { result ≤ 6 }
+pub(crate) fn p6(rt: &impl Print) -> io::Result<u32>
+    ensures { IfOk result (λ n. n ≤ 6) }
 {
-    compatible() + guarded()
+    Ok(compatible(rt)? + guarded(rt)?)
 }
 
-fn compatible() -> u32
-    ensures { result ≤ 5 }
+fn compatible(rt: &impl Print) -> io::Result<u32>
+    ensures { IfOk result (λ n. n ≤ 5) }
 {
     let mut ring = [0u32; 128];
     let session = pending(IsoMode::Compatible, &mut ring);
-    let given = row(b"P6 pending, first slot", 10, nth_in_use(&ring, 0) as u64)
-        + row(b"P6 pending, second slot", 11, nth_in_use(&ring, 1) as u64)
-        + row(b"P6 pending, cursor", 12, session.head.td_last as u64);
+    let given = row(
+        rt,
+        b"P6 pending, first slot",
+        10,
+        nth_in_use(&ring, 0) as u64,
+    )? + row(
+        rt,
+        b"P6 pending, second slot",
+        11,
+        nth_in_use(&ring, 1) as u64,
+    )? + row(rt, b"P6 pending, cursor", 12, session.head.td_last as u64)?;
     ring[20] = 0;
     ring[22] = 0;
     again(session, &mut ring);
-    given
-        + row(
-            b"P6 compatible, raw 71, first slot",
-            9,
-            nth_in_use(&ring, 0) as u64,
-        )
-        + row(
-            b"P6 compatible, raw 71, second slot",
-            10,
-            nth_in_use(&ring, 1) as u64,
-        )
+    Ok(
+        given
+            + row(
+                rt,
+                b"P6 compatible, raw 71, first slot",
+                9,
+                nth_in_use(&ring, 0) as u64,
+            )?
+            + row(
+                rt,
+                b"P6 compatible, raw 71, second slot",
+                10,
+                nth_in_use(&ring, 1) as u64,
+            )?,
+    )
 }
 
-fn guarded() -> u32
-    ensures { result ≤ 1 }
+fn guarded(rt: &impl Print) -> io::Result<u32>
+    ensures { IfOk result (λ n. n ≤ 1) }
 {
     let mut ring = [0u32; 128];
     let session = pending(IsoMode::Guarded, &mut ring);
     ring[20] = 0;
     ring[22] = 0;
     let answer = again(session, &mut ring);
-    row(b"P6 guarded, raw 71, refusal", 13, refusal_of(answer))
+    row(rt, b"P6 guarded, raw 71, refusal", 13, refusal_of(answer))
 }
 
-pub(crate) fn p8() -> u32
-    ensures { result ≤ 7 }
+pub(crate) fn p8(rt: &impl Print) -> io::Result<u32>
+    ensures { IfOk result (λ n. n ≤ 7) }
 {
     let mut ring = [0u32; 512];
     let opened = IsoChannelState::open(config(Speed::High, 8, IsoMode::Compatible), &mut ring);
     let done = opened
         .session
         .submit(transfer(16, 576), &[192, 192, 192], &mut ring);
-    placed(&ring) + row(b"P8 cursor", 48, done.session.head.td_last as u64) + statuses(&ring)
+    Ok(
+        placed(rt, &ring)?
+            + row(rt, b"P8 cursor", 48, done.session.head.td_last as u64)?
+            + statuses(rt, &ring)?,
+    )
 }
 
-fn placed(ring: &[u32]) -> u32
-    ensures { result ≤ 3 }
+fn placed(rt: &impl Print, ring: &[u32]) -> io::Result<u32>
+    ensures { IfOk result (λ n. n ≤ 3) }
 {
-    row(b"P8 first slot", 24, nth_in_use(ring, 0) as u64)
-        + row(b"P8 second slot", 32, nth_in_use(ring, 1) as u64)
-        + row(b"P8 third slot", 40, nth_in_use(ring, 2) as u64)
+    Ok(
+        row(rt, b"P8 first slot", 24, nth_in_use(ring, 0) as u64)?
+            + row(rt, b"P8 second slot", 32, nth_in_use(ring, 1) as u64)?
+            + row(rt, b"P8 third slot", 40, nth_in_use(ring, 2) as u64)?,
+    )
 }
 
-fn statuses(ring: &[u32]) -> u32
-    ensures { result ≤ 3 }
+fn statuses(rt: &impl Print, ring: &[u32]) -> io::Result<u32>
+    ensures { IfOk result (λ n. n ≤ 3) }
 {
-    row(
-        b"P8 status of slot 24, 0x800000C0",
-        2_147_483_840,
-        status_of(ring, 24),
-    ) + row(
-        b"P8 status of slot 32, 0x800000C0",
-        2_147_483_840,
-        status_of(ring, 32),
-    ) + row(
-        b"P8 status of slot 40, 0x820000C0",
-        2_181_038_272,
-        status_of(ring, 40),
+    Ok(
+        row(
+            rt,
+            b"P8 status of slot 24, 0x800000C0",
+            2_147_483_840,
+            status_of(ring, 24),
+        )? + row(
+            rt,
+            b"P8 status of slot 32, 0x800000C0",
+            2_147_483_840,
+            status_of(ring, 32),
+        )? + row(
+            rt,
+            b"P8 status of slot 40, 0x820000C0",
+            2_181_038_272,
+            status_of(ring, 40),
+        )?,
     )
 }
 

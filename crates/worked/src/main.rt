@@ -7,7 +7,9 @@ mod planning;
 mod ring_sums;
 mod row;
 
-fn main() {
-    let wrong = ring_sums::all() + planning::p7() + camera::p6() + camera::p8();
-    row::last(wrong);
+use std::io;
+
+fn main(rt: HostRuntime) -> io::Result<()> {
+    let wrong = ring_sums::all(&rt)? + planning::p7(&rt)? + camera::p6(&rt)? + camera::p8(&rt)?;
+    row::last(&rt, wrong)
 }

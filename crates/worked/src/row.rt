@@ -1,27 +1,23 @@
 // One printed line for each worked number.
-ghost use Rattle.std.specs.Prelude.{◌≤◌};
+ghost use Rattle.std.specs.Prelude.{IfOk, ◌≤◌};
 
-use libc::STDOUT_FILENO;
+use std::io;
 
 // Prints what document 01 says and what the code answers; 1 where they differ.
-pub(crate) fn row(what: &[u8], says: u64, answers: u64) -> u32
-    ensures { result ≤ 1 }
+pub(crate) fn row(rt: &impl Print, what: &[u8], says: u64, answers: u64) -> io::Result<u32>
+    ensures { IfOk result (λ n. n ≤ 1) }
 {
-    io::write_all(STDOUT_FILENO, what);
-    io::write_all(STDOUT_FILENO, b": document 01 says ");
-    io::print_decimal(STDOUT_FILENO, says);
-    io::write_all(STDOUT_FILENO, b", the code answers ");
-    io::print_decimal(STDOUT_FILENO, answers);
+    rt.write_all(what)?;
+    print!(rt; ": document 01 says {says}, the code answers {answers}")?;
     if says == answers {
-        io::write_all(STDOUT_FILENO, b"\n");
-        return 0;
+        println!(rt)?;
+        return Ok(0);
     }
-    io::write_all(STDOUT_FILENO, b": WRONG\n");
-    1
+    println!(rt; ": WRONG")?;
+    Ok(1)
 }
 
 // The last line: how many differ.
-pub(crate) fn last(wrong: u32) {
-    io::print_decimal(STDOUT_FILENO, wrong as u64);
-    io::write_all(STDOUT_FILENO, b" differ from document 01\n");
+pub(crate) fn last(rt: &impl Print, wrong: u32) -> io::Result<()> {
+    println!(rt; "{wrong} differ from document 01")
 }
