@@ -1,15 +1,12 @@
 -- The invariant: the record is sound, and draining from here gives the goal. The measure is how many requests are pending.
 use mathlib.Core.Path.{◌≡◌, ◌∙◌, sym, ap, refl, subst⁻¹}
 use mathlib.Core.Bool.{Bool, true, false, ◌||◌}
-use Prim.Native.Nat.{◌+◌, ◌-◌}
 use native.Mathlib.Omega.{arith}
-use lib.ListN.{length}
 use Rattle.session.specs.declared.types.IsoChannelState.{IsoChannelState}
 use Rattle.session.specs.Record.{is_bad_record}
 use Rattle.session.specs.Settle.{is_served, settled_session, Drained, drained}
 use Rattle.session.proofs.Laws.Record.{Sound, held_sound, not_bad}
-use Rattle.session.proofs.Laws.Settled.{settled_sound, drained_past, drained_stop, drained_next}
-use borrow.Author.Tests.{not-true, not-false}
+use Rattle.session.proofs.Laws.Settled.{settled_sound, drained_stop, drained_next}
 use Rattle.session.proofs.types.IsoChannelState.drain_serviced.Goals as goal
 
 pub loop-self-init : goal.loop-self-init

@@ -10,9 +10,8 @@ use Rattle.session.specs.Session.{ring_words}
 use Rattle.session.specs.Record.{is_bad_record}
 use Rattle.session.specs.Reclaim.{is_short}
 use Rattle.session.proofs.Laws.Record.{Sound, held_sound, not_bad}
-use Rattle.session.proofs.Laws.Reclaims.{reclaim_short, reclaim_bad, reclaim_done, looked_sound}
+use Rattle.session.proofs.Laws.Reclaims.{looked_sound}
 use Rattle.words.proofs.Laws.Tests.{neither}
-use borrow.Author.Rules.{rules}
 use Rattle.session.proofs.types.IsoChannelState.reclaim.Goals as goal
 
 pub look_again-requires : goal.look_again-requires

@@ -207,14 +207,14 @@ loop-j-preserved c =
           ∙ plan_next c.iso_max_xfer_size-limit.result
           c.iso_ring_size-slots.result now.j all s.plans (omega arith) fits good,
       elim c.if-all-pending-2.branch [
-        then-all-pending-2 w ↦ ap length w.held-is ∙ simp length-set now.invariant.2
-      | else-all-pending-2 w ↦ ap length w.held-is ∙ now.invariant.2
+        | then-all-pending-2 w ↦ ap length w.held-is ∙ simp length-set now.invariant.2
+        | else-all-pending-2 w ↦ ap length w.held-is ∙ now.invariant.2
       ],
       λ k h. elim c.if-all-pending-2.branch [
-        then-all-pending-2 w ↦
+        | then-all-pending-2 w ↦
             mark_pending now.held c.if-all-pending-2.held s.plans from now.j all slot k w.if-all-pending-2.true (omega arith) fits refl
             (mark_set now.held c.if-all-pending-2.held slot k h now.invariant.2 w.held-is)
-      | else-all-pending-2 w ↦ mark_done now.held c.if-all-pending-2.held s.plans from now.j all k w.if-all-pending-2.false w.held-is
+        | else-all-pending-2 w ↦ mark_done now.held c.if-all-pending-2.held s.plans from now.j all k w.if-all-pending-2.false w.held-is
       ]
           ∙ now.invariant.3 k h,
     )

@@ -5,7 +5,6 @@ use native.Mathlib.Omega.{arith}
 use Rattle.session.specs.Record.{is_bad_record}
 use Rattle.session.proofs.Laws.Record.{Sound, held_sound}
 use Rattle.session.proofs.Laws.Settled.{oldest_in, ring_by_lem, settled_by_lem}
-use borrow.Author.Rules.{rules}
 use Rattle.session.proofs.types.IsoChannelState.settle_request.Goals as goal
 
 pub returns : goal.returns

@@ -1,19 +1,14 @@
 -- `submit` is its parts, with the tables written in place. The invariant: only the plans change, and those still to be put, put into the table as it
 -- is now, give the goal; `slot` is the next packet's. The measure is how many packets are left.
-use mathlib.Core.Path.{◌≡◌, refl, ◌∙◌, sym, ap, ap₂}
-use mathlib.Core.Logic.{inl, inr, ⊎_elim}
-use Prim.Native.Nat.{ℕ, ◌+◌, ◌-◌, ◌%◌, ◌≤◌, ◌<◌}
+use mathlib.Core.Path.{◌≡◌, ◌∙◌, ap, ap₂}
+use mathlib.Core.Logic.{inl, inr}
+use Prim.Native.Nat.{ℕ, ◌+◌, ◌%◌, ◌≤◌, ◌<◌}
 use native.Mathlib.Omega.{arith}
-use lib.ListN.{length, get_or, set, take, drop, length-map, length-set}
-use lib.Seq.{sets}
-use borrow.Author.Rules.{rules}
-use Rattle.ring.specs.RingSums.{slot_at}
-use Rattle.ring.proofs.Steps.{first_slot}
+use lib.ListN.{length, get_or, set, length-set}
 use Rattle.ring.proofs.Stores.{some_slots, slot_more}
 use Rattle.session.specs.declared.types.IsoChannelState.{IsoChannelState}
 use Rattle.session.specs.declared.types.IsoRequest.{IsoRequest}
 use Rattle.session.specs.Scan.{whole, Asked}
-use Rattle.session.specs.Place.{plans_from}
 use Rattle.session.specs.Parts.{plans_with, Fitting, Parted}
 use Rattle.session.proofs.Laws.Stores.{new_plan, plans_next, plans_past}
 use Rattle.session.proofs.Laws.Submits.{Pushed, joined_by}
