@@ -1,8 +1,7 @@
 -- Refused at the bytes, answered at once where there is nothing to do, or read from the number of the usual way.
-use Rattle.std.proofs.Common.{ℕ, not, eqb, refl, ap, ◌∙◌, arith, rules}
+use Rattle.std.proofs.Common.{ℕ, not, eqb, refl, ap, ◌∙◌}
 use Rattle.port.specs.Calls.{event_of}
-use Rattle.port.proofs.Laws.Loaded.{short_layout}
-use Rattle.port.proofs.Laws.Polling.{poll_refused, poll_done}
+use Rattle.port.proofs.Laws.Polling.{poll_done}
 use Rattle.port.proofs.calls.dwc2_iso_poll.Goals as goal
 
 pub returns-then-is_void : goal.returns-then-is_void

@@ -1,8 +1,7 @@
 -- What is found plain passes every test of both checks; where something is not, nothing is promised.
-use Rattle.std.proofs.Common.{◌≡◌, ℕ, ◌+◌, ◌-◌, ◌≤◌, false, ltb, drop, sym, refl, ap, ◌∙◌, ap₂, arith, rules, ltb-false, le-ltb}
+use Rattle.std.proofs.Common.{◌≡◌, ℕ, ◌+◌, ◌-◌, ◌≤◌, false, ltb, drop, sym, refl, ap, ◌∙◌, ap₂, arith, ltb-false, le-ltb}
 use mathlib.Core.Path.{subst⁻¹}
 use lib.Seq.{slice}
-use borrow.Author.Tests.{not-false}
 use Rattle.words.proofs.Laws.Tests.{neither}
 use Rattle.ring.specs.RingSums.{packet_limit}
 use Rattle.session.specs.declared.types.IsoConfig.{IsoConfig}
@@ -14,7 +13,6 @@ use Rattle.session.proofs.Laws.Tests.{none}
 use Rattle.port.specs.Layout.{any_of, session_of}
 use Rattle.port.specs.Scan.{is_bad_request_entry, is_bad_plan_entry, is_unsound, PlainFront}
 use Rattle.port.proofs.Laws.Placed.{config_there, head_there, requests_many}
-use Rattle.port.proofs.Laws.Scans.{never}
 use Rattle.port.proofs.Laws.Sounds.{is_bad_numbers, numbers_test, sums_test, counts, by_plans, empty_all, empty_pending, empty_good, good_sounded}
 use Rattle.port.proofs.Laws.Tables.{any_split}
 use Rattle.port.proofs.plain.plain_sums.Goals as goal
@@ -35,31 +33,6 @@ returns-then-head-eq0 c =
     let size = c.iso_ring_size-slots.ensures ∙ ap slots config in
     numbers_test (session_of c.args.bytes.now) config head
     (sym plain.lasting) size refl state.ensures tests in
-    let all_is : let xs = c.args.bytes.now in
-    c.plain_requests-used.result.packets ≡ all_packets (session_of xs) = let xs = c.args.bytes.now in
-    let head = head_is in
-    c.plain_requests-used.ensures.1 ∙ ap (λ (h : IsoHead). packets_of (slice 0 h.count (session_of xs).requests)) head in
-    let split : let xs = c.args.bytes.now in
-    c.plain_requests-used.result.packets ≡ c.done_packets-before.result + pending_packets (session_of xs) = let xs = c.args.bytes.now in
-    let s = session_of xs in
-    let within = counts xs numbers in
-    let head = head_is in
-    let done = c.done_packets-before.ensures ∙ ap (λ (h : IsoHead). packets_of (slice 0 h.done s.requests)) head in
-    all_is
-    ∙ packets_split s.head.done s.head.count s.requests within.0 (omega (arith, within.1, requests_many xs))
-    ∙ ap (λ (n : ℕ). n + pending_packets s) (sym done) in
-    let pending_is : let xs = c.args.bytes.now in
-    c.plain_requests-used.result.packets - c.done_packets-before.result ≡ pending_packets (session_of xs) = omega (arith, split) in
-    let few : c.plain_requests-used.result.packets ≤ 1024 = let used = c.plain_requests-used.result in
-    ltb-false 1024 used.packets (neither used.bad (ltb 1024 used.packets) c.if-used.false).1 in
-    let sums : is_bad_sums (session_of c.args.bytes.now) ≡ false = let xs = c.args.bytes.now in
-    let config = config_is in
-    let all = all_is in
-    let pending = pending_is in
-    let within = few in
-    let fits = (c.are_plain_packets.ensures c.if-are_plain_packets.true).0 in
-    sym (sums_test (session_of xs) config all pending refl) ∙ none
-    (le-ltb 1024 c.plain_requests-used.result.packets within) fits in
     let xs = c.args.bytes.now in
     let head = head_is in
     let empty = sym (ap (λ (h : IsoHead). h.count) head) ∙ c.if-head-eq0.true in
@@ -89,8 +62,6 @@ plain_requests-used-requires c =
     (head.done ≤ head.count) × (head.count ≤ 64) = let xs = c.args.bytes.now in
     let head = head_is in
     subst⁻¹ (λ (h : IsoHead). (h.done ≤ h.count) × (h.count ≤ 64)) head (counts xs numbers) in
-    let few : c.plain_requests-used.result.packets ≤ 1024 = let used = c.plain_requests-used.result in
-    ltb-false 1024 used.packets (neither used.bad (ltb 1024 used.packets) c.if-used.false).1 in
     (c.requires, in_range.1)
 
 pub done_packets-before-requires : goal.done_packets-before-requires
@@ -112,9 +83,7 @@ done_packets-before-requires c =
     let in_range : let head = c.head_at-head.result in
     (head.done ≤ head.count) × (head.count ≤ 64) = let xs = c.args.bytes.now in
     let head = head_is in
-    subst⁻¹ (λ (h : IsoHead). (h.done ≤ h.count) × (h.count ≤ 64)) head (counts xs numbers) in
-    let few : c.plain_requests-used.result.packets ≤ 1024 = let used = c.plain_requests-used.result in
-    ltb-false 1024 used.packets (neither used.bad (ltb 1024 used.packets) c.if-used.false).1 in (
+    subst⁻¹ (λ (h : IsoHead). (h.done ≤ h.count) × (h.count ≤ 64)) head (counts xs numbers) in (
       c.requires,
       omega (arith, in_range),
       c.plain_requests-used.ensures.1,
@@ -149,8 +118,6 @@ overflow_sub-pending c =
     all_is
     ∙ packets_split s.head.done s.head.count s.requests within.0 (omega (arith, within.1, requests_many xs))
     ∙ ap (λ (n : ℕ). n + pending_packets s) (sym done) in
-    let few : c.plain_requests-used.result.packets ≤ 1024 = let used = c.plain_requests-used.result in
-    ltb-false 1024 used.packets (neither used.bad (ltb 1024 used.packets) c.if-used.false).1 in
     omega (arith, split)
 
 pub overflow_cast-before : goal.overflow_cast-before

@@ -1,6 +1,5 @@
 -- Refused at the bytes, a kind that names nothing, or submitted where the bytes stand: a law for each way out.
-use Rattle.std.proofs.Common.{sym, ◌∙◌, rules}
-use Rattle.port.proofs.Laws.Requests.{submit_refused_lem, submit_kind, submit_done}
+use Rattle.port.proofs.Laws.Requests.{submit_refused_lem, submit_done}
 use Rattle.port.proofs.requests.dwc2_iso_submit.Goals as goal
 
 pub returns-then-verdict-ne0 : goal.returns-then-verdict-ne0

@@ -1,5 +1,4 @@
 -- Plain, or what the whole walk tells.
-use Rattle.std.proofs.Common.{rules}
 use Rattle.port.proofs.Laws.Verdict.{told_good}
 use Rattle.port.proofs.verdict.verdict_plain.Goals as goal
 
