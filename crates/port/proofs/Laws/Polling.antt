@@ -1,6 +1,6 @@
 -- Which way a poll goes in the common cases, and when nothing is settled; what it answers and leaves, and the same by bytes.
 use Rattle.std.proofs.Common.{◌≡◌, ℕ, ◌+◌, ◌-◌, ◌*◌, ◌/◌, ◌%◌, Bool, true, false, not, ◌&&◌, ◌||◌, eqb, ltb, List, length, get_or, sym, refl, ap, ◌∙◌, subst, ap₂, arith, ne_eqb}
-use mathlib.Core.Bool.{or_true}
+use mathlib.Core.Bool.{or-true}
 use Rattle.words.specs.Words.{is_set, active, complete, halted, hcint_fault}
 use Rattle.words.specs.declared.types.HcintFault.{HcintFault}
 use Rattle.words.specs.declared.types.HcintFault.TheVariants as fault
@@ -138,7 +138,7 @@ module _ (s : IsoChannelState) (e : IsoEvent) (ring : List ℕ) where
 
   pub still_unreported : e.reported ≡ false → Still s e ring
   still_unreported off =
-      let q : quiet ≡ true = ap (λ (r : Bool). not s.head.live || not r) off ∙ or_true (not s.head.live) in
+      let q : quiet ≡ true = ap (λ (r : Bool). not s.head.live || not r) off ∙ or-true (not s.head.live) in
       still_by (quiet_way s e q) q refl refl
 
   pub still_calm :

@@ -85,7 +85,7 @@ plans_put {n} {m} {to} {xs} {now} {next} {s} enough k [] ends fits e =
 plans_put {n} {m} {to} {xs} {now} {next} {s} enough k (p ∷ ps) ends fits e =
     let on : 1320 + 7 * m + length (plan_bytes p) ≡ 1320 + 7 * suc m = omega (arith, length_plan p) in
     let one : List ℕ = sets now (1320 + 7 * m) (plan_bytes p) in
-    plans_put enough (next_plan {next = one} enough k p (omega arith) refl) ps (omega arith) fits
+    plans_put {m = suc m} enough (next_plan {next = one} enough k p (omega arith) refl) ps (omega arith) fits
     (e
     ∙ sym (sets_append (plan_bytes p) now (1320 + 7 * m) (table_bytes plan_bytes ps))
     ∙ ap (λ (i : ℕ). sets one i (table_bytes plan_bytes ps)) on)

@@ -1,0 +1,13 @@
+-- Fields written one behind the other: one law says that together they are the request's bytes.
+use Rattle.port.proofs.Laws.Entries.{request_put}
+use Rattle.port.proofs.entries.put_request.Goals as goal
+
+pub returns : goal.returns
+returns c =
+    let a =
+    c.args in
+    request_put a.bytes.now a.at a.request c.outcome_tagged.result
+    c.put_u64.ensures
+    c.put_u32.ensures
+    c.put_u16.ensures c.outcome_tagged.ensures
+    c.put_tagged.ensures
