@@ -1,5 +1,5 @@
 /*
- * The C interface of the DWC2 descriptor-DMA planner and camera session (crate `port`, x86-64 archive by `rt staticlib port`).
+ * The C interface of the DWC2 descriptor-DMA planner and camera session (crate `port`; `scripts/archive` makes the x86-64 archive).
  *
  * Every function answers for every input and alters nothing but what is said here. There is no heap, no lock, no register and no
  * global state. Each lent array is a pointer and a count of its elements; the pointer is aligned for its elements and not null

@@ -5,8 +5,11 @@ pub mod Facts
 pub mod Guarded
 pub mod GuardedMode
 pub mod HandedOut
+pub mod Held
 pub mod Kept
 pub mod Places
+pub mod Recovery
 pub mod Reset
 pub mod Results
+pub mod Settled
 pub mod WellFormed

@@ -21,7 +21,7 @@ use Rattle.laws.specs.Run.{State, Recover, still_put, recover, step}
 use Rattle.laws.specs.Demand3.{slot_of_plan}
 use Rattle.laws.specs.Invariant.{Fits, Numbered, Invariant}
 use Rattle.laws.proofs.Lists.{distinct_none}
-use Rattle.laws.proofs.Calls.Ending.{recovery}
+use Rattle.laws.proofs.Calls.Recovery.{recovery}
 use Rattle.laws.proofs.Fitting.{ring_long}
 use Rattle.laws.proofs.Keeping.{Keeps, left_invariant, id_of, numbered_same}
 

@@ -23,7 +23,8 @@ use Rattle.session.specs.Way.{submit_way}
 use Rattle.session.specs.Submit.{answer_of}
 use Rattle.session.specs.Poll.{recovered, recovered_ring}
 use Rattle.laws.proofs.Calls.Facts.{accept_admitted, accept_gates, accept_if, cut_if, cut_ring, whole_ring, whole_session}
-use Rattle.laws.proofs.Calls.Ending.{recovery, recovery_answers, recovery_idle, recovery_zeroes, recovery_fails, recovery_keeps}
+use Rattle.laws.proofs.Calls.Recovery.{recovery}
+use Rattle.laws.proofs.Calls.Ending.{recovery_answers, recovery_idle, recovery_zeroes, recovery_fails, recovery_keeps}
 use Rattle.session.proofs.Laws.Record.{not_bad}
 use Rattle.ring.proofs.Stores.{length_stored, whole_plan}
 use Rattle.session.proofs.Laws.Admitted.{Admitted}

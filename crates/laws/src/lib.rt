@@ -1,3 +1,2 @@
 // No code: what holds over every run of a camera session. Definitions stand in specs/, theorems in proofs/.
 #![tactic(auto)]
-

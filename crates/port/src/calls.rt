@@ -18,8 +18,7 @@ use crate::verdict::{verdict_at, verdict_more, verdict_of, verdict_whole};
 use session::IsoEvent;
 
 // It calls the walks itself: with `verdict_at` as their only caller they would become a part of it, which then were too long for the calls.
-#[unsafe(no_mangle)]
-pub extern "C" fn dwc2_iso_check(session: &[u8]) -> u32
+pub fn dwc2_iso_check(session: &[u8]) -> u32
     ensures { result ≡ check_by session.now }
 {
     if session.len() < 8_488 {
@@ -39,8 +38,7 @@ pub extern "C" fn dwc2_iso_check(session: &[u8]) -> u32
 }
 
 // An empty session, which is what a reset is for, is told and reset before a walk is called. Any other is refused or rare, and the whole walk decides.
-#[unsafe(no_mangle)]
-pub extern "C" fn dwc2_iso_reset(session: &mut [u8]) -> PortReply
+pub fn dwc2_iso_reset(session: &mut [u8]) -> PortReply
     ensures { (result ≡ reply_by session.old reset_reply)
         × (session.new ≡ bytes_by session.old (λ (s : IsoChannelState). (reset_reply s).session)) }
 {
@@ -96,8 +94,7 @@ fn cancel_more(session: &mut [u8], id: u64) -> u64
 
 // Few requests are looked at in the call itself; where one is completed, or there are many, the usual way is taken at once. It is called from several
 // places: from one alone it would become a part of the call, and its registers were saved here.
-#[unsafe(no_mangle)]
-pub extern "C" fn dwc2_iso_cancel(session: &mut [u8], id: u64) -> PortReply
+pub fn dwc2_iso_cancel(session: &mut [u8], id: u64) -> PortReply
     ensures { (result ≡ reply_by session.old (λ (s : IsoChannelState). cancelled s id))
         × (session.new ≡ bytes_by session.old (λ (s : IsoChannelState). (cancelled s id).session)) }
 {
@@ -116,8 +113,7 @@ pub extern "C" fn dwc2_iso_cancel(session: &mut [u8], id: u64) -> PortReply
     reply_of(cancel_more(session, id))
 }
 
-#[unsafe(no_mangle)]
-pub extern "C" fn dwc2_iso_recover(session: &mut [u8], ring: &mut [u32]) -> PortReply
+pub fn dwc2_iso_recover(session: &mut [u8], ring: &mut [u32]) -> PortReply
     ensures { (result ≡ reply_by session.old (λ (s : IsoChannelState). recovered s (length ring.old)))
         × (session.new
         ≡ bytes_by session.old (λ (s : IsoChannelState). (recovered s (length ring.old)).session))
@@ -171,8 +167,7 @@ fn reply_still(taken: u32) -> PortReply
 
 // Without an event and without requests, as between two recordings, there is nothing to save a register for. Few requests are looked at in the call
 // itself. The usual way is called from two places: from one alone it would become a part of the call.
-#[unsafe(no_mangle)]
-pub extern "C" fn dwc2_iso_poll(
+pub fn dwc2_iso_poll(
     session: &mut [u8],
     ring: &mut [u32],
     reported: u32,
@@ -205,8 +200,7 @@ pub extern "C" fn dwc2_iso_poll(
     reply_of(poll_more(session, ring, reported, unplugged, hcint))
 }
 
-#[unsafe(no_mangle)]
-pub extern "C" fn dwc2_iso_reclaim(
+pub fn dwc2_iso_reclaim(
     session: &mut [u8],
     ring: &mut [u32],
     results: &mut [u64],

@@ -78,15 +78,13 @@ fn split_numbers(s: DmaSplit) -> PortSplit
     }
 }
 
-#[unsafe(no_mangle)]
-pub extern "C" fn dwc2_split_dma_lengths(len: u64, max_packet_size: u16) -> PortSplit
+pub fn dwc2_split_dma_lengths(len: u64, max_packet_size: u16) -> PortSplit
     ensures { result ≡ split_numbers (split_of len max_packet_size) }
 {
     split_numbers(plan::split_dma_lengths(len, max_packet_size))
 }
 
-#[unsafe(no_mangle)]
-pub extern "C" fn dwc2_packet_count(len: u64, max_packet_size: u16) -> u64
+pub fn dwc2_packet_count(len: u64, max_packet_size: u16) -> u64
     ensures { result ≡ packets len max_packet_size }
 {
     plan::packet_count(len, max_packet_size)
@@ -154,8 +152,7 @@ fn unnamed_data() -> PortDataPlan
     }
 }
 
-#[unsafe(no_mangle)]
-pub extern "C" fn dwc2_data_stages(request: PortDataRequest, array: &mut [u32]) -> PortDataPlan
+pub fn dwc2_data_stages(request: PortDataRequest, array: &mut [u32]) -> PortDataPlan
     ensures { (result ≡ data_plan_numbers request (length array.old)) × (array.new ≡ data_array_after request array.old) }
 {
     if is_bad_data(request) {
@@ -204,11 +201,7 @@ fn unnamed_control() -> PortControlPlan
     }
 }
 
-#[unsafe(no_mangle)]
-pub extern "C" fn dwc2_build_control_plan(
-    request: PortControlRequest,
-    array: &mut [u32],
-) -> PortControlPlan
+pub fn dwc2_build_control_plan(request: PortControlRequest, array: &mut [u32]) -> PortControlPlan
     ensures { (result ≡ control_plan_numbers request (length array.old)) × (array.new ≡ control_array_after request array.old) }
 {
     if is_bad_direction(request.direction) {

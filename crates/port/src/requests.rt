@@ -34,8 +34,7 @@ fn config_of(
 }
 
 // Refused or not, the session becomes an idle one of what was offered; it is written where it stands and made nowhere else.
-#[unsafe(no_mangle)]
-pub extern "C" fn dwc2_iso_open(
+pub fn dwc2_iso_open(
     session: &mut [u8],
     ring: &mut [u32],
     speed: u8,
@@ -85,8 +84,7 @@ pub extern "C" fn dwc2_iso_open(
     0
 }
 
-#[unsafe(no_mangle)]
-pub extern "C" fn dwc2_iso_submit(
+pub fn dwc2_iso_submit(
     session: &mut [u8],
     ring: &mut [u32],
     lengths: &[u32],

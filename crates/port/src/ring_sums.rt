@@ -52,8 +52,7 @@ pub(crate) fn is_bad_direction(direction: u8) -> bool
     direction > 1
 }
 
-#[unsafe(no_mangle)]
-pub extern "C" fn dwc2_iso_ring_size(speed: u8) -> PortNumber
+pub fn dwc2_iso_ring_size(speed: u8) -> PortNumber
     ensures { result ≡ number_unless (is_bad_speed speed) (ring_size (speed_of speed)) }
 {
     number_unless(
@@ -62,8 +61,7 @@ pub extern "C" fn dwc2_iso_ring_size(speed: u8) -> PortNumber
     )
 }
 
-#[unsafe(no_mangle)]
-pub extern "C" fn dwc2_iso_max_xfer_size(speed: u8) -> PortNumber
+pub fn dwc2_iso_max_xfer_size(speed: u8) -> PortNumber
     ensures { result ≡ number_unless (is_bad_speed speed) (packet_limit (speed_of speed)) }
 {
     number_unless(
@@ -72,15 +70,13 @@ pub extern "C" fn dwc2_iso_max_xfer_size(speed: u8) -> PortNumber
     )
 }
 
-#[unsafe(no_mangle)]
-pub extern "C" fn dwc2_gcd(a: u16, b: u16) -> u16
+pub fn dwc2_gcd(a: u16, b: u16) -> u16
     ensures { result ≡ Gcd·gcd a b }
 {
     ring::gcd(a, b)
 }
 
-#[unsafe(no_mangle)]
-pub extern "C" fn dwc2_iso_max_packets(interval: u16, speed: u8) -> PortNumber
+pub fn dwc2_iso_max_packets(interval: u16, speed: u8) -> PortNumber
     ensures { result ≡ number_unless (is_bad_speed speed) (capacity interval (ring_size (speed_of speed))) }
 {
     number_unless(
@@ -89,8 +85,7 @@ pub extern "C" fn dwc2_iso_max_packets(interval: u16, speed: u8) -> PortNumber
     )
 }
 
-#[unsafe(no_mangle)]
-pub extern "C" fn dwc2_iso_starting_frame(raw_frame: u32, speed: u8) -> PortNumber
+pub fn dwc2_iso_starting_frame(raw_frame: u32, speed: u8) -> PortNumber
     ensures { result ≡ number_unless (is_bad_speed speed) (starting_frame (speed_of speed) raw_frame) }
 {
     number_unless(
@@ -99,8 +94,7 @@ pub extern "C" fn dwc2_iso_starting_frame(raw_frame: u32, speed: u8) -> PortNumb
     )
 }
 
-#[unsafe(no_mangle)]
-pub extern "C" fn dwc2_frame_to_desc_idx(speed: u8, full_frame: u32) -> PortNumber
+pub fn dwc2_frame_to_desc_idx(speed: u8, full_frame: u32) -> PortNumber
     ensures { result ≡ number_unless (is_bad_speed speed) (frame_slot (speed_of speed) full_frame) }
 {
     number_unless(
@@ -109,20 +103,13 @@ pub extern "C" fn dwc2_frame_to_desc_idx(speed: u8, full_frame: u32) -> PortNumb
     )
 }
 
-#[unsafe(no_mangle)]
-pub extern "C" fn dwc2_advance_along_grid(
-    td_last: u16,
-    target: u16,
-    interval: u16,
-    ring: u16,
-) -> u16
+pub fn dwc2_advance_along_grid(td_last: u16, target: u16, interval: u16, ring: u16) -> u16
     ensures { result ≡ grid_slot td_last target interval ring }
 {
     ring::advance_along_grid(td_last, target, interval, ring)
 }
 
-#[unsafe(no_mangle)]
-pub extern "C" fn dwc2_iso_schinfo(speed: u8, interval: u16) -> PortNumber
+pub fn dwc2_iso_schinfo(speed: u8, interval: u16) -> PortNumber
     ensures { result ≡ number_unless (is_bad_speed speed) (schinfo (speed_of speed) interval) }
 {
     number_unless(
@@ -144,8 +131,7 @@ fn pid_number(pid: Dwc2Pid) -> u32
     }
 }
 
-#[unsafe(no_mangle)]
-pub extern "C" fn dwc2_iso_pid(speed: u8, direction: u8, mult: u8) -> PortNumber
+pub fn dwc2_iso_pid(speed: u8, direction: u8, mult: u8) -> PortNumber
     ensures { result ≡ number_unless (is_bad_speed speed || is_bad_direction direction) (pid_number (pid_of (speed_of speed) (direction_of direction) mult)) }
 {
     number_unless(
@@ -154,8 +140,7 @@ pub extern "C" fn dwc2_iso_pid(speed: u8, direction: u8, mult: u8) -> PortNumber
     )
 }
 
-#[unsafe(no_mangle)]
-pub extern "C" fn dwc2_next_request_id(id: u64) -> u64
+pub fn dwc2_next_request_id(id: u64) -> u64
     ensures { result ≡ next_number id }
 {
     ring::next_request_id(id)
@@ -180,12 +165,7 @@ fn frames_unless(bad: bool, t: IsoServiceFrames) -> PortFrames
     }
 }
 
-#[unsafe(no_mangle)]
-pub extern "C" fn dwc2_iso_service_frames(
-    start_full_frame: u32,
-    interval: u16,
-    speed: u8,
-) -> PortFrames
+pub fn dwc2_iso_service_frames(start_full_frame: u32, interval: u16, speed: u8) -> PortFrames
     ensures { result ≡ frames_unless (is_bad_speed speed) (frame_table (service_frames start_full_frame interval (speed_of speed))) }
 {
     frames_unless(

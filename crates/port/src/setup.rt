@@ -60,8 +60,7 @@ fn packet_of(refusal: u32, first: u32, last: u32) -> PortSetupPacket
     }
 }
 
-#[unsafe(no_mangle)]
-pub extern "C" fn dwc2_setup_packet_bytes(
+pub fn dwc2_setup_packet_bytes(
     request_type: u8,
     recipient: u8,
     direction: u8,

@@ -116,8 +116,7 @@ fn length_number(length: StageLength) -> PortNumber
     }
 }
 
-#[unsafe(no_mangle)]
-pub extern "C" fn dwc2_stage_actual_length(stage: PortStage, array: &[u32]) -> PortNumber
+pub fn dwc2_stage_actual_length(stage: PortStage, array: &[u32]) -> PortNumber
     ensures { result ≡ stage_moved_number stage array.now }
 {
     if stage.role > 3 {

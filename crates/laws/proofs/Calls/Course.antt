@@ -37,7 +37,8 @@ use Rattle.session.proofs.Laws.Admitted.{admitted, told_of}
 use Rattle.session.proofs.Laws.Lists.{map_amend}
 use Rattle.session.proofs.Laws.Ended.{packets, ended_packets}
 use Rattle.session.proofs.Laws.Stores.{stores_some, first_stores_some}
-use Rattle.laws.proofs.Calls.Drained.{number, slot, drained_leaves, drained_none}
+use Rattle.laws.proofs.Calls.Settled.{number, slot}
+use Rattle.laws.proofs.Calls.Drained.{drained_leaves, drained_none}
 use Rattle.session.proofs.Laws.Polls.{by_way}
 use Rattle.session.proofs.Laws.Tests.{chosen}
 

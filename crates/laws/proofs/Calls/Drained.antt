@@ -3,31 +3,24 @@
 use mathlib.Core.Path.{◌≡◌, refl, ◌∙◌, sym, ap}
 use mathlib.Core.Bool.{Bool, true, false, ◌||◌}
 use mathlib.Core.List.{List, [], ◌∷◌, map}
-use mathlib.Core.Logic.{◌≢◌}
 use Prim.Native.Nat.{ℕ, zero, suc, ◌+◌, ◌-◌, ◌*◌, ◌/◌, ◌≤◌, ◌<◌}
 use native.Mathlib.Omega.{arith}
 use lib.Dec.{ltb}
 use lib.ListN.{length, get_or, set, get_or-map}
-use lib.Seq.{length-slice, get_or-set_other, map-set_same}
+use lib.Seq.{length-slice, get_or-set_other}
 use borrow.Author.Tests.{ltb-true, ltb-false}
 use Rattle.session.specs.declared.types.IsoPacketPlan.{IsoPacketPlan}
-use Rattle.session.specs.declared.types.IsoRequest.{IsoRequest}
 use Rattle.session.specs.declared.types.IsoChannelState.{IsoChannelState}
 use Rattle.session.specs.Session.{blank_request, blank_plan}
-use Rattle.session.specs.Settle.{settled_plan, oldest, oldest_from, oldest_to, oldest_plans, settled_plans, settled_request, slots_cleared, Drained}
+use Rattle.session.specs.Settle.{oldest_from, oldest_to, oldest_plans, settled_plans, slots_cleared, Drained}
 use Rattle.session.specs.Settle.{settled_session, settled_ring, is_served, drain, drained}
-use Rattle.session.proofs.Laws.Lists.{get_or-slice, get_d_sets_before, map_amend}
+use Rattle.session.proofs.Laws.Lists.{get_or-slice, get_d_sets_before}
 use Rattle.session.proofs.Laws.Sums.{packets_next, packets_past, packets_split}
 use Rattle.session.proofs.Laws.Record.{Sound}
 use Rattle.session.proofs.Laws.Ended.{packets, packets_kept}
 use Rattle.session.proofs.Laws.Settled.{oldest_in, settled_sound, drained_past, drained_stop, drained_next}
 use Rattle.session.proofs.Laws.Tests.{chosen}
-
-abbrev pub number : IsoRequest → ℕ
-number r = r.id
-
-abbrev pub slot : IsoPacketPlan → ℕ
-slot p = p.desc_index
+use Rattle.laws.proofs.Calls.Settled.{number, slot, settled_others, settled_numbers, settled_packets, settled_slots}
 
 -- ---- the ring
 
@@ -47,32 +40,16 @@ cleared_other (p ∷ ps) ring w h =
 
 -- ---- one request settled
 
-module _ (s : IsoChannelState) (ring : List ℕ) where
-  -- only the oldest request changes
-  settled_others : (i : ℕ) → i ≢ s.head.done → get_or (settled_session s ring).requests i blank_request ≡ get_or s.requests i blank_request
-  settled_others i other = get_or-set_other s.requests s.head.done i (settled_request s ring) blank_request other
-
-  settled_numbers : map number (settled_session s ring).requests ≡ map number s.requests
-  settled_numbers = map-set_same number s.requests s.head.done (settled_request s ring) blank_request refl
-
-  settled_packets : map packets (settled_session s ring).requests ≡ map packets s.requests
-  settled_packets = map-set_same packets s.requests s.head.done (settled_request s ring) blank_request refl
-
-  module _ (g : Sound s) (h : s.head.done < s.head.count) where
-    settled_slots : map slot (settled_session s ring).plans ≡ map slot s.plans
-    settled_slots =
-        map_amend slot (settled_plan s.cfg.direction ring) blank_plan (λ p. refl) (oldest s).packets (oldest_from s) (oldest_to s) s.plans refl
-        (omega (arith, oldest_in s g h, g.all_few, g.plans_long))
-
-    -- the plans of those completed end where the settled one's ended
-    settled_from : oldest_from (settled_session s ring) ≡ oldest_to s
-    settled_from =
-        let done : ℕ = s.head.done in
-        let long : done + 1 ≤ length s.requests = omega (arith, g.requests_long, g.count_in) in
-        let same = packets_kept s.requests (settled_session s ring).requests settled_packets 0 (done + 1) in
-        let parts = packets_split done (done + 1) s.requests (omega arith) long in
-        let one = packets_next done (done + 1) s.requests (omega arith) long in
-        omega (arith, same, parts, one, packets_past (done + 1) (done + 1) s.requests (omega arith))
+module _ (s : IsoChannelState) (ring : List ℕ) (g : Sound s) (h : s.head.done < s.head.count) where
+  -- the plans of those completed end where the settled one's ended
+  settled_from : oldest_from (settled_session s ring) ≡ oldest_to s
+  settled_from =
+      let done : ℕ = s.head.done in
+      let long : done + 1 ≤ length s.requests = omega (arith, g.requests_long, g.count_in) in
+      let same = packets_kept s.requests (settled_session s ring).requests (settled_packets s ring) 0 (done + 1) in
+      let parts = packets_split done (done + 1) s.requests (omega arith) long in
+      let one = packets_next done (done + 1) s.requests (omega arith) long in
+      omega (arith, same, parts, one, packets_past (done + 1) (done + 1) s.requests (omega arith))
 
 -- ---- some requests settled
 

@@ -1,6 +1,6 @@
 -- What guarded mode adds: the test of 13 is the last, and it holds just where a planned slot belongs to a pending packet.
 use mathlib.Core.Path.{◌≡◌, refl, ◌∙◌, ap}
-use mathlib.Core.Bool.{Bool, true, false, not, ◌||◌, or_true, cond}
+use mathlib.Core.Bool.{Bool, true, false, not, ◌||◌, or-true, cond}
 use mathlib.Core.List.{List, [], ◌∷◌}
 use mathlib.Core.Logic.{◌⊎◌, inl, inr, ⊎_elim}
 use Prim.Native.Nat.{ℕ, zero, suc, ◌<◌}
@@ -36,7 +36,7 @@ pub held_where : (ps : List IsoPacketPlan) (slot k : ℕ) → k < length ps → 
 held_where [] slot k h e = absurd (omega arith)
 held_where (p ∷ ps) slot zero h e = ap (λ (b : Bool). b || is_held ps slot) (eq-eqb p.desc_index slot e)
 held_where (p ∷ ps) slot (suc k) h e =
-    ap (λ (b : Bool). eqb p.desc_index slot || b) (held_where ps slot k (omega arith) e) ∙ or_true (eqb p.desc_index slot)
+    ap (λ (b : Bool). eqb p.desc_index slot || b) (held_where ps slot k (omega arith) e) ∙ or-true (eqb p.desc_index slot)
 
 -- one of some slots is held just where one of them is
 pub any_held_by : (ps : List IsoPacketPlan) (l : List ℕ) → any_held ps l ≡ true → (i : ℕ) × (i < length l) × (is_held ps (get_or l i 0) ≡ true)
@@ -52,7 +52,7 @@ pub any_held_where : (ps : List IsoPacketPlan) (l : List ℕ) (i : ℕ) → i < 
 any_held_where ps [] i h e = absurd (omega arith)
 any_held_where ps (slot ∷ l) zero h e = ap (λ (b : Bool). b || any_held ps l) e
 any_held_where ps (slot ∷ l) (suc i) h e =
-    ap (λ (b : Bool). is_held ps slot || b) (any_held_where ps l i (omega arith) e) ∙ or_true (is_held ps slot)
+    ap (λ (b : Bool). is_held ps slot || b) (any_held_where ps l i (omega arith) e) ∙ or-true (is_held ps slot)
 
 -- the way by the tests of 10 to 13, the last of which guarded mode adds
 abbrev pub way_by : SubmitWay → SubmitWay → SubmitWay → Bool → Bool → Bool → Bool → Bool → Bool → SubmitWay

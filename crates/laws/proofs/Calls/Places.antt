@@ -18,7 +18,7 @@ use Rattle.session.specs.Reclaim.{request_of, removed}
 use Rattle.session.proofs.Laws.Lists.{front_kept, get_d_front, closed_parts}
 use Rattle.session.proofs.Laws.Record.{Sound}
 use Rattle.session.proofs.Laws.Lists.{map_slice}
-use Rattle.laws.proofs.Calls.Drained.{number}
+use Rattle.laws.proofs.Calls.Settled.{number}
 
 -- ---- in a list of requests
 

@@ -1,7 +1,7 @@
 -- The slots that pending plans hold: looked up packet by packet, and marked plan by plan in a table of 256 marks. Each loop's invariant
 -- says that what is still to be looked up or marked gives the goal; a law for each way out of a turn keeps it.
 use mathlib.Core.Path.{◌≡◌, refl, sym, ap, ap₂, ◌∙◌}
-use mathlib.Core.Bool.{Bool, true, false, ◌||◌, ◌&&◌, or_true, or-false, or_assoc}
+use mathlib.Core.Bool.{Bool, true, false, ◌||◌, ◌&&◌, or-true, or-false, or_assoc}
 use mathlib.Core.List.{List}
 use Prim.Native.Nat.{ℕ, zero, suc, ◌+◌, ◌-◌, ◌*◌, ◌≤◌, ◌<◌}
 use native.Mathlib.Nat.{mod-lt}
@@ -75,7 +75,7 @@ module _ (held marked : List Bool) (slot k : ℕ) (below : k < 256) where
   mark_by true q n =
       let e : slot ≡ k = eqb-true slot k q in
       let h : k < length held = omega arith in
-      rw (e, or_true, get_or-set_same held k true false h)
+      rw (e, or-true, get_or-set_same held k true false h)
   mark_by false q n = rw (or-false, get_or-set_other held slot k true false (λ e. eqb-false slot k q (sym e)))
 
   pub mark_set : length held ≡ 256 → marked ≡ set held slot true → get_or marked k false ≡ (get_or held k false || eqb slot k)

@@ -1,11 +1,11 @@
 -- Laws of a session's record: what the record check says in plain facts, and that these facts are all that it asks.
-use mathlib.Core.Path.{◌≡◌, refl, sym, ◌∙◌, ap}
+use mathlib.Core.Path.{◌≡◌, refl, ap}
 use mathlib.Core.Bool.{Bool, false, not, ◌||◌, ◌&&◌}
 use mathlib.Core.List.{List, [], ◌∷◌}
 use Prim.Native.Nat.{ℕ, zero, suc, ◌≤◌, ◌<◌}
 use native.Mathlib.Omega.{arith}
 use lib.Dec.{eqb, leb, ltb}
-use lib.ListN.{length, get_or, length-map}
+use lib.ListN.{length, get_or}
 use lib.Seq.{slice}
 use mir.Val.{Val}
 use denote.Laws.{Is}
@@ -190,7 +190,7 @@ sound s rl pl e =
 
 -- a session that the machine holds has tables of their lengths, so that a record not found bad is sound
 pub held_long : (s : IsoChannelState) {vs : List Val} → Is Held.the_row s vs → (length s.requests ≡ 64) × (length s.plans ≡ 1024)
-held_long s h = (sym (length-map s.requests _) ∙ h.1.1.1.1.1.0.1.0.1, sym (length-map s.plans _) ∙ h.1.1.1.1.1.1.0.1.0.1)
+held_long s h = (h.1.1.1.1.1.0.1.0.1, h.1.1.1.1.1.1.0.1.0.1)
 
 pub held_sound : (s : IsoChannelState) {vs : List Val} → Is Held.the_row s vs → is_bad_record s ≡ false → Sound s
 held_sound s h e = sound s (held_long s h).0 (held_long s h).1 e
