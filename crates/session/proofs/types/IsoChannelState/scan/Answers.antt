@@ -1,5 +1,4 @@
--- `scan` tests in the definition's order: each return is the definition at the tests that led there. The invariants, and what each test says, stand
--- in `Proof/Facts`, the walk over the plans in `Proof/Marks`.
+-- `scan` tests in the definition's order: each return is the definition at the tests that led there.
 use mathlib.Core.Path.{◌≡◌, refl, ◌∙◌, sym, ap, ap₂}
 use mathlib.Core.List.{List}
 use mathlib.Core.Bool.{Bool, true, false, not, ◌||◌, ◌&&◌}

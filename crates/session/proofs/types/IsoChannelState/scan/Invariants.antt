@@ -1,5 +1,5 @@
--- `scan` tests in the definition's order: each return is the definition at the tests that led there. The invariants, and what each test says, stand
--- in `Proof/Facts`, the walk over the plans in `Proof/Marks`.
+-- What is still to walk holds a bad entry exactly if the whole does, its packets and those counted are all of them, and a slot is marked, or a
+-- pending plan still to be passed has it, just where a pending plan has it. The measures are the entries left.
 use mathlib.Core.Path.{◌≡◌}
 use mathlib.Core.Bool.{false, ◌||◌}
 use Prim.Native.Nat.{ℕ, ◌+◌, ◌-◌, ◌<◌, ◌*◌, ◌≤◌}
