@@ -1,7 +1,7 @@
 // The ring sums, for C.
 ghost use Rattle.std.specs.Prelude.{◌≡◌, ◌||◌};
 ghost use Rattle.words.specs.Numbers.{pid_number};
-ghost use Rattle.ring.specs.Gcd.{gcd as Gcd·gcd};
+ghost use Rattle.ring.specs.Gcd.{gcd};
 ghost use Rattle.ring.specs.RingSums.{ring_size, packet_limit, capacity, starting_frame, frame_slot, grid_slot, schinfo, pid_of, next_number, service_frames, frame_table};
 ghost use Rattle.port.specs.Tags.{speed_of, direction_of};
 ghost use Rattle.port.specs.Sums.{is_bad_speed, is_bad_direction, number_unless, frames_unless};
@@ -24,7 +24,7 @@ pub extern "C" fn dwc2_iso_max_xfer_size(speed: u8) -> PortNumber
 
 #[unsafe(no_mangle)]
 pub extern "C" fn dwc2_gcd(a: u16, b: u16) -> u16
-    ensures { result ≡ Gcd·gcd a b }
+    ensures { result ≡ gcd a b }
 {
     port::dwc2_gcd(a, b)
 }

@@ -4,7 +4,7 @@ ghost use Rattle.std.specs.Prelude.{◌≡◌, not, ◌||◌, ◌&&◌, cond, �
 ghost use Rattle.session.specs.Record.{is_bad_config, is_bad_request, is_bad_plan, is_bad_record};
 ghost use Rattle.session.specs.Scan.{bad_scan, Scanned};
 ghost use Rattle.session.specs.Session.{has_reason};
-ghost use Rattle.session.specs.Session.{room as Session·room};
+ghost use Rattle.session.specs.Session.{room};
 
 use crate::place::{slots_of, step_of};
 use crate::tables::{rest, wide};
@@ -30,7 +30,7 @@ pub fn is_bad_config(cfg: IsoConfig) -> bool
 
 // The most packets in flight.
 fn room(cfg: IsoConfig) -> u16
-    ensures { result ≡ Session·room cfg }
+    ensures { result ≡ room cfg }
 {
     let speed = cfg.speed;
     iso_max_packets(cfg.interval, speed)
@@ -38,7 +38,7 @@ fn room(cfg: IsoConfig) -> u16
 
 // More packets than may be in flight. Those that fit with a whole interval between them fit whatever the divisor is, so none is found.
 pub fn is_over_room(cfg: IsoConfig, packets: u64) -> bool
-    ensures { result ≡ ltb (Session·room cfg) packets }
+    ensures { result ≡ ltb (room cfg) packets }
 {
     if packets > 255 {
         return true;
