@@ -1,4 +1,5 @@
 -- Refused at the bytes, a kind that names nothing, or submitted where the bytes stand: a law for each way out.
+use Rattle.std.proofs.Common.{arith}
 use Rattle.port.proofs.Laws.Requests.{submit_refused_lem, submit_done}
 use Rattle.port.proofs.requests.dwc2_iso_submit.Goals as goal
 
@@ -20,6 +21,6 @@ returns c =
     start.args.ring.now
     c.verdict_at-verdict.ensures.refusal
     c.if-verdict-ne0.false
-    c.if-transfer-gt3.false
+    (omega arith)
     c.transfer_of-t.ensures c.submit_at.ensures.0
     c.submit_at.ensures.1 c.submit_at.ensures.2
