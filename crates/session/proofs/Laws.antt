@@ -3,6 +3,7 @@ pub mod Checks
 pub mod Ended
 pub mod Handed
 pub mod Held
+pub mod Lent
 pub mod Lists
 pub mod Polled
 pub mod Polls
