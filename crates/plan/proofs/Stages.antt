@@ -114,7 +114,7 @@ module _ (r : DataRequest) (a : List ℕ) (e : data_answer r (length a) ≡ Plan
   pub stage_rest : (i : ℕ) → i + 1 ≡ length (data_stages r) → (stage_at r i).descs ≡ count_of r - 256 * i
   stage_rest i h = omega (arith, stage_descs i (omega arith), stages_number)
 
-  -- Only the last descriptor of a stage ends one: with `End-read` and `interrupt_read`, only it has end of list and interrupt.
+  -- Only the last descriptor of a stage ends one: with `end_read` and `interrupt_read`, only it has end of list and interrupt.
   pub stage_ends :
       (i j : ℕ) → i < length (data_stages r) → j < (stage_at r i).descs → ends ((stage_at r i).desc_base + j) (count_of r) ≡ eqb (j + 1) (stage_at r i).descs
   stage_ends i j h l =

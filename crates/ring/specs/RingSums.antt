@@ -99,7 +99,7 @@ service_frames start interval speed = walk 64 (frame_step speed interval) (start
 abbrev pub frame_table : List ℕ → IsoServiceFrames
 frame_table frames = record { count = length frames; frames = frames ++ replicate (64 - length frames) 0 }
 
--- "PID: high_speed IN gives DATA0, DATA1, DATA2 for mult 1, 2, 3", where "mult 0 counts as 1"; above 3 as for 3
+-- "PID: high-speed IN gives DATA0, DATA1, DATA2 for mult 1, 2, 3", where "mult 0 counts as 1"; above 3 as for 3
 abbrev pub pid_in : ℕ → Dwc2Pid
 pid_in zero = Data0
 pid_in (suc zero) = Data0
