@@ -14,4 +14,4 @@ pub use channel::{hcchar, hctsiz_ddma};
 pub use descriptor::{DmaDescriptor, initial_len, moved_length};
 pub use interrupt::{hcint_chhltd, hcint_fault, hcint_xfercompl, iso_hcintmsk};
 pub use lent::{clear_slot, is_active_at, put_word, status_at};
-pub use types::{Direction, Dwc2EpType, Dwc2Pid, Dwc2TransferFault, HcintFault};
+pub use types::{Direction, Dwc2EpType, Dwc2Pid, Dwc2TransferFault};

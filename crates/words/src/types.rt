@@ -32,10 +32,3 @@ pub enum Dwc2TransferFault {
     FrameOverrun,
     DataToggle,
 }
-
-// The fault of an interrupt word, if it has one.
-#[derive(Clone, Copy, Debug, PartialEq, Eq)]
-pub enum HcintFault {
-    Nothing,
-    Fault(Dwc2TransferFault),
-}
