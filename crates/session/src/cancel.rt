@@ -5,9 +5,9 @@ ghost use Rattle.session.specs.Poll.{with_reason};
 ghost use Rattle.session.specs.Cancel.{place_of, with_cancelled, cancelled};
 
 use crate::end::with_outcome;
-use crate::record::has_reason;
+use crate::refusal::IsoRefusal;
 use crate::reply::{IsoReply, done, refused};
-use crate::types::{IsoChannelState, IsoFatal, IsoHaltReason, IsoOutcome, IsoRequest};
+use crate::types::{IsoChannelState, IsoHaltReason, IsoOutcome, IsoRequest};
 
 // The place of the first request with the number, or `count`.
 pub(crate) fn place_of(requests: [IsoRequest; 64], count: u16, id: u64) -> u16
@@ -38,7 +38,7 @@ impl IsoChannelState {
         IsoChannelState {
             cfg,
             head,
-            fatal: IsoFatal::Reason(reason),
+            fatal: Some(reason),
             requests,
             plans,
         }
@@ -61,7 +61,7 @@ impl IsoChannelState {
         ensures { result ≡ cancelled self id }
     {
         if self.is_bad_record() {
-            return refused(18, self);
+            return refused(IsoRefusal::BadRecord, self);
         }
         let head = self.head;
         let requests = self.requests;
@@ -70,10 +70,9 @@ impl IsoChannelState {
             return done(false, false, self.amend(at));
         }
         if at >= head.count {
-            return refused(15, self);
+            return refused(IsoRefusal::UnknownRequest, self);
         }
-        let fatal = self.fatal;
-        if has_reason(fatal) {
+        if self.fatal.is_some() {
             return done(false, false, self);
         }
         done(false, true, self.with_reason(IsoHaltReason::Cancelled))

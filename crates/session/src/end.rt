@@ -7,7 +7,7 @@ ghost use Rattle.session.specs.Record.{is_bad_record};
 ghost use Rattle.session.specs.End.{with_outcome, ended, ended_ring};
 
 use crate::open::{clear_ring, ring_words};
-use crate::types::{IsoChannelState, IsoFatal, IsoHead, IsoOutcome, IsoRequest};
+use crate::types::{IsoChannelState, IsoHead, IsoOutcome, IsoRequest};
 
 // The table with the outcome in the requests from `from` to `to`.
 fn fail_requests(
@@ -63,7 +63,7 @@ impl IsoChannelState {
                 done: head.count,
                 count: head.count,
             },
-            fatal: IsoFatal::Nothing,
+            fatal: None,
             requests: failed,
             plans,
         }

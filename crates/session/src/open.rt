@@ -4,13 +4,14 @@ ghost use Rattle.session.specs.Session.{idle_session, cleared, ring_words};
 ghost use Rattle.session.specs.Open.{opened, opened_ring};
 
 use crate::record::is_bad_config;
+use crate::refusal::IsoRefusal;
 use crate::tables::{blank_plan, blank_request};
-use crate::types::{IsoChannelState, IsoConfig, IsoFatal, IsoHead, OpenAnswer};
+use crate::types::{IsoChannelState, IsoConfig, IsoHead};
 use ring::iso_ring_size;
 
 #[derive(Clone, Copy)]
 pub struct Opened {
-    pub answer: OpenAnswer,
+    pub answer: Result<(), IsoRefusal>,
     pub session: IsoChannelState,
 }
 
@@ -23,19 +24,19 @@ impl IsoChannelState {
         let session = idle_session(cfg);
         if ring.len() < words {
             return Opened {
-                answer: OpenAnswer::ShortRing,
+                answer: Err(IsoRefusal::ShortBuffer),
                 session,
             };
         }
         if is_bad_config(cfg) {
             return Opened {
-                answer: OpenAnswer::BadConfig,
+                answer: Err(IsoRefusal::BadRecord),
                 session,
             };
         }
         clear_ring(ring, words);
         Opened {
-            answer: OpenAnswer::Opened,
+            answer: Ok(()),
             session,
         }
     }
@@ -85,7 +86,7 @@ fn idle_session(cfg: IsoConfig) -> IsoChannelState
             done: 0,
             count: 0,
         },
-        fatal: IsoFatal::Nothing,
+        fatal: None,
         requests: [request; 64],
         plans: [plan; 1024],
     }

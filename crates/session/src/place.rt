@@ -19,8 +19,7 @@ pub(crate) fn slots_of(cfg: IsoConfig) -> u16
 pub(crate) fn step_of(cfg: IsoConfig) -> u16
     ensures { result ≡ step_of cfg }
 {
-    let interval = cfg.interval;
-    if interval == 0 { 1 } else { interval }
+    cfg.interval.max(1)
 }
 
 // The frame in which the channel starts: as it did, or by the first reading.

@@ -4,25 +4,14 @@ ghost use Rattle.std.proofs.Math.Seq.{slice};
 ghost use Rattle.std.proofs.lemmas.List.Edits.{sets};
 ghost use Rattle.session.specs.Session.{ring_words};
 ghost use Rattle.session.specs.Record.{is_bad_record};
-ghost use Rattle.session.specs.Reclaim.{is_done, error_bit, result_word, looked, looked_ring, plans_begin, plans_end, closed_up, removed, handed_length, handed_answer, handed_results, reclaim_reply, looked_again, looked_results, reclaimed, reclaimed_ring, reclaimed_results};
+ghost use Rattle.session.specs.Reclaim.{error_bit, result_word, looked, looked_ring, plans_begin, plans_end, closed_up, removed, handed_length, handed_answer, handed_results, reclaim_reply, looked_again, looked_results, reclaimed, reclaimed_ring, reclaimed_results};
 
 use crate::cancel::place_of;
 use crate::open::ring_words;
-use crate::reply::{IsoEvent, IsoReply, ReclaimAnswer, Reclaimed, done};
+use crate::refusal::IsoRefusal;
+use crate::reply::{IsoCompletion, IsoEvent, IsoReply, Reclaimed, done};
 use crate::tables::{packets_of, wide};
 use crate::types::{IsoChannelState, IsoOutcome, IsoPacketPlan, IsoRequest, TransferStatus};
-
-pub fn is_done(outcome: IsoOutcome) -> bool
-    ensures { result ≡ is_done outcome }
-{
-    match outcome {
-        IsoOutcome::Done => true,
-        IsoOutcome::Disconnected => false,
-        IsoOutcome::Cancelled => false,
-        IsoOutcome::Fault(_, _) => false,
-        IsoOutcome::UnexpectedHalt(_) => false,
-    }
-}
 
 fn error_bit(status: TransferStatus) -> u32
     ensures { (result ≡ error_bit status) × (result ≤ 16777216) }
@@ -93,7 +82,7 @@ fn close_plans(plans: [IsoPacketPlan; 1024], at: u32, from: u32, to: u32) -> [Is
 }
 
 fn reclaim_reply(
-    answer: ReclaimAnswer,
+    answer: Result<Option<IsoCompletion>, IsoRefusal>,
     taken: bool,
     halt: bool,
     session: IsoChannelState,
@@ -112,18 +101,20 @@ fn reclaim_reply(
 fn handed_length(request: IsoRequest) -> u32
     ensures { result ≡ handed_length request }
 {
-    let outcome = request.outcome;
-    if is_done(outcome) {
+    if request.outcome == IsoOutcome::Done {
         return request.actual_length;
     }
     0
 }
 
-pub fn handed_answer(request: IsoRequest) -> ReclaimAnswer
+pub fn handed_answer(request: IsoRequest) -> IsoCompletion
     ensures { result ≡ handed_answer request }
 {
-    let outcome = request.outcome;
-    ReclaimAnswer::Completed(outcome, handed_length(request), request.packets)
+    IsoCompletion {
+        outcome: request.outcome,
+        actual_length: handed_length(request),
+        packets: request.packets,
+    }
 }
 
 impl IsoChannelState {
@@ -132,8 +123,7 @@ impl IsoChannelState {
         requires { (is_bad_record self ≡ false) × (at < self.head.count) }
         ensures { result ≡ plans_begin at self }
     {
-        let requests = self.requests;
-        packets_of(requests, 0, at)
+        packets_of(&self.requests[..at as usize])
     }
 
     fn plans_end(self, at: u16) -> u32
@@ -155,7 +145,7 @@ impl IsoChannelState {
         let to = self.plans_end(at);
         let requests = self.requests;
         let plans = self.plans;
-        let all = packets_of(requests, 0, head.count);
+        let all = packets_of(&self.requests[..head.count as usize]);
         let left = close_requests(requests, at, at + 1, head.count);
         let table = close_plans(plans, from, to, all);
         let done = head.done - 1;
@@ -175,14 +165,14 @@ impl IsoChannelState {
         let requests = self.requests;
         let request = requests[at as usize];
         let ended = request.outcome;
-        if is_done(ended) {
+        if ended == IsoOutcome::Done {
             let plans = self.plans;
             write_results(plans, self.plans_begin(at), self.plans_end(at), results);
         }
     }
 
     // Polls, unless the request is completed already.
-    fn look(self, id: u64, event: IsoEvent, ring: &mut [u32]) -> IsoReply
+    fn look(self, id: u64, event: Option<IsoEvent>, ring: &mut [u32]) -> IsoReply
         requires { (is_bad_record self ≡ false) × (ring_words self.cfg ≤ length ring.old) }
         ensures { (result ≡ looked id event self ring.old) × (ring.new ≡ looked_ring id event self ring.old) }
     {
@@ -207,19 +197,19 @@ impl IsoChannelState {
             let answer = handed_answer(requests[at as usize]);
             self.hand_results(at, results);
             let session = self.remove(at);
-            return reclaim_reply(answer, taken, halt, session);
+            return reclaim_reply(Ok(Some(answer)), taken, halt, session);
         }
         if at < head.count {
-            return reclaim_reply(ReclaimAnswer::NotYet, taken, halt, self);
+            return reclaim_reply(Ok(None), taken, halt, self);
         }
-        reclaim_reply(ReclaimAnswer::Refused(15), taken, halt, self)
+        reclaim_reply(Err(IsoRefusal::UnknownRequest), taken, halt, self)
     }
 
     // Hands out the completed request with the number: its outcome and, unless that is an error, a result for each packet.
     pub fn reclaim(
         self,
         id: u64,
-        event: IsoEvent,
+        event: Option<IsoEvent>,
         ring: &mut [u32],
         results: &mut [u64],
     ) -> Reclaimed
@@ -229,10 +219,10 @@ impl IsoChannelState {
     {
         let words = ring_words(self.cfg);
         if (ring.len() < words) | (results.len() < 255) {
-            return reclaim_reply(ReclaimAnswer::Refused(17), false, false, self);
+            return reclaim_reply(Err(IsoRefusal::ShortBuffer), false, false, self);
         }
         if self.is_bad_record() {
-            return reclaim_reply(ReclaimAnswer::Refused(18), false, false, self);
+            return reclaim_reply(Err(IsoRefusal::BadRecord), false, false, self);
         }
         let reply = self.look(id, event, ring);
         let session = reply.session;

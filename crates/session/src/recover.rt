@@ -3,6 +3,7 @@ ghost use Rattle.std.specs.Prelude.{◌≡◌, length};
 ghost use Rattle.session.specs.Poll.{recovered, recovered_ring};
 
 use crate::open::ring_words;
+use crate::refusal::IsoRefusal;
 use crate::reply::{IsoReply, done, refused};
 use crate::types::{IsoChannelState, IsoOutcome};
 
@@ -13,10 +14,10 @@ impl IsoChannelState {
     {
         let words = ring_words(self.cfg);
         if ring.len() < words {
-            return refused(17, self);
+            return refused(IsoRefusal::ShortBuffer, self);
         }
         if self.is_bad_record() {
-            return refused(18, self);
+            return refused(IsoRefusal::BadRecord, self);
         }
         let session = self.end(IsoOutcome::Disconnected, ring);
         done(false, false, session)

@@ -95,8 +95,7 @@ impl IsoChannelState {
         requires { is_bad_record self ≡ false }
         ensures { result ≡ oldest_from self }
     {
-        let requests = self.requests;
-        packets_of(requests, 0, self.head.done)
+        packets_of(&self.requests[..self.head.done as usize])
     }
 
     fn oldest_to(self) -> u32
