@@ -12,13 +12,12 @@ use Rattle.session.proofs.poll
 use Rattle.session.proofs.reclaim
 use Rattle.session.proofs.record
 use Rattle.session.proofs.submit
-use Rattle.session.proofs.tables
 use Rattle.session.proofs.way
 
 pub open_unique : Unique 1 functions.open.Kinds.ps functions.open.Kinds.r functions.open.Reads.Post
 open_unique κs a x y u v = equal_both (λ (words : List ℕ). (tt, (words, tt)))
 
-pub is_bad_record_unique : Unique 0 functions.is_bad_record.Kinds.ps functions.is_bad_record.Kinds.r functions.is_bad_record.Reads.Post
+pub is_bad_record_unique : Unique 1 functions.is_bad_record.Kinds.ps functions.is_bad_record.Kinds.r functions.is_bad_record.Reads.Post
 is_bad_record_unique κs a x y u v = equal refl
 
 pub submit_unique : Unique 2 functions.submit.Kinds.ps functions.submit.Kinds.r functions.submit.Reads.Post
@@ -53,9 +52,6 @@ is_bad_request_unique κs a x y u v = equal refl
 pub is_bad_plan_unique : Unique 0 record.is_bad_plan.Kinds.ps record.is_bad_plan.Kinds.r record.is_bad_plan.Reads.Post
 is_bad_plan_unique κs a x y u v = equal refl
 
-pub has_reason_unique : Unique 0 record.has_reason.Kinds.ps record.has_reason.Kinds.r record.has_reason.Reads.Post
-has_reason_unique κs a x y u v = equal refl
-
 pub is_bad_state_unique : Unique 0 record.is_bad_state.Kinds.ps record.is_bad_state.Kinds.r record.is_bad_state.Reads.Post
 is_bad_state_unique κs a x y u v = equal refl
 
@@ -68,20 +64,11 @@ with_outcome_unique κs a x y u v = equal refl
 pub way_of_unique : Unique 0 poll.way_of.Kinds.ps poll.way_of.Kinds.r poll.way_of.Reads.Post
 way_of_unique κs a x y u v = equal refl
 
-pub is_done_unique : Unique 0 reclaim.is_done.Kinds.ps reclaim.is_done.Kinds.r reclaim.is_done.Reads.Post
-is_done_unique κs a x y u v = equal refl
-
 pub handed_answer_unique : Unique 0 reclaim.handed_answer.Kinds.ps reclaim.handed_answer.Kinds.r reclaim.handed_answer.Reads.Post
 handed_answer_unique κs a x y u v = equal refl
 
-pub rest_unique : Unique 0 tables.rest.Kinds.ps tables.rest.Kinds.r tables.rest.Reads.Post
-rest_unique κs a x y u v = equal refl
-
 pub insert_of_unique : Unique 1 place.insert_of.Kinds.ps place.insert_of.Kinds.r place.insert_of.Reads.Post
 insert_of_unique κs a x y u v = equal refl
-
-pub is_guarded_unique : Unique 0 way.is_guarded.Kinds.ps way.is_guarded.Kinds.r way.is_guarded.Reads.Post
-is_guarded_unique κs a x y u v = equal refl
 
 pub clash_unique : Unique 1 way.clash.Kinds.ps way.clash.Kinds.r way.clash.Reads.Post
 clash_unique κs a x y u v = equal refl

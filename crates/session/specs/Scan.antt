@@ -46,6 +46,10 @@ pub record Found (s : IsoChannelState) (t : IsoTransfer) (lengths ring : List �
   pub insert : r.insert ≡ insert_of s t ring
   pub clash : length lengths ≤ 255 → r.clash ≡ is_clash s t ring (length lengths)
 
+-- where the record is bad nothing is asked, and nothing is read of this
+abbrev pub none_asked : SubmitScan
+none_asked = record { all = 0; pending = 0; insert = 0; clash = false }
+
 abbrev pub Asked : IsoChannelState → IsoTransfer → List ℕ → List ℕ → Option SubmitScan → Type 0
 Asked s t lengths ring None = is_bad_record s ≡ true
 Asked s t lengths ring (Some r) = (is_bad_record s ≡ false) × Found s t lengths ring r

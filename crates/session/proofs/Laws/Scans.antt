@@ -1,23 +1,24 @@
 -- A walk over the entries in use that asks each of them, as the record check does: here, further on, or none; and what a submission asks, by what
 -- such a walk found.
 use mathlib.Core.Path.{◌≡◌, ◌∙◌, sym, ap}
-use mathlib.Core.Bool.{Bool, true, false, ◌||◌, ◌&&◌}
+use mathlib.Core.Bool.{Bool, true, false, ◌||◌, ◌&&◌, cond}
 use mathlib.Core.List.{List}
 use Prim.Native.Nat.{ℕ, ◌+◌, ◌≤◌, ◌<◌}
 use native.Mathlib.Omega.{arith}
 use lib.ListN.{length, get_or}
 use lib.Seq.{slice}
+use Rattle.std.specs.Prelude.{Option, Some, None}
+use Rattle.std.specs.Option.{unwrap_or}
 use Rattle.ring.specs.RingSums.{slots_from}
 use Rattle.session.specs.declared.types.IsoChannelState.{IsoChannelState}
 use Rattle.session.specs.declared.types.IsoPacketPlan.{IsoPacketPlan}
 use Rattle.session.specs.declared.types.IsoRequest.{IsoRequest}
-use Rattle.session.specs.declared.record.RecordScan.{RecordScan}
 use Rattle.session.specs.declared.transfer.IsoTransfer.{IsoTransfer}
 use Rattle.session.specs.declared.transfer.SubmitScan.{SubmitScan}
 use Rattle.session.specs.Session.{blank_request, blank_plan, slots, all_packets, pending_packets}
 use Rattle.session.specs.Place.{step_of, tail_slot, insert_at, insert_of}
 use Rattle.session.specs.Way.{is_guarded, any_held, pending_plans}
-use Rattle.session.specs.Scan.{bad_scan, Scanned, Found, Asked}
+use Rattle.session.specs.Scan.{Found, Asked, none_asked}
 use Rattle.session.specs.Record.{is_bad_request, any_bad_request, is_bad_plan, any_bad_plan, is_bad_record}
 use Rattle.session.proofs.Laws.Lists.{slice_next, slice_past}
 
@@ -52,17 +53,14 @@ module _ (limit slots : ℕ) where
   pub plan_past : (i t : ℕ) (l : List IsoPacketPlan) → t ≤ i → any_bad_plan limit slots (slice i t l) ≡ false
   plan_past i t l h = ap (any_bad_plan limit slots) (slice_past i t l h)
 
--- a walk that finds a bad record says only that, and so does the answer to a submission
-both : true ≡ false → ⊥
-both x = let z : ◌≡◌ {A = ℕ} 0 1 = cc in omega arith
-
-pub bad_found : (s : IsoChannelState) (r : RecordScan) → r ≡ bad_scan → is_bad_record s ≡ true → Scanned s r
-bad_found s r e b = record { bad = ap (λ (x : RecordScan). x.bad) e ∙ sym b; found = λ g. absurd (both (sym b ∙ g)) }
+-- what was asked of a record that is not bad
+pub asked_found :
+    (s : IsoChannelState) (t : IsoTransfer) (lengths ring : List ℕ) (scan : Option SubmitScan) → Asked s t lengths ring scan → is_bad_record s ≡ false
+    → Found s t lengths ring (unwrap_or scan none_asked)
+asked_found s t lengths ring None bad good = let z : ◌≡◌ {A = ℕ} 0 1 = ap (λ (b : Bool). cond b 0 1) (sym bad ∙ good) in absurd (omega arith)
+asked_found s t lengths ring (Some r) asked good = asked.1
 
 module _ (s : IsoChannelState) (t : IsoTransfer) (lengths ring : List ℕ) (r : SubmitScan) where
-  pub bad_asked : r.bad ≡ true → is_bad_record s ≡ true → Asked s t lengths ring r
-  bad_asked e b = record { bad = e ∙ sym b; found = λ g. absurd (both (sym b ∙ g)) }
-
   -- in a good record: the first packet's slot goes by the newest's, the clash by that slot
   pub found_at :
       {tail : ℕ} → r.all ≡ all_packets s → r.pending ≡ pending_packets s → tail ≡ tail_slot s

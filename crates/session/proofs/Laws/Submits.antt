@@ -4,6 +4,8 @@ use mathlib.Core.Bool.{Bool, true, false, not, ◌&&◌, cond}
 use mathlib.Core.List.{List}
 use mathlib.Core.Logic.{◌⊎◌, ⊎_elim}
 use Prim.Native.Nat.{ℕ, ◌+◌, ◌*◌, ◌≤◌, ◌<◌}
+use Rattle.std.specs.Prelude.{Option, Some, None, Result}
+use Rattle.std.specs.Option.{unwrap_or}
 use native.Mathlib.Decide.{dec_le}
 use native.Mathlib.Omega.{arith}
 use lib.Dec.{T, ltb}
@@ -19,19 +21,21 @@ use Rattle.session.specs.declared.transfer.IsoTransfer.{IsoTransfer}
 use Rattle.session.specs.declared.transfer.SubmitWay.{SubmitWay}
 use Rattle.session.specs.declared.transfer.SubmitWay.TheVariants.{Refuse, TooLong, Spend, Early, Cut, Late, Accept}
 use Rattle.session.specs.declared.transfer.IsoChannelStart.{IsoChannelStart}
-use Rattle.session.specs.declared.transfer.SubmitAnswer.{SubmitAnswer}
+use Rattle.session.specs.declared.transfer.IsoSubmission.{IsoSubmission}
+use Rattle.session.specs.declared.refusal.IsoRefusal.{IsoRefusal}
 use Rattle.session.specs.declared.transfer.Submitted.{Submitted}
 use Rattle.session.specs.declared.transfer.SubmitParts.{SubmitParts}
 use Rattle.session.specs.declared.transfer.SubmitScan.{SubmitScan}
 use Rattle.session.specs.Session.{slots, all_packets}
-use Rattle.session.specs.Scan.{whole, only, Found, Asked, is_gate, added, head_after, ring_by}
+use Rattle.session.specs.Scan.{whole, only, Found, Asked, none_asked, is_gate, added, head_after, ring_by}
 use Rattle.ring.specs.Stores.{stored, stores_from}
 use Rattle.session.specs.Place.{step_of, insert_of, plans_from}
 use Rattle.session.specs.Way.{submit_way}
-use Rattle.session.specs.Submit.{new_request, start_words, no_start, answer_of, start_after, session_after, ring_after, submitted_by, submitted_ring}
+use Rattle.session.specs.Submit.{new_request, start_words, answer_of, start_after, session_after, ring_after, submitted_by, submitted_ring}
 use Rattle.session.specs.Parts.{requests_with, plans_with, joined, Parted}
 use Rattle.ring.proofs.Stores.{whole_plan}
 use Rattle.session.proofs.Laws.Admitted.{Admitted, gate_admitted, acceptable, told_of}
+use Rattle.session.proofs.Laws.Scans.{asked_found}
 use Rattle.session.proofs.Laws.Ways.{answer_by, ring_by_lem}
 
 -- only an accepted submission adds packets
@@ -81,21 +85,21 @@ answer_only Late s = refl
 answer_only Accept s = refl
 
 module _ (s : IsoChannelState) (t : IsoTransfer) (n : ℕ) where
-  none_starts : n ≡ 0 → cond (ltb 0 n && not s.head.live) (start_words (only s.cfg s.head) t) no_start ≡ no_start
+  none_starts : n ≡ 0 → cond (ltb 0 n && not s.head.live) (Some (start_words (only s.cfg s.head) t)) None ≡ None
   none_starts e = rw e
 
-  one_starts : 0 < n → cond (ltb 0 n && not s.head.live) (start_words (only s.cfg s.head) t) no_start ≡ cond s.head.live no_start (start_words s t)
+  one_starts : 0 < n → cond (ltb 0 n && not s.head.live) (Some (start_words (only s.cfg s.head) t)) None ≡ cond s.head.live None (Some (start_words s t))
   one_starts h =
-      ap (λ (b : Bool). cond (b && not s.head.live) (start_words (only s.cfg s.head) t) no_start) (lt-ltb 0 n h) ∙ turned s.head.live
+      ap (λ (b : Bool). cond (b && not s.head.live) (Some (start_words (only s.cfg s.head) t)) None) (lt-ltb 0 n h) ∙ turned s.head.live
     where
-      turned : (live : Bool) → cond (not live) (start_words s t) no_start ≡ cond live no_start (start_words s t)
+      turned : (live : Bool) → cond (not live) (Some (start_words s t)) None ≡ cond live None (Some (start_words s t))
       turned true = refl
       turned false = refl
 
   -- a channel starts where the submission adds packets and none is live
   pub start_by :
       (way : SubmitWay) (count : ℕ) → n ≡ added way count → (way ≡ Accept → 0 < count)
-      → cond (ltb 0 n && not s.head.live) (start_words (only s.cfg s.head) t) no_start ≡ start_after way s t
+      → cond (ltb 0 n && not s.head.live) (Some (start_words (only s.cfg s.head) t)) None ≡ start_after way s t
   start_by (Refuse k) count e f = none_starts e
   start_by (TooLong k) count e f = none_starts e
   start_by (Spend k) count e f = none_starts e
@@ -159,7 +163,7 @@ module _ (s : IsoChannelState) (t : IsoTransfer) (lengths ring : List ℕ) (inse
         ∙ ap₂ (whole s.cfg (head_after Accept s.cfg s.head t (slot_at R i step (length lengths))) s.fatal) asked plans
 
 -- the whole answer, from its parts
-abbrev of : SubmitAnswer → IsoChannelStart → IsoChannelState → Submitted
+abbrev of : Result IsoSubmission IsoRefusal → Option IsoChannelStart → IsoChannelState → Submitted
 of x y z = record { answer = x; start = y; session = z }
 
 module _ (s : IsoChannelState) (t : IsoTransfer) (lengths ring : List ℕ) (r : SubmitParts) (way : SubmitWay) where
@@ -172,40 +176,43 @@ module _ (s : IsoChannelState) (t : IsoTransfer) (lengths ring : List ℕ) (r : 
       → (T (is_gate way) → r.insert ≡ insert_of s t ring)
       → (way ≡ Accept → (r.to ≡ all_packets s) × (0 < length lengths)) → slot ≡ slot_at r.slots r.insert r.step r.added
       → r.answer ≡ answer_of way (only s.cfg s.head)
-      → r.start ≡ cond (ltb 0 r.added && not s.head.live) (start_words (only s.cfg s.head) t) no_start
+      → r.start ≡ cond (ltb 0 r.added && not s.head.live) (Some (start_words (only s.cfg s.head) t)) None
       → r.head ≡ head_after way s.cfg s.head t slot
       → joined s r lengths ≡ submitted_by way s t lengths ring
   parts_by slot eR ek e at f last a b h =
       let R = slots s.cfg in
       let step = step_of s.cfg in
       ap₂ (λ (x y : ℕ). of r.answer r.start (placed x y r.head)) eR ek
-      ∙ ap₂ (λ (x : SubmitAnswer) (y : IsoChannelStart). of x y (placed R step r.head)) (a ∙ answer_only way s)
+      ∙ ap₂ (λ (x : Result IsoSubmission IsoRefusal) (y : Option IsoChannelStart). of x y (placed R step r.head)) (a ∙ answer_only way s)
       (b ∙ start_by s t r.added way (length lengths) e (λ w. (f w).1))
       ∙ ap (λ (x : IsoHead). of (answer_of way s) (start_after way s t) (placed R step x)) h
       ∙ ap (of (answer_of way s) (start_after way s t))
       (session_left s t lengths ring r.insert r.added r.to slot way e at f (last ∙ ap₂ (λ (x y : ℕ). slot_at x r.insert y r.added) eR ek))
 
 -- the parts in a session that was asked: what it answered is used only past every refusal
-module _ (s : IsoChannelState) (t : IsoTransfer) (lengths ring : List ℕ) (scan : SubmitScan) (way : SubmitWay)
+module _ (s : IsoChannelState) (t : IsoTransfer) (lengths ring : List ℕ) (scan : Option SubmitScan) (way : SubmitWay)
     (asked : Asked s t lengths ring scan) (e : way ≡ submit_way s t lengths ring) where
   passed : T (is_gate way) → Admitted s t lengths ring
   passed = gate_admitted s t lengths ring way e
 
-  found : T (is_gate way) → Found s t lengths ring scan
-  found g = asked.found (passed g).entry.record_good
+  abbrev its : SubmitScan
+  its = unwrap_or scan none_asked
 
-  pub ring_parted : ring_by way s.cfg t scan.insert lengths ring ≡ submitted_ring s t lengths ring
+  found : T (is_gate way) → Found s t lengths ring its
+  found g = asked_found s t lengths ring scan asked (passed g).entry.record_good
+
+  pub ring_parted : ring_by way s.cfg t its.insert lengths ring ≡ submitted_ring s t lengths ring
   ring_parted =
       ring_by_lem s t lengths ring e
-      (ring_left_lem s t lengths ring scan.insert way (λ g. (found g).insert) (λ a. (told_of s t lengths ring Accept (sym e ∙ a)).1))
+      (ring_left_lem s t lengths ring its.insert way (λ g. (found g).insert) (λ a. (told_of s t lengths ring Accept (sym e ∙ a)).1))
 
   pub parted :
-      (r : SubmitParts) (slot : ℕ) → r.insert ≡ scan.insert → r.to ≡ scan.all → (r.slots ≡ slots s.cfg) × (0 < r.slots) × (r.slots ≤ 256)
+      (r : SubmitParts) (slot : ℕ) → r.insert ≡ its.insert → r.to ≡ its.all → (r.slots ≡ slots s.cfg) × (0 < r.slots) × (r.slots ≤ 256)
       → r.step ≡ step_of s.cfg
       → r.added ≡ added way (length lengths)
       → slot ≡ slot_at r.slots r.insert r.step r.added
       → r.answer ≡ answer_of way (only s.cfg s.head)
-      → r.start ≡ cond (ltb 0 r.added && not s.head.live) (start_words (only s.cfg s.head) t) no_start
+      → r.start ≡ cond (ltb 0 r.added && not s.head.live) (Some (start_words (only s.cfg s.head) t)) None
       → r.head ≡ head_after way s.cfg s.head t slot
       → Parted s t lengths ring r
   parted r slot ei et eR ek en last a b h =
