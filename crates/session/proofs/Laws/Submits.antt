@@ -5,7 +5,6 @@ use mathlib.Core.List.{List}
 use mathlib.Core.Logic.{◌⊎◌, ⊎_elim}
 use Prim.Native.Nat.{ℕ, ◌+◌, ◌*◌, ◌≤◌, ◌<◌}
 use Rattle.std.specs.Prelude.{Option, Some, None, Result}
-use Rattle.std.specs.Option.{unwrap_or}
 use native.Mathlib.Decide.{dec_le}
 use native.Mathlib.Omega.{arith}
 use lib.Dec.{T, ltb}
@@ -27,7 +26,8 @@ use Rattle.session.specs.declared.transfer.Submitted.{Submitted}
 use Rattle.session.specs.declared.transfer.SubmitParts.{SubmitParts}
 use Rattle.session.specs.declared.transfer.SubmitScan.{SubmitScan}
 use Rattle.session.specs.Session.{slots, all_packets}
-use Rattle.session.specs.Scan.{whole, only, Found, Asked, none_asked, is_gate, added, head_after, ring_by}
+use Rattle.session.specs.Record.{is_bad_record}
+use Rattle.session.specs.Scan.{whole, only, Found, is_gate, added, head_after, ring_by}
 use Rattle.ring.specs.Stores.{stored, stores_from}
 use Rattle.session.specs.Place.{step_of, insert_of, plans_from}
 use Rattle.session.specs.Way.{submit_way}
@@ -35,7 +35,6 @@ use Rattle.session.specs.Submit.{new_request, start_words, answer_of, start_afte
 use Rattle.session.specs.Parts.{requests_with, plans_with, joined, Parted}
 use Rattle.ring.proofs.Stores.{whole_plan}
 use Rattle.session.proofs.Laws.Admitted.{Admitted, gate_admitted, acceptable, told_of}
-use Rattle.session.proofs.Laws.Scans.{asked_found}
 use Rattle.session.proofs.Laws.Ways.{answer_by, ring_by_lem}
 
 -- only an accepted submission adds packets
@@ -189,25 +188,22 @@ module _ (s : IsoChannelState) (t : IsoTransfer) (lengths ring : List ℕ) (r : 
       ∙ ap (of (answer_of way s) (start_after way s t))
       (session_left s t lengths ring r.insert r.added r.to slot way e at f (last ∙ ap₂ (λ (x y : ℕ). slot_at x r.insert y r.added) eR ek))
 
--- the parts in a session that was asked: what it answered is used only past every refusal
-module _ (s : IsoChannelState) (t : IsoTransfer) (lengths ring : List ℕ) (scan : Option SubmitScan) (way : SubmitWay)
-    (asked : Asked s t lengths ring scan) (e : way ≡ submit_way s t lengths ring) where
+-- the parts in a session that was asked: what it answered is used only past every refusal, so in a good record
+module _ (s : IsoChannelState) (t : IsoTransfer) (lengths ring : List ℕ) (scan : SubmitScan) (way : SubmitWay)
+    (asked : is_bad_record s ≡ false → Found s t lengths ring scan) (e : way ≡ submit_way s t lengths ring) where
   passed : T (is_gate way) → Admitted s t lengths ring
   passed = gate_admitted s t lengths ring way e
 
-  abbrev its : SubmitScan
-  its = unwrap_or scan none_asked
+  found : T (is_gate way) → Found s t lengths ring scan
+  found g = asked (passed g).entry.record_good
 
-  found : T (is_gate way) → Found s t lengths ring its
-  found g = asked_found s t lengths ring scan asked (passed g).entry.record_good
-
-  pub ring_parted : ring_by way s.cfg t its.insert lengths ring ≡ submitted_ring s t lengths ring
+  pub ring_parted : ring_by way s.cfg t scan.insert lengths ring ≡ submitted_ring s t lengths ring
   ring_parted =
       ring_by_lem s t lengths ring e
-      (ring_left_lem s t lengths ring its.insert way (λ g. (found g).insert) (λ a. (told_of s t lengths ring Accept (sym e ∙ a)).1))
+      (ring_left_lem s t lengths ring scan.insert way (λ g. (found g).insert) (λ a. (told_of s t lengths ring Accept (sym e ∙ a)).1))
 
   pub parted :
-      (r : SubmitParts) (slot : ℕ) → r.insert ≡ its.insert → r.to ≡ its.all → (r.slots ≡ slots s.cfg) × (0 < r.slots) × (r.slots ≤ 256)
+      (r : SubmitParts) (slot : ℕ) → r.insert ≡ scan.insert → r.to ≡ scan.all → (r.slots ≡ slots s.cfg) × (0 < r.slots) × (r.slots ≤ 256)
       → r.step ≡ step_of s.cfg
       → r.added ≡ added way (length lengths)
       → slot ≡ slot_at r.slots r.insert r.step r.added

@@ -8,7 +8,7 @@ use native.Mathlib.Omega.{arith}
 use lib.Dec.{leb, ltb}
 use lib.ListN.{length}
 use borrow.Author.Tests.{lt-ltb, le-ltb, le-leb, lt-leb}
-use Rattle.std.specs.Prelude.{Option, Some, None, Result, Ok, Err}
+use Rattle.std.specs.Prelude.{Option, Some, None, Result, Ok, Err, ⊤}
 use Rattle.std.specs.Option.{is_some, unwrap_or}
 use Rattle.ring.specs.RingSums.{packet_limit}
 use Rattle.words.proofs.Laws.Limits.{rest_test}
@@ -18,7 +18,9 @@ use Rattle.session.specs.declared.transfer.Submitted.{Submitted}
 use Rattle.session.specs.declared.transfer.IsoTransfer.{IsoTransfer}
 use Rattle.session.specs.declared.types.IsoChannelState.{IsoChannelState}
 use Rattle.session.specs.declared.refusal.IsoRefusal.{IsoRefusal}
-use Rattle.session.specs.Way.{long_at, entry_refusal, spend_refusal, too_long, gate_way, submit_way}
+use Rattle.session.specs.Session.{ring_words}
+use Rattle.session.specs.Record.{is_bad_record}
+use Rattle.session.specs.Way.{long_at, first_of, room_checks, entry_refusal, spend_refusal, too_long, gate_way, submit_way}
 use Rattle.session.specs.Submit.{submitted_by, submitted, ring_after, submitted_ring}
 
 -- one more than count is above the limit just where count reaches it
@@ -44,6 +46,12 @@ cond_none false y e = refl
 
 -- the way where a test refused, where a packet is too long, and where none did
 module _ (s : IsoChannelState) (t : IsoTransfer) (lengths ring : List ℕ) where
+  -- past 17 and 18, 1 to 8 decide
+  pub entry_is :
+      {x : Result ⊤ IsoRefusal} → ring_words s.cfg ≤ length ring → is_bad_record s ≡ false → x ≡ first_of (room_checks s t (length lengths))
+      → entry_refusal s t (length lengths) (length ring) ≡ x
+  entry_is long good e = let l : ltb (length ring) (ring_words s.cfg) ≡ false = le-ltb (length ring) (ring_words s.cfg) long in rw (l, good) (sym e)
+
   pub refuse_way : {r : IsoRefusal} → entry_refusal s t (length lengths) (length ring) ≡ Err r → Refuse r ≡ submit_way s t lengths ring
   refuse_way e = rw e
 

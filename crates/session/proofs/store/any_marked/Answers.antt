@@ -6,10 +6,10 @@ use Rattle.ring.proofs.Stores.{some_slots, slot_more}
 use Rattle.session.proofs.Laws.Held.{marked_later}
 use Rattle.session.proofs.store.any_marked.Goals as goal
 
-pub loop-_i-preserved : goal.loop-_i-preserved
-loop-_i-preserved c =
+pub loop-i-preserved : goal.loop-i-preserved
+loop-i-preserved c =
     let a = c.args in
-    let now = c.loop-_i in (
+    let now = c.loop-i in (
       omega arith,
       slot_more a.slots a.insert a.step now._i now.slot c.next_slot-slot.result now.invariant.1
           (c.next_slot-slot.ensures ∙ ap (λ (R : ℕ). (now.slot + a.step) % R) (some_slots a.slots (omega arith))),
