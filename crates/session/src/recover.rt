@@ -11,14 +11,12 @@ impl IsoChannelState {
     pub fn recover(self, ring: &mut [u32]) -> IsoReply
         ensures { (result ≡ recovered self (length ring.old)) × (ring.new ≡ recovered_ring self ring.old) }
     {
-        let words = ring_words(self.cfg);
-        if ring.len() < words {
+        if ring.len() < ring_words(self.cfg) {
             return refused(17, self);
         }
         if self.is_bad_record() {
             return refused(18, self);
         }
-        let session = self.end(IsoOutcome::Disconnected, ring);
-        done(false, false, session)
+        done(false, false, self.end(IsoOutcome::Disconnected, ring))
     }
 }

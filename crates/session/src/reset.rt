@@ -14,8 +14,7 @@ impl IsoChannelState {
         if self.is_bad_record() {
             return refused(18, self);
         }
-        let fatal = self.fatal;
-        if !(self.head.count == 0) | has_reason(fatal) {
+        if self.head.count != 0 || has_reason(self.fatal) {
             return refused(16, self);
         }
         self.head.td_last = 0;
