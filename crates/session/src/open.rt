@@ -46,36 +46,28 @@ impl IsoChannelState {
 pub fn ring_words(cfg: IsoConfig) -> usize
     ensures { (result ≡ ring_words cfg) × (result ≤ 512) }
 {
-    let speed = cfg.speed;
-    iso_ring_size(speed) as usize * 2
+    usize::from(iso_ring_size(cfg.speed)) * 2
 }
 
 pub(crate) fn clear_ring(ring: &mut [u32], words: usize)
     requires { words ≤ length ring.old }
     ensures { ring.new ≡ cleared words ring.old }
 {
-    let mut i: usize = 0;
-    while i < words {
-        ring[i] = 0;
-        i += 1;
-    }
+    ring[..words].fill(0);
 }
 
 // The first words zero; a ring that has fewer stays as it was.
 pub fn clear_first(ring: &mut [u32], words: usize)
     ensures { ring.new ≡ cond (ltb (length ring.old) words) ring.old (cleared words ring.old) }
 {
-    if ring.len() < words {
-        return;
+    if ring.len() >= words {
+        clear_ring(ring, words);
     }
-    clear_ring(ring, words);
 }
 
 fn idle_session(cfg: IsoConfig) -> IsoChannelState
     ensures { result ≡ idle_session cfg }
 {
-    let request = blank_request();
-    let plan = blank_plan();
     IsoChannelState {
         cfg,
         head: IsoHead {
@@ -87,7 +79,7 @@ fn idle_session(cfg: IsoConfig) -> IsoChannelState
             count: 0,
         },
         fatal: None,
-        requests: [request; 64],
-        plans: [plan; 1024],
+        requests: [blank_request(); 64],
+        plans: [blank_plan(); 1024],
     }
 }

@@ -84,7 +84,7 @@ fn marks_of(plans: &[IsoPacketPlan]) -> [bool; 256]
 {
     let mut held = [false; 256];
     for plan in plans {
-        if let Some(mark) = held.get_mut(plan.desc_index as usize) {
+        if let Some(mark) = held.get_mut(usize::from(plan.desc_index)) {
             *mark = true;
         }
     }
@@ -107,16 +107,16 @@ impl IsoChannelState {
         if is_bad_config(self.cfg) | ((head.count < head.done) | (head.count > 64)) {
             return None;
         }
-        let requests = &self.requests[..head.count as usize];
+        let requests = &self.requests[..usize::from(head.count)];
         if any_bad_request(requests) {
             return None;
         }
         let all = packets_of(requests);
-        let pending = packets_of(&requests[head.done as usize..]);
-        if (all > 1_024) | (pending > u32::from(room(self.cfg))) {
+        let pending = packets_of(&requests[usize::from(head.done)..]);
+        if (all > 1_024) | (pending > usize::from(room(self.cfg))) {
             return None;
         }
-        let plans = &self.plans[..all as usize];
+        let plans = &self.plans[..all];
         let slots = slots_of(self.cfg);
         if any_bad_plan(iso_max_xfer_size(self.cfg.speed), slots, plans)
             | is_bad_state(head, slots, self.fatal)
@@ -124,10 +124,10 @@ impl IsoChannelState {
             return None;
         }
         Some(RecordScan {
-            all,
-            pending,
-            tail: self.plans[all.saturating_sub(1) as usize].desc_index,
-            held: marks_of(&plans[(all - pending) as usize..]),
+            all: all as u32,
+            pending: pending as u32,
+            tail: self.plans[all.saturating_sub(1)].desc_index,
+            held: marks_of(&plans[all - pending..]),
         })
     }
 }

@@ -14,7 +14,7 @@ impl IsoChannelState {
         if self.is_bad_record() {
             return refused(IsoRefusal::BadRecord, self);
         }
-        if (self.head.count != 0) | self.fatal.is_some() {
+        if self.head.count != 0 || self.fatal.is_some() {
             return refused(IsoRefusal::NotEmpty, self);
         }
         self.head.td_last = 0;

@@ -26,18 +26,13 @@ pub(crate) fn blank_plan() -> IsoPacketPlan
     }
 }
 
-pub(crate) fn packets_of(requests: &[IsoRequest]) -> u32
+// The packets of some requests.
+pub(crate) fn packets_of(requests: &[IsoRequest]) -> usize
     requires { length requests.now ≤ 64 }
     ensures { result ≡ packets_of requests.now }
 {
     requests
         .iter()
-        .map(|request| u32::from(request.packets))
+        .map(|request| usize::from(request.packets))
         .sum()
-}
-
-pub(crate) fn wide(x: u16) -> u32
-    ensures { (result ≡ x) × (result ≤ 65535) }
-{
-    x as u32
 }
