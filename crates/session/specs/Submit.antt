@@ -1,5 +1,5 @@
 -- What a submission leaves, by its way: document 01, "Submit": the session, the ring's words, the answer and the words that start the channel.
-use Rattle.std.specs.Prelude.{true, false, cond, Option, Some, None, Result, Ok, Err, List, [], ℕ, ◌+◌, max, length, set, take}
+use Rattle.std.specs.Prelude.{true, false, cond, Option, Some, None, Result, Ok, Err, List, ℕ, ◌+◌, max, length, set, take}
 use Rattle.std.proofs.lemmas.List.Edits.{sets}
 use Rattle.words.specs.Words.{hcchar_word, hctsiz_word, iso_hcintmsk}
 use Rattle.words.specs.declared.types.Dwc2EpType.TheVariants.{Isochronous}

@@ -1,9 +1,9 @@
 // Refusal 18: document 01, "Refusal numbers". The entries in use are walked where they stand, by lent parts of the tables. What a
 // submission asks of the tables is found on the way.
-ghost use Rattle.std.specs.Prelude.{◌≡◌, not, ◌||◌, ◌&&◌, cond, false, ℕ, ◌≤◌, ◌<◌, leb, ltb, get_or};
+ghost use Rattle.std.specs.Prelude.{◌≡◌, not, ◌||◌, ◌&&◌, cond, false, ℕ, ◌≤◌, ◌<◌, leb, ltb, get_or, length};
 ghost use Rattle.session.specs.Record.{is_bad_config, is_bad_request, any_bad_request, is_bad_plan, any_bad_plan, is_bad_record};
 ghost use Rattle.session.specs.Scan.{Scanned};
-ghost use Rattle.session.specs.Session.{has_reason, room};
+ghost use Rattle.session.specs.Session.{has_reason, room, blank_plan};
 ghost use Rattle.session.specs.Way.{is_held};
 
 use crate::place::{slots_of, step_of};
@@ -78,15 +78,14 @@ fn any_bad_plan(limit: u16, slots: u16, plans: &[IsoPacketPlan]) -> bool
     plans.iter().any(|&plan| is_bad_plan(limit, slots, plan))
 }
 
-// A mark for each slot below 256 that one of the plans has.
+// A mark for each slot that one of the plans has.
 fn marks_of(plans: &[IsoPacketPlan]) -> [bool; 256]
+    requires { (i : ℕ) → i < length plans.now → (get_or plans.now i blank_plan).desc_index < 256 }
     ensures { (k : ℕ) → k < 256 → get_or result k false ≡ is_held plans.now k }
 {
     let mut held = [false; 256];
     for plan in plans {
-        if let Some(mark) = held.get_mut(usize::from(plan.desc_index)) {
-            *mark = true;
-        }
+        held[plan.desc_index as usize] = true;
     }
     held
 }
@@ -104,21 +103,21 @@ impl IsoChannelState {
         ensures { Scanned self.now result }
     {
         let head = self.head;
+        let done = head.done as usize;
+        let count = head.count as usize;
         if is_bad_config(self.cfg) | ((head.count < head.done) | (head.count > 64)) {
             return None;
         }
-        let requests = &self.requests[..usize::from(head.count)];
-        if any_bad_request(requests) {
+        if any_bad_request(&self.requests[..count]) {
             return None;
         }
-        let all = packets_of(requests);
-        let pending = packets_of(&requests[usize::from(head.done)..]);
-        if (all > 1_024) | (pending > usize::from(room(self.cfg))) {
+        let all = packets_of(&self.requests[..count]);
+        let pending = packets_of(&self.requests[done..count]);
+        if (all > 1_024) | (pending > room(self.cfg) as usize) {
             return None;
         }
-        let plans = &self.plans[..all];
         let slots = slots_of(self.cfg);
-        if any_bad_plan(iso_max_xfer_size(self.cfg.speed), slots, plans)
+        if any_bad_plan(iso_max_xfer_size(self.cfg.speed), slots, &self.plans[..all])
             | is_bad_state(head, slots, self.fatal)
         {
             return None;
@@ -127,7 +126,7 @@ impl IsoChannelState {
             all: all as u32,
             pending: pending as u32,
             tail: self.plans[all.saturating_sub(1)].desc_index,
-            held: marks_of(&plans[all - pending..]),
+            held: marks_of(&self.plans[all - pending..all]),
         })
     }
 }

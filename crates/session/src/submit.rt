@@ -218,32 +218,23 @@ impl IsoChannelState {
         let scan = asked(cfg, head, transfer, self.scan(), lengths, ring);
         let parts = submit_parts(cfg, head, fatal, scan, transfer, lengths, ring);
         let n = parts.added;
-        let slots = parts.slots;
-        let step = parts.step;
-        let mut slot = parts.insert % slots;
-        let mut to = parts.to;
-        let mut i: usize = 0;
-        while i < n {
-            self.plans[to] = IsoPacketPlan {
+        let mut slot = parts.insert % parts.slots;
+        for i in 0..n {
+            self.plans[parts.to + i] = IsoPacketPlan {
                 planned: lengths[i] as u16,
                 desc_index: slot,
                 actual: 0,
                 status: TransferStatus::Completed,
             };
-            slot = next_slot(slot, step, slots);
-            to += 1;
-            i += 1;
+            slot = next_slot(slot, parts.step, parts.slots);
         }
         if n > 0 {
-            self.requests[head.count as usize] = new_request(head.next_request_id, n as u16);
+            self.requests[usize::from(head.count)] = new_request(head.next_request_id, n as u16);
         }
-        let next = parts.head;
-        let answer = parts.answer;
-        let start = parts.start;
-        self.head = next;
+        self.head = parts.head;
         Submitted {
-            answer,
-            start,
+            answer: parts.answer,
+            start: parts.start,
             session: self,
         }
     }

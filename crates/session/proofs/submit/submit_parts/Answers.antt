@@ -1,5 +1,8 @@
 -- `submit_parts` acts by its way: what its functions answer for the way are the parts of the submission, in every session that was asked.
-use mathlib.Core.Path.{◌≡◌, refl, ◌∙◌, sym, subst}
+use mathlib.Core.Path.{◌≡◌, refl, ◌∙◌, subst}
+use mathlib.Core.Bool.{false}
+use Rattle.std.proofs.Common.{rules}
+use Rattle.session.specs.Record.{is_bad_record}
 use Rattle.std.specs.Option.{unwrap_or}
 use Rattle.session.specs.declared.transfer.SubmitScan.{SubmitScan}
 use Rattle.session.specs.Scan.{whole, Found, none_asked}
@@ -16,8 +19,8 @@ returns c = λ requests plans w.
     let ring = a.ring.now in
     let way = c.submit_way-way.result in
     let scan = c.unwrap_or_default-found.result in
-    let is : unwrap_or a.scan none_asked ≡ scan = ? in
-    let asked = λ good. subst (λ (x : SubmitScan). Found s a.transfer L ring x) is (asked_found s a.transfer L ring a.scan w good) in
+    let is : unwrap_or a.scan none_asked ≡ scan = search rules in
+    let asked : is_bad_record s ≡ false → Found s a.transfer L ring scan = λ good. subst (λ (x : SubmitScan). Found s a.transfer L ring x) is (asked_found s a.transfer L ring a.scan w good) in
     let way_is =
     c.submit_way-way.ensures.0 requests
     plans w in (

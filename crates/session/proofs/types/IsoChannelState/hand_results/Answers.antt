@@ -7,13 +7,13 @@ use Rattle.session.proofs.Laws.Handed.{handed_by}
 use Rattle.session.proofs.Laws.Tables.{part}
 use Rattle.session.proofs.types.IsoChannelState.hand_results.Goals as goal
 
-pub returns-then-is_done : goal.returns-then-is_done
-returns-then-is_done c =
+pub returns-then-eq : goal.returns-then-eq
+returns-then-eq c =
     let a = c.args in
     let from = c.plans_begin-from in
     let to = c.plans_end-to in
     handed_by a.at a.self.now from.result to.result from.ensures to.ensures.0 a.results.now c.write_results.new.results
-    (sym c.is_done.ensures ∙ c.if-is_done.true)
+    (sym c.eq.ensures ∙ c.if-eq.true)
     (c.write_results.ensures
     ∙ ap (λ (ps : List IsoPacketPlan). sets a.results.now 0 (map result_word ps))
     (part from.result to.result a.self.now.plans (omega (arith, from.ensures, to.ensures.1))))

@@ -1,5 +1,5 @@
 -- `submit` is its parts, with the tables written in place. The invariant: only the plans change, and those still to be put, put into the table as it
--- is now, give the goal; `slot` is the next packet's. The measure is how many packets are left.
+-- is now, give the goal; `slot` is the next packet's.
 use mathlib.Core.Path.{◌≡◌, ◌∙◌, ap, ap₂}
 use mathlib.Core.Logic.{inl, inr}
 use Prim.Native.Nat.{ℕ, ◌+◌, ◌%◌, ◌≤◌, ◌<◌}
@@ -36,13 +36,12 @@ loop-i-preserved c =
       omega arith,
       slot_more r.slots r.insert r.step now.i now.slot c.next_slot-slot.result now.invariant.1 (c.next_slot-slot.ensures
           ∙ ap (λ (k : ℕ). (now.slot + r.step) % k) (some_slots r.slots parted.some_slots)),
-      omega arith,
-      length-set now.self.plans _ _ ∙ now.invariant.3,
+      length-set now.self.plans _ _ ∙ now.invariant.2,
       ap
           (λ (s : IsoChannelState).
-          whole s.cfg s.head s.fatal s.requests (set now.self.plans now.to (new_plan (get_or L now.i 0) now.slot)))
-          now.invariant.4,
-      plans_next r.slots r.insert r.step now.i r.added L now.self.plans now.to now.slot (omega arith) many now.invariant.1 ∙ now.invariant.5,
+          whole s.cfg s.head s.fatal s.requests (set now.self.plans (r.to + now.i) (new_plan (get_or L now.i 0) now.slot)))
+          now.invariant.3,
+      plans_next r.slots r.insert r.step now.i r.added L now.self.plans (r.to + now.i) now.slot (omega arith) many now.invariant.1 ∙ now.invariant.4,
     )
 
 pub overflow_cast-n : goal.overflow_cast-n
@@ -61,8 +60,8 @@ overflow_cast-n c =
     c.args.lengths.now = parted.fitting in
     omega (arith, (fits (omega arith)).few)
 
-pub bounds-self-head : goal.bounds-self-head
-bounds-self-head c =
+pub bounds-self-from : goal.bounds-self-from
+bounds-self-from c =
     let answered : Asked c.args.self c.args.transfer
     c.args.lengths.now
     c.args.ring.now c.asked-scan.result = let s = c.args.self in
@@ -93,7 +92,7 @@ returns c =
     let r = c.submit_parts-parts.result in
     let now = c.loop-i in
     let put : now.self.plans ≡ plans_with s r L =
-    plans_past r.slots r.insert r.step now.i r.added L now.self.plans now.to (omega arith) ∙ now.invariant.5 in
+    plans_past r.slots r.insert r.step now.i r.added L now.self.plans (r.to + now.i) (omega arith) ∙ now.invariant.4 in
     let push : Pushed s L r c.if-n-gt0.self now.self.plans =
     elim c.if-n-gt0.branch [
       | then-n-gt0 w ↦
@@ -101,9 +100,9 @@ returns c =
             w.if-n-gt0.true,
             w.self-is
                 ∙ ap₂ (λ (x : IsoChannelState) (q : IsoRequest). whole x.cfg x.head x.fatal (set x.requests s.head.count q) x.plans)
-                now.invariant.4 w.new_request.ensures,
+                now.invariant.3 w.new_request.ensures,
           )
-      | else-n-gt0 w ↦ inr (w.if-n-gt0.false, w.self-is ∙ now.invariant.4)
+      | else-n-gt0 w ↦ inr (w.if-n-gt0.false, w.self-is ∙ now.invariant.3)
     ] in (
       joined_by s L r c.if-n-gt0.self now.self.plans push put
           ∙ parted.joins,
