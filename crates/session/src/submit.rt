@@ -207,16 +207,22 @@ pub fn new_request(id: u64, packets: u16) -> IsoRequest
 }
 
 impl IsoChannelState {
+    // The submission but for the tables.
+    fn parts_of(&self, transfer: IsoTransfer, lengths: &[u32], ring: &mut [u32]) -> SubmitParts
+        ensures { Parted self.now transfer lengths.now ring.old result
+            × (ring.new ≡ submitted_ring self.now transfer lengths.now ring.old) }
+    {
+        let scan = asked(self.cfg, self.head, transfer, self.scan(), lengths, ring);
+        submit_parts(self.cfg, self.head, self.fatal, scan, transfer, lengths, ring)
+    }
+
     // Hands a request to the ring. What it does follows from the way; the session comes back with the answer.
     pub fn submit(mut self, transfer: IsoTransfer, lengths: &[u32], ring: &mut [u32]) -> Submitted
         ensures { (result ≡ submitted self transfer lengths.now ring.old)
             × (ring.new ≡ submitted_ring self transfer lengths.now ring.old) }
     {
-        let cfg = self.cfg;
         let head = self.head;
-        let fatal = self.fatal;
-        let scan = asked(cfg, head, transfer, self.scan(), lengths, ring);
-        let parts = submit_parts(cfg, head, fatal, scan, transfer, lengths, ring);
+        let parts = self.parts_of(transfer, lengths, ring);
         let n = parts.added;
         let mut slot = parts.insert % parts.slots;
         for i in 0..n {
@@ -229,7 +235,7 @@ impl IsoChannelState {
             slot = next_slot(slot, parts.step, parts.slots);
         }
         if n > 0 {
-            self.requests[usize::from(head.count)] = new_request(head.next_request_id, n as u16);
+            self.requests[head.count as usize] = new_request(head.next_request_id, n as u16);
         }
         self.head = parts.head;
         Submitted {

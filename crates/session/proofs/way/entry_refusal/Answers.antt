@@ -1,6 +1,6 @@
 -- Where no test refused, none of the definition holds.
 use Rattle.std.proofs.Common.{◌≡◌, ◌∙◌, sym, ap, ℕ, Bool, ◌+◌, ◌-◌, not, false, ◌||◌, ◌&&◌, eqb, ltb, leb, arith, rules, tests}
-use borrow.Author.Tests.{ltb-false, leb-false, ne_eqb}
+use borrow.Author.Tests.{ltb-false, leb-false}
 use Rattle.session.specs.Session.{room, all_packets, has_reason}
 use Rattle.session.specs.Scan.{whole}
 use Rattle.session.specs.Way.{is_low, is_over, room_checks}

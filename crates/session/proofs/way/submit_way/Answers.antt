@@ -1,5 +1,5 @@
 -- `submit_way` is its definition, in every session that was asked: each way out knows the tests before it.
-use Rattle.std.proofs.Common.{◌≡◌, ◌∙◌, sym, ap, subst, ℕ, ◌≤◌, length, Some, arith}
+use Rattle.std.proofs.Common.{◌∙◌, sym, ap, subst, ℕ, ◌≤◌, length, arith}
 use Rattle.session.specs.Session.{ring_words}
 use Rattle.session.specs.Scan.{whole, Asked}
 use Rattle.session.specs.Way.{long_at}
