@@ -213,7 +213,9 @@ impl IsoChannelState {
             × (ring.new ≡ submitted_ring self.now transfer lengths.now ring.old) }
     {
         let scan = asked(self.cfg, self.head, transfer, self.scan(), lengths, ring);
-        submit_parts(self.cfg, self.head, self.fatal, scan, transfer, lengths, ring)
+        submit_parts(
+            self.cfg, self.head, self.fatal, scan, transfer, lengths, ring,
+        )
     }
 
     // Hands a request to the ring. What it does follows from the way; the session comes back with the answer.

@@ -15,5 +15,5 @@ returns-then-lengths-le255 c = λ fatal requests plans w.
     let walked = subst (Scanned s) c.in_ok-scan.was w in (
       walked.0,
       found_at s a.transfer a.lengths.now a.ring.now _ walked.1.all walked.1.pending walked.1.tail insert.ensures (λ few.
-      c.clash.ensures ∙ clash_marked a.cfg c.in_ok-scan.scan.held (pending_plans s) walked.1.held insert.result (length a.lengths.now)),
+          c.clash.ensures ∙ clash_marked a.cfg c.in_ok-scan.scan.held (pending_plans s) walked.1.held insert.result (length a.lengths.now)),
     )

@@ -1,8 +1,8 @@
 -- `submit` is its parts, with the tables written in place. The invariant: only the plans change, and those still to be put, put into the table as it
 -- is now, give the goal; `slot` is the next packet's.
-use mathlib.Core.Path.{◌≡◌, ◌∙◌, ap, ap₂}
+use mathlib.Core.Path.{◌≡◌, refl, ◌∙◌, ap, ap₂}
 use mathlib.Core.Logic.{inl, inr}
-use Prim.Native.Nat.{ℕ, ◌+◌, ◌%◌, ◌≤◌, ◌<◌}
+use Prim.Native.Nat.{ℕ, ◌+◌, ◌%◌, ◌≤◌}
 use native.Mathlib.Omega.{arith}
 use lib.ListN.{length, get_or, set, take, drop, length-set}
 use lib.Seq.{sets}
@@ -62,3 +62,21 @@ returns c =
       | else-n-gt0 w ↦ inr (w.if-n-gt0.false, w.self-is ∙ now.invariant.3)
     ] in
     (joined_by s L r c.if-n-gt0.self now.self.plans push put ∙ c.parts_of-parts.ensures.0.joins, c.parts_of-parts.ensures.1)
+
+pub overflow_cast-self : goal.overflow_cast-self
+overflow_cast-self c =
+    let fit = c.parts_of-parts.ensures.0.fitting (omega arith) in
+    omega (arith, fit.short c.loop-i.i (omega (arith, fit.every)))
+
+pub loop-i-init : goal.loop-i-init
+loop-i-init c =
+    let s = c.args.self in
+    let L = c.args.lengths.now in
+    let r = c.parts_of-parts.result in
+    let to : r.to + 0 ≡ r.to = omega arith in (
+      omega arith,
+      ap (λ (k : ℕ). k % r.slots) (omega arith),
+      omega arith,
+      refl,
+      ap (λ (n : ℕ). sets s.plans n (plans_from r.slots r.insert r.step 0 (take r.added L))) to,
+    )
