@@ -5,7 +5,7 @@ ghost use Rattle.session.specs.declared.reply.ReclaimAnswer.TheVariants.{Refused
 ghost use Rattle.port.specs.Tags.{flag_tag};
 ghost use Rattle.port.specs.Calls.{port_reply, reply_refused, reclaim_port, reclaim_refused, transfer_of, is_cut, submit_port, submit_refused};
 
-use crate::tags::outcome_tagged;
+use crate::tags::Tagged;
 use session::{IsoAnswer, IsoChannelStart, IsoTransfer, ReclaimAnswer, SubmitAnswer};
 
 #[repr(C)]
@@ -121,7 +121,7 @@ pub(crate) fn reclaim_port(answer: ReclaimAnswer, taken: bool, halt: bool) -> Po
 {
     match answer {
         ReclaimAnswer::Completed(outcome, total, packets) => {
-            let t = outcome_tagged(outcome);
+            let t = Tagged::from(outcome);
             PortReclaimed {
                 refusal: 0,
                 completed: 1,

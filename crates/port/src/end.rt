@@ -13,7 +13,7 @@ ghost use Rattle.port.specs.Places.{requests_of, with_requests, Left};
 use crate::entries::{put_request, put_tagged, request_at};
 use crate::load::{config_at, head_at};
 use crate::save::put_head;
-use crate::tags::fatal_tagged;
+use crate::tags::Tagged;
 use session::{IsoFatal, IsoHead, IsoOutcome, clear_first, ring_words, with_outcome};
 
 // The outcome of the request at an offset.
@@ -66,6 +66,6 @@ pub(crate) fn end_at(bytes: &mut [u8], outcome: IsoOutcome, ring: &mut [u32])
     let head = head_at(bytes);
     fail_at(bytes, head.done, head.count, outcome);
     put_head(bytes, ended_head(head));
-    put_tagged(bytes, 34, fatal_tagged(IsoFatal::Nothing));
+    put_tagged(bytes, 34, Tagged::from(IsoFatal::Nothing));
     clear_first(ring, words);
 }

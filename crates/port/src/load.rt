@@ -9,7 +9,7 @@ ghost use Rattle.port.specs.Places.{requests_of};
 
 use crate::entries::{is_bad_plan_at, is_bad_request_at, tagged_at};
 use crate::numbers::{byte_at, u16_at, u32_at, u64_at};
-use crate::tags::{direction_of, fatal_of, is_bad_tagged, mode_of, speed_of};
+use crate::tags::{direction_of, is_bad_tagged, mode_of, speed_of};
 use session::{IsoConfig, IsoFatal, IsoHead};
 
 pub(crate) fn config_at(bytes: &[u8]) -> IsoConfig
@@ -47,7 +47,7 @@ pub(crate) fn reason_at(bytes: &[u8]) -> IsoFatal
     requires { 8488 ≤ length bytes.now }
     ensures { result ≡ fatal_of (tagged_of (drop 34 bytes.now)) }
 {
-    fatal_of(tagged_at(bytes, 34))
+    IsoFatal::from(tagged_at(bytes, 34))
 }
 
 // The requests in use, as far as the table goes.

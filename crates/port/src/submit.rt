@@ -15,11 +15,10 @@ use crate::entries::{put_plan, put_request, tagged_at};
 use crate::load::{config_at, head_at};
 use crate::marks::scan_of;
 use crate::save::put_head;
-use crate::tags::fatal_of;
 use crate::verdict::Verdict;
 use ring::next_slot;
 use session::{
-    IsoHead, IsoPacketPlan, IsoTransfer, SubmitParts, TransferStatus, new_request, submit_parts,
+    IsoFatal, IsoHead, IsoPacketPlan, IsoTransfer, SubmitParts, TransferStatus, new_request, submit_parts,
 };
 
 // The plans of `n` packets, behind one another from `at` on.
@@ -89,7 +88,7 @@ pub(crate) fn submit_at(
 {
     let cfg = config_at(bytes);
     let head = head_at(bytes);
-    let fatal = fatal_of(tagged_at(bytes, 34));
+    let fatal = IsoFatal::from(tagged_at(bytes, 34));
     let scan = scan_of(bytes, verdict, cfg, head, transfer, lengths, ring);
     let parts = submit_parts(cfg, head, fatal, scan, transfer, lengths, ring);
     put_added(bytes, head, parts, lengths);
