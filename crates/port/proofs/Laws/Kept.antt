@@ -93,14 +93,6 @@ u64_kept xs h k =
     ap₂ (λ (a b : ℕ). u32_bytes a ++ u32_bytes b) low high
     ∙ join 4 4 xs (u32_kept xs h (omega arith)) (u32_kept (drop 4 xs) (octets_drop 4 xs h) (omega (arith, length-drop 4 xs)))
 
--- two numbers read one behind the other are sixteen bytes
-pub pair_u64_kept :
-    (at : ℕ) (xs : List ℕ) → Octets xs → at + 16 ≤ length xs
-    → u64_bytes (u64_of (drop at xs)) ++ u64_bytes (u64_of (drop (at + 8) xs)) ≡ take 16 (drop at xs)
-pair_u64_kept at xs h k =
-    join 8 8 (drop at xs) (u64_kept (drop at xs) (octets_drop at xs h) (omega (arith, length-drop at xs)))
-    (u64_kept (drop (at + 8) xs) (octets_drop (at + 8) xs h) (omega (arith, length-drop (at + 8) xs)) ∙ ap (take 8) (sym (drop-drop 8 at xs)))
-
 -- ---- cases
 
 -- a number is `n`, or it is not
