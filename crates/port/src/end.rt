@@ -35,10 +35,8 @@ fn fail_at(bytes: &mut [u8], from: u16, to: u16, outcome: IsoOutcome)
         (with_requests (session_of bytes.old)
         (sets (requests_of bytes.old) from (map (with_outcome outcome) (slice from to (requests_of bytes.old))))) }
 {
-    let mut i = from;
-    while i < to {
+    for i in from..to {
         put_outcome(bytes, 40 + 20 * i as usize, outcome);
-        i += 1;
     }
 }
 
@@ -46,12 +44,11 @@ fn ended_head(head: IsoHead) -> IsoHead
     ensures { result ≡ ended_head head }
 {
     IsoHead {
-        next_request_id: head.next_request_id,
         live: false,
         td_last: 0,
         start_full_frame: 0,
         done: head.count,
-        count: head.count,
+        ..head
     }
 }
 
