@@ -18,7 +18,8 @@ use crate::save::put_head;
 use crate::verdict::Verdict;
 use ring::next_slot;
 use session::{
-    IsoFatal, IsoHead, IsoPacketPlan, IsoTransfer, SubmitParts, TransferStatus, new_request, submit_parts,
+    IsoFatal, IsoHead, IsoPacketPlan, IsoTransfer, SubmitParts, TransferStatus, new_request,
+    submit_parts,
 };
 
 // The plans of the packets that are added, behind one another.

@@ -215,6 +215,10 @@ pub(crate) fn is_bad_tagged(fault: u8, last: u8, t: Tagged) -> bool
     ensures { result ≡ is_bad_tagged fault last t }
 {
     t.tag > last
-        || (if t.tag == fault { !is_fault(t.kind) } else { t.kind != 0 })
+        || (if t.tag == fault {
+            !is_fault(t.kind)
+        } else {
+            t.kind != 0
+        })
         || (t.tag < fault && t.word != 0)
 }

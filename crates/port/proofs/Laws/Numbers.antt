@@ -19,16 +19,38 @@ module _ (xs : List ℕ) where
   pub u32_read : from_le_bytes w32 (take 4 xs) ≡ u32_of xs
   unfolding u32_of u16_of
   u32_read =
-      omega (arith, get_or-take 4 xs 0 0 (omega arith), get_or-take 4 xs 1 0 (omega arith), get_or-take 4 xs 2 0 (omega arith), get_or-take 4 xs 3 0 (omega arith),
-      get_or-drop 2 xs 0 0, get_or-drop 2 xs 1 0)
+      omega (
+        arith,
+        get_or-take 4 xs 0 0 (omega arith),
+        get_or-take 4 xs 1 0 (omega arith),
+        get_or-take 4 xs 2 0 (omega arith),
+        get_or-take 4 xs 3 0 (omega arith),
+        get_or-drop 2 xs 0 0,
+        get_or-drop 2 xs 1 0,
+      )
 
   pub u64_read : from_le_bytes w64 (take 8 xs) ≡ u64_of xs
   unfolding u64_of u32_of u16_of
   u64_read =
-      omega (arith, get_or-take 8 xs 0 0 (omega arith), get_or-take 8 xs 1 0 (omega arith), get_or-take 8 xs 2 0 (omega arith), get_or-take 8 xs 3 0 (omega arith),
-      get_or-take 8 xs 4 0 (omega arith), get_or-take 8 xs 5 0 (omega arith), get_or-take 8 xs 6 0 (omega arith), get_or-take 8 xs 7 0 (omega arith),
-      get_or-drop 2 xs 0 0, get_or-drop 2 xs 1 0, get_or-drop 4 xs 0 0, get_or-drop 4 xs 1 0,
-      get_or-drop 2 (drop 4 xs) 0 0, get_or-drop 2 (drop 4 xs) 1 0, get_or-drop 4 xs 2 0, get_or-drop 4 xs 3 0)
+      omega (
+        arith,
+        get_or-take 8 xs 0 0 (omega arith),
+        get_or-take 8 xs 1 0 (omega arith),
+        get_or-take 8 xs 2 0 (omega arith),
+        get_or-take 8 xs 3 0 (omega arith),
+        get_or-take 8 xs 4 0 (omega arith),
+        get_or-take 8 xs 5 0 (omega arith),
+        get_or-take 8 xs 6 0 (omega arith),
+        get_or-take 8 xs 7 0 (omega arith),
+        get_or-drop 2 xs 0 0,
+        get_or-drop 2 xs 1 0,
+        get_or-drop 4 xs 0 0,
+        get_or-drop 4 xs 1 0,
+        get_or-drop 2 (drop 4 xs) 0 0,
+        get_or-drop 2 (drop 4 xs) 1 0,
+        get_or-drop 4 xs 2 0,
+        get_or-drop 4 xs 3 0,
+      )
 
 -- the bytes of a number that fits are below 256
 small : (x : ℕ) (xs : List ℕ) → x < 65536 → Octets xs → Octets (x % 256 ∷ x / 256 ∷ xs)
