@@ -1,14 +1,14 @@
 // The ring sums by numbers, for C. Each answers as crate `ring` does for what the numbers name, and 18 where one names nothing.
-ghost use Rattle.std.specs.Prelude.{◌≡◌, ◌||◌, cond, Some, None};
+ghost use Rattle.std.specs.Prelude.{◌≡◌, ◌||◌};
 ghost use Rattle.words.specs.Numbers.{pid_number};
 ghost use Rattle.ring.specs.Gcd.{gcd};
 ghost use Rattle.ring.specs.RingSums.{ring_size, packet_limit, capacity, starting_frame, frame_slot, grid_slot, schinfo, pid_of, next_number, service_frames, frame_table};
 ghost use Rattle.port.specs.Tags.{speed_of, direction_of};
 ghost use Rattle.port.specs.Sums.{is_bad_speed, is_bad_direction, number_unless, number_from, frames_unless, frames_from};
 
-use crate::tags::{direction_of, speed_of};
-use ring::{IsoServiceFrames, Speed};
-use words::{Direction, Dwc2Pid};
+use crate::tags::{named_direction, named_speed};
+use ring::IsoServiceFrames;
+use words::Dwc2Pid;
 
 // `refusal` is 0 or the refusal number; refused, `value` is 0.
 #[repr(C)]
@@ -40,32 +40,6 @@ impl From<Option<u32>> for PortNumber {
             },
         }
     }
-}
-
-// The speed that a number names.
-fn named_speed(speed: u8) -> Option<Speed>
-    ensures { result ≡ cond (is_bad_speed speed) None (Some (speed_of speed)) }
-{
-    (!is_bad_speed(speed)).then(|| speed_of(speed))
-}
-
-// The direction that a number names.
-fn named_direction(direction: u8) -> Option<Direction>
-    ensures { result ≡ cond (is_bad_direction direction) None (Some (direction_of direction)) }
-{
-    (!is_bad_direction(direction)).then(|| direction_of(direction))
-}
-
-pub(crate) fn is_bad_speed(speed: u8) -> bool
-    ensures { result ≡ is_bad_speed speed }
-{
-    speed > 2
-}
-
-pub(crate) fn is_bad_direction(direction: u8) -> bool
-    ensures { result ≡ is_bad_direction direction }
-{
-    direction > 1
 }
 
 pub fn dwc2_iso_ring_size(speed: u8) -> PortNumber

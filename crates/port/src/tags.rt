@@ -1,8 +1,9 @@
 // Enums as bytes: the number of each case, and the case of each number.
-ghost use Rattle.std.specs.Prelude.{◌≡◌};
+ghost use Rattle.std.specs.Prelude.{◌≡◌, cond, nat_lt, Some, None};
 ghost use Rattle.words.specs.Numbers.{fault_bit};
 ghost use Rattle.port.specs.Tags.{speed_tag, speed_of, direction_tag, direction_of, mode_tag, mode_of, status_tag, status_of, flag_tag};
 ghost use Rattle.port.specs.Tags.{fault_of, is_fault, outcome_tagged, outcome_of, reason_tagged, fatal_tagged, fatal_of, is_bad_tagged};
+ghost use Rattle.port.specs.Sums.{is_bad_speed, is_bad_direction};
 
 use ring::Speed;
 use session::{IsoFatal, IsoHaltReason, IsoMode, IsoOutcome, TransferStatus};
@@ -44,6 +45,19 @@ pub(crate) fn speed_of(tag: u8) -> Speed
     }
 }
 
+pub(crate) fn is_bad_speed(speed: u8) -> bool
+    ensures { result ≡ is_bad_speed speed }
+{
+    speed > 2
+}
+
+// The speed that a number names.
+pub(crate) fn named_speed(speed: u8) -> Option<Speed>
+    ensures { result ≡ cond (is_bad_speed speed) None (Some (speed_of speed)) }
+{
+    (!is_bad_speed(speed)).then(|| speed_of(speed))
+}
+
 pub(crate) fn direction_tag(direction: Direction) -> u8
     ensures { result ≡ direction_tag direction }
 {
@@ -62,6 +76,19 @@ pub(crate) fn direction_of(tag: u8) -> Direction
     }
 }
 
+pub(crate) fn is_bad_direction(direction: u8) -> bool
+    ensures { result ≡ is_bad_direction direction }
+{
+    direction > 1
+}
+
+// The direction that a number names.
+pub(crate) fn named_direction(direction: u8) -> Option<Direction>
+    ensures { result ≡ cond (is_bad_direction direction) None (Some (direction_of direction)) }
+{
+    (!is_bad_direction(direction)).then(|| direction_of(direction))
+}
+
 pub(crate) fn mode_tag(mode: IsoMode) -> u8
     ensures { result ≡ mode_tag mode }
 {
@@ -78,6 +105,13 @@ pub(crate) fn mode_of(tag: u8) -> IsoMode
         0 => IsoMode::Compatible,
         _ => IsoMode::Guarded,
     }
+}
+
+// The mode that a number names.
+pub(crate) fn named_mode(mode: u8) -> Option<IsoMode>
+    ensures { result ≡ cond (nat_lt 1 mode) None (Some (mode_of mode)) }
+{
+    (mode <= 1).then(|| mode_of(mode))
 }
 
 pub(crate) fn status_tag(status: TransferStatus) -> u8
