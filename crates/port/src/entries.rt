@@ -4,7 +4,7 @@ ghost use Rattle.std.proofs.lemmas.List.Edits.{sets};
 ghost use Rattle.port.specs.Tags.{tagged_of, tagged_bytes};
 ghost use Rattle.port.specs.Layout.{request_of, request_bytes, is_bad_request_bytes, plan_of, plan_bytes, is_bad_plan_bytes};
 
-use crate::numbers::{byte_at, put_byte, put_u16, put_u32, put_u64, u16_at, u32_at, u64_at};
+use crate::numbers::{byte_at, put, put_u16, put_u32, put_u64, u16_at, u32_at, u64_at};
 use crate::tags::{Tagged, is_bad_tagged, status_of, status_tag};
 use session::{IsoOutcome, IsoPacketPlan, IsoRequest};
 
@@ -23,8 +23,7 @@ pub(crate) fn put_tagged(bytes: &mut [u8], at: usize, t: Tagged)
     requires { at + 6 ≤ length bytes.old }
     ensures { bytes.new ≡ sets bytes.old at (tagged_bytes t) }
 {
-    put_byte(bytes, at, t.tag);
-    put_byte(bytes, at + 1, t.kind);
+    put(bytes, at, [t.tag, t.kind]);
     put_u32(bytes, at + 2, t.word);
 }
 
@@ -73,11 +72,10 @@ pub(crate) fn put_plan(bytes: &mut [u8], at: usize, plan: IsoPacketPlan)
     requires { at + 7 ≤ length bytes.old }
     ensures { bytes.new ≡ sets bytes.old at (plan_bytes plan) }
 {
-    let status = plan.status;
     put_u16(bytes, at, plan.planned);
     put_u16(bytes, at + 2, plan.desc_index);
     put_u16(bytes, at + 4, plan.actual);
-    put_byte(bytes, at + 6, status_tag(status));
+    put(bytes, at + 6, [status_tag(plan.status)]);
 }
 
 pub(crate) fn is_bad_plan_at(bytes: &[u8], at: usize) -> bool

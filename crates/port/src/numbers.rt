@@ -1,5 +1,5 @@
 // Numbers in a run of bytes, little-endian, at an offset.
-ghost use Rattle.std.specs.Prelude.{◌≡◌, ◌+◌, ◌≤◌, [], ◌∷◌, length, take, drop};
+ghost use Rattle.std.specs.Prelude.{◌≡◌, ◌+◌, ◌≤◌, length, take, drop};
 ghost use Rattle.std.proofs.Math.Seq.{slice};
 ghost use Rattle.std.proofs.lemmas.List.Edits.{sets};
 ghost use Rattle.port.specs.Bytes.{byte_of, u16_of, u32_of, u64_of, u16_bytes, u32_bytes, u64_bytes};
@@ -48,13 +48,6 @@ pub(crate) fn put<const N: usize>(bytes: &mut [u8], at: usize, part: [u8; N])
     ensures { bytes.new ≡ sets bytes.old at part.entry }
 {
     bytes[at..at + N].copy_from_slice(&part);
-}
-
-pub(crate) fn put_byte(bytes: &mut [u8], at: usize, x: u8)
-    requires { at + 1 ≤ length bytes.old }
-    ensures { bytes.new ≡ sets bytes.old at (x ∷ []) }
-{
-    bytes[at] = x;
 }
 
 pub(crate) fn put_u16(bytes: &mut [u8], at: usize, x: u16)

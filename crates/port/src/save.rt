@@ -5,7 +5,7 @@ ghost use Rattle.session.specs.Session.{idle_session};
 ghost use Rattle.port.specs.Bytes.{zeros};
 ghost use Rattle.port.specs.Layout.{mark_bytes, config_bytes, head_bytes, saved};
 
-use crate::numbers::{put, put_byte, put_u16, put_u32, put_u64};
+use crate::numbers::{put, put_u16, put_u32, put_u64};
 use crate::tags::{direction_tag, flag_tag, mode_tag, speed_tag};
 use session::{IsoConfig, IsoHead};
 
@@ -39,7 +39,7 @@ pub(crate) fn put_head(bytes: &mut [u8], head: IsoHead)
     requires { 8488 ≤ length bytes.old }
     ensures { bytes.new ≡ sets bytes.old 15 (head_bytes head) }
 {
-    put_byte(bytes, 15, flag_tag(head.live));
+    put(bytes, 15, [flag_tag(head.live)]);
     put_u64(bytes, 16, head.next_request_id);
     put_u32(bytes, 24, head.start_full_frame);
     put_u16(bytes, 28, head.td_last);
