@@ -1,5 +1,5 @@
 -- Each way out is the definition at the tests that led there; one writes a request's outcome, one the reason.
-use Rattle.std.proofs.Common.{◌≡◌, ℕ, ◌<◌, ◌≤◌, true, false, ltb, List, length, sym, refl, ap, ◌∙◌, subst, lt_of_lt_of_le, arith, le-ltb, lt-ltb}
+use Rattle.std.proofs.Common.{◌≡◌, ℕ, ◌<◌, ◌≤◌, false, ltb, List, length, sym, refl, ap, ◌∙◌, subst, lt_of_lt_of_le, arith, le-ltb, lt-ltb}
 use mathlib.Core.Path.{subst⁻¹}
 use native.Mathlib.Nat.{min-le_right}
 use lib.Seq.{slice}
@@ -8,11 +8,10 @@ use Rattle.session.specs.declared.types.IsoOutcome.TheVariants as outcome
 use Rattle.session.specs.Session.{has_reason}
 use Rattle.session.specs.Record.{is_bad_record}
 use Rattle.session.specs.Cancel.{place_of, request_at, with_cancelled, cancelled}
-use Rattle.session.proofs.Laws.Record.{Sound, sound}
+use Rattle.session.proofs.Laws.Record.{sound}
 use Rattle.session.proofs.Laws.Replies.{cancel_bad, cancel_completed, cancel_unknown, cancel_again, cancel_halt}
 use Rattle.port.specs.Layout.{session_of, requests_in}
 use Rattle.port.proofs.Laws.Calls.{long_enough}
-use Rattle.port.proofs.Laws.Kept.{Octets}
 use Rattle.port.proofs.Laws.Left.{left_is}
 use Rattle.port.proofs.Laws.Steps.{outcome_here, stays, becomes}
 use Rattle.port.proofs.Laws.Walks.{requests_in_lem}

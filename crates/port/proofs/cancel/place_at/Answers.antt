@@ -1,5 +1,5 @@
 -- A request that has the number ends the walk, and any other is passed.
-use Rattle.std.proofs.Common.{◌≡◌, ℕ, ◌≤◌, eqb, length, sym, ap, ◌∙◌, arith, eq-eqb, ne_eqb}
+use Rattle.std.proofs.Common.{ℕ, ◌≤◌, eqb, length, sym, ap, ◌∙◌, arith, eq-eqb, ne_eqb}
 use Rattle.session.proofs.Laws.Replies.{place_here, place_next, place_past}
 use Rattle.port.specs.Layout.{session_of}
 use Rattle.port.proofs.Laws.Placed.{requests_many}

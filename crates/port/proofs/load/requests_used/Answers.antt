@@ -1,5 +1,5 @@
 -- One turn of the walk, and its end.
-use Rattle.std.proofs.Common.{◌≡◌, ℕ, ◌+◌, ◌*◌, Bool, cond, Option, Some, None, get_or, drop, sym, ap, ◌∙◌, arith}
+use Rattle.std.proofs.Common.{◌≡◌, ℕ, ◌+◌, ◌*◌, Bool, cond, Some, None, get_or, drop, ap, ◌∙◌, arith}
 use lib.Seq.{slice}
 use Rattle.session.specs.Session.{blank_request, packets_of}
 use Rattle.session.proofs.Laws.Sums.{packets_next, packets_past}
