@@ -5,7 +5,7 @@ ghost use Rattle.session.specs.declared.reply.ReclaimAnswer.TheVariants.{Refused
 ghost use Rattle.port.specs.Tags.{flag_tag};
 ghost use Rattle.port.specs.Calls.{port_reply, reply_refused, reclaim_port, reclaim_refused, transfer_of, is_cut, submit_port, submit_refused};
 
-use crate::tags::outcome_tagged;
+use crate::tags::Tagged;
 use session::{IsoAnswer, IsoChannelStart, IsoTransfer, ReclaimAnswer, SubmitAnswer};
 
 #[repr(C)]
@@ -59,12 +59,6 @@ pub struct PortSubmitted {
     pub frames: [u8; 64],
 }
 
-pub(crate) fn flag(yes: bool) -> u32
-    ensures { result ≡ flag_tag yes }
-{
-    if yes { 1 } else { 0 }
-}
-
 fn answer_number(answer: IsoAnswer) -> u16
     ensures { result ≡ answer_number answer }
 {
@@ -78,7 +72,7 @@ pub(crate) fn reply_refused(refusal: u16) -> PortReply
     ensures { result ≡ reply_refused refusal }
 {
     PortReply {
-        refusal: refusal as u32,
+        refusal: u32::from(refusal),
         taken: 0,
         halt: 0,
     }
@@ -88,9 +82,9 @@ pub(crate) fn reply_port(answer: IsoAnswer, taken: bool, halt: bool) -> PortRepl
     ensures { result ≡ port_reply (answer_number answer) (flag_tag taken) (flag_tag halt) }
 {
     PortReply {
-        refusal: answer_number(answer) as u32,
-        taken: flag(taken),
-        halt: flag(halt),
+        refusal: u32::from(answer_number(answer)),
+        taken: u32::from(taken),
+        halt: u32::from(halt),
     }
 }
 
@@ -98,15 +92,15 @@ fn not_completed(refusal: u16, taken: bool, halt: bool) -> PortReclaimed
     ensures { result ≡ reclaim_port (Refused refusal) (flag_tag taken) (flag_tag halt) }
 {
     PortReclaimed {
-        refusal: refusal as u32,
+        refusal: u32::from(refusal),
         completed: 0,
         outcome: 0,
         fault: 0,
         word: 0,
         length: 0,
         packets: 0,
-        taken: flag(taken),
-        halt: flag(halt),
+        taken: u32::from(taken),
+        halt: u32::from(halt),
     }
 }
 
@@ -121,17 +115,17 @@ pub(crate) fn reclaim_port(answer: ReclaimAnswer, taken: bool, halt: bool) -> Po
 {
     match answer {
         ReclaimAnswer::Completed(outcome, total, packets) => {
-            let t = outcome_tagged(outcome);
+            let t = Tagged::from(outcome);
             PortReclaimed {
                 refusal: 0,
                 completed: 1,
-                outcome: t.tag as u32,
-                fault: t.kind as u32,
+                outcome: u32::from(t.tag),
+                fault: u32::from(t.kind),
                 word: t.word,
                 length: total,
-                packets: packets as u32,
-                taken: flag(taken),
-                halt: flag(halt),
+                packets: u32::from(packets),
+                taken: u32::from(taken),
+                halt: u32::from(halt),
             }
         }
         ReclaimAnswer::NotYet => not_completed(0, taken, halt),
@@ -144,48 +138,15 @@ pub(crate) fn transfer_of(t: PortTransfer) -> IsoTransfer
 {
     IsoTransfer {
         isochronous: t.kind == 1,
-        has_buffer: !(t.has_buffer == 0),
+        has_buffer: t.has_buffer != 0,
         buffer_len: t.buffer_len,
         base: t.base,
         start_reading: t.start_reading,
         frame_reading: t.frame_reading,
-        channel_free: !(t.channel_free == 0),
-        gate_program: !(t.gate_program == 0),
-        gate_enable: !(t.gate_enable == 0),
+        channel_free: t.channel_free != 0,
+        gate_program: t.gate_program != 0,
+        gate_enable: t.gate_enable != 0,
         words: t.words,
-    }
-}
-
-fn submit_number(answer: SubmitAnswer) -> u16
-    ensures { result ≡ submit_number answer }
-{
-    match answer {
-        SubmitAnswer::Accepted(_) => 0,
-        SubmitAnswer::Cut => 0,
-        SubmitAnswer::Refused(number) => number,
-        SubmitAnswer::PacketTooLong(_) => 9,
-    }
-}
-
-fn submit_value(answer: SubmitAnswer) -> u64
-    ensures { result ≡ submit_value answer }
-{
-    match answer {
-        SubmitAnswer::Accepted(id) => id,
-        SubmitAnswer::Cut => 0,
-        SubmitAnswer::Refused(_) => 0,
-        SubmitAnswer::PacketTooLong(index) => index as u64,
-    }
-}
-
-fn is_cut(answer: SubmitAnswer) -> u32
-    ensures { result ≡ is_cut answer }
-{
-    match answer {
-        SubmitAnswer::Accepted(_) => 0,
-        SubmitAnswer::Cut => 1,
-        SubmitAnswer::Refused(_) => 0,
-        SubmitAnswer::PacketTooLong(_) => 0,
     }
 }
 
@@ -194,7 +155,7 @@ pub(crate) fn submit_refused(refusal: u16) -> PortSubmitted
 {
     PortSubmitted {
         value: 0,
-        refusal: refusal as u32,
+        refusal: u32::from(refusal),
         cut: 0,
         first: 0,
         hcchar: 0,
@@ -208,17 +169,23 @@ pub(crate) fn submit_refused(refusal: u16) -> PortSubmitted
 pub(crate) fn submit_port(answer: SubmitAnswer, start: IsoChannelStart) -> PortSubmitted
     ensures { result ≡ submit_port answer start }
 {
+    let (value, refusal, cut) = match answer {
+        SubmitAnswer::Accepted(id) => (id, 0, 0),
+        SubmitAnswer::Cut => (0, 0, 1),
+        SubmitAnswer::Refused(number) => (0, u32::from(number), 0),
+        SubmitAnswer::PacketTooLong(index) => (index as u64, 9, 0),
+    };
     let list = start.frames;
     let frames = list.frames;
     PortSubmitted {
-        value: submit_value(answer),
-        refusal: submit_number(answer) as u32,
-        cut: is_cut(answer),
-        first: flag(start.first),
+        value,
+        refusal,
+        cut,
+        first: u32::from(start.first),
         hcchar: start.hcchar,
         hctsiz: start.hctsiz,
         hcintmsk: start.hcintmsk,
-        frame_count: list.count as u32,
+        frame_count: u32::from(list.count),
         frames,
     }
 }

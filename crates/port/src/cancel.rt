@@ -9,7 +9,6 @@ ghost use Rattle.port.specs.Places.{Left};
 
 use crate::answers::{PortReply, reply_port, reply_refused};
 use crate::end::put_outcome;
-use crate::entries::request_at;
 use crate::load::{head_at, reason_at};
 use crate::numbers::u64_at;
 use crate::poll::halt_at;
@@ -21,18 +20,12 @@ pub(crate) fn place_at(bytes: &[u8], count: u16, id: u64) -> u16
     requires { (8488 ≤ length bytes.now) × (count ≤ 64) }
     ensures { result ≡ place_of id (slice 0 count (session_of bytes.now).requests) }
 {
-    let mut at: usize = 40;
-    let mut i: u16 = 0;
-    while i < count {
-        let request = request_at(bytes, at);
-        let number = request.id;
-        if number == id {
+    for i in 0..count {
+        if u64_at(bytes, 40 + 20 * i as usize) == id {
             return i;
         }
-        at += 20;
-        i += 1;
     }
-    i
+    count
 }
 
 // Numbers are drawn in turn, so that a request mostly stands as far behind the first as its number does. Where none is completed any place with the
@@ -45,10 +38,8 @@ fn found_at(bytes: &[u8], done: u16, count: u16, id: u64, many: bool) -> u16
 {
     if many & (done == 0) {
         let behind = wrapping_sub_u64(id, u64_at(bytes, 40));
-        if behind < count as u64 {
-            if u64_at(bytes, 40 + 20 * behind as usize) == id {
-                return behind as u16;
-            }
+        if behind < u64::from(count) && u64_at(bytes, 40 + 20 * behind as usize) == id {
+            return behind as u16;
         }
     }
     place_at(bytes, count, id)

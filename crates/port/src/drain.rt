@@ -12,7 +12,7 @@ ghost use Rattle.port.specs.Places.{requests_of, plans_of, with_plans, Left};
 
 use crate::entries::{put_request, request_at};
 use crate::load::head_at;
-use crate::numbers::{byte_at, put_byte, put_u16, u16_at};
+use crate::numbers::{byte_at, put, put_u16, u16_at};
 use crate::save::put_head;
 use crate::tags::{direction_of, flag_tag};
 use session::{IsoHead, IsoOutcome, IsoRequest};
@@ -66,7 +66,7 @@ fn settle_plan_at(bytes: &mut [u8], at: usize, direction: Direction, status: u32
 {
     let actual = moved_length(direction, u16_at(bytes, at), status);
     put_u16(bytes, at + 4, actual);
-    put_byte(bytes, at + 6, error_tag(status));
+    put(bytes, at + 6, [error_tag(status)]);
     actual as u32
 }
 

@@ -6,10 +6,8 @@ ghost use Rattle.plan.specs.Planning.{split_of};
 ghost use Rattle.port.specs.Planning.{split_numbers, kind_of, data_request_of, is_bad_data, data_numbers, unnamed_data, data_plan_numbers, data_array_after};
 ghost use Rattle.port.specs.Planning.{control_request_of, control_numbers, unnamed_control, control_plan_numbers, control_array_after};
 
-use crate::answers::flag;
-use crate::ring_sums::{is_bad_direction, is_bad_speed};
 use crate::stages::{PortStage, blank_stage, plan_number, stage_numbers};
-use crate::tags::{direction_of, speed_of};
+use crate::tags::{direction_of, is_bad_direction, is_bad_speed, speed_of};
 use plan::{
     ControlRequest, DataKind, DataRequest, DataToggle, DmaSplit, Dwc2ControlPlan, Dwc2DataPlan,
 };
@@ -129,7 +127,7 @@ fn data_numbers(p: Dwc2DataPlan) -> PortDataPlan
     let toggle = p.toggle;
     PortDataPlan {
         refusal: plan_number(answer),
-        toggle: flag(toggle.0),
+        toggle: u32::from(toggle.0),
         count: p.count,
         stages: [
             stage_numbers(p.stages[0]),
@@ -181,7 +179,7 @@ fn control_numbers(p: Dwc2ControlPlan) -> PortControlPlan
     let answer = p.answer;
     PortControlPlan {
         refusal: plan_number(answer),
-        has_data: flag(p.has_data),
+        has_data: u32::from(p.has_data),
         setup: stage_numbers(p.setup),
         data: stage_numbers(p.data),
         status: stage_numbers(p.status),

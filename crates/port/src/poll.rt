@@ -17,7 +17,7 @@ use crate::end::end_at;
 use crate::entries::put_tagged;
 use crate::load::{config_at, head_at, reason_at};
 use crate::numbers::byte_at;
-use crate::tags::fatal_tagged;
+use crate::tags::Tagged;
 use crate::verdict::Verdict;
 use session::{
     IsoAnswer, IsoEvent, IsoFatal, IsoHaltReason, IsoOutcome, PollWay, ring_words, way_of,
@@ -65,7 +65,7 @@ pub(crate) fn halt_at(bytes: &mut [u8], reason: IsoHaltReason)
     requires { layout_number bytes.old ≡ 0 }
     ensures { Left bytes.old bytes.new (with_reason reason (session_of bytes.old)) }
 {
-    put_tagged(bytes, 34, fatal_tagged(IsoFatal::Reason(reason)));
+    put_tagged(bytes, 34, Tagged::from(reason));
 }
 
 // Takes the event and acts by its way, on a good record and with a ring that is long enough.

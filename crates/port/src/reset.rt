@@ -21,7 +21,7 @@ pub(crate) fn reset_at(bytes: &mut [u8], bad: bool) -> PortReply
     }
     let head = head_at(bytes);
     let fatal = reason_at(bytes);
-    if !(head.count == 0) | has_reason(fatal) {
+    if (head.count != 0) | has_reason(fatal) {
         return reply_refused(16);
     }
     put_u16(bytes, 28, 0);

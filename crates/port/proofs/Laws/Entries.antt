@@ -76,12 +76,10 @@ bad_plan_at xs at tag p = ap (ltb 1) (p ∙ field byte_of 6 at xs)
 -- ---- writing
 
 pub tagged_put :
-    (xs : List ℕ) {a b c : List ℕ} (at : ℕ) (t : Tagged) → a ≡ sets xs at (t.tag ∷ []) → b ≡ sets a (at + 1) (t.kind ∷ [])
-    → c ≡ sets b (at + 2) (u32_bytes t.word)
-    → c ≡ sets xs at (tagged_bytes t)
+    (xs : List ℕ) {a b : List ℕ} (at : ℕ) (t : Tagged) → a ≡ sets xs at (t.tag ∷ t.kind ∷ []) → b ≡ sets a (at + 2) (u32_bytes t.word)
+    → b ≡ sets xs at (tagged_bytes t)
 unfolding tagged_bytes
-tagged_put xs at t p q r =
-    then xs at (at + 2) (t.tag ∷ t.kind ∷ []) (u32_bytes t.word) (then xs at (at + 1) (t.tag ∷ []) (t.kind ∷ []) p refl q) refl r
+tagged_put xs at t p q = then xs at (at + 2) (t.tag ∷ t.kind ∷ []) (u32_bytes t.word) p refl q
 
 pub request_put :
     (xs : List ℕ) {a b c d : List ℕ} (at : ℕ) (r : IsoRequest) (t : Tagged)

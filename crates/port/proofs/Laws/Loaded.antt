@@ -1,11 +1,13 @@
 -- The whole of a session's bytes: whether they are refused, and the session.
-use Rattle.std.proofs.Common.{◌≡◌, ℕ, ◌<◌, ◌≤◌, Bool, true, false, cond, ◌||◌, List, length, drop, sym, ap, ◌∙◌, arith, le-ltb, lt-ltb}
+use Rattle.std.proofs.Common.{◌≡◌, ℕ, ◌<◌, ◌≤◌, Bool, true, false, cond, ◌||◌, min, Option, Some, None, List, length, drop, sym, refl, ap, ◌∙◌, arith, le-ltb, lt-ltb}
 use Rattle.words.proofs.Laws.Tests.{neither}
 use Rattle.session.specs.declared.types.IsoConfig.{IsoConfig}
 use Rattle.session.specs.declared.types.IsoHead.{IsoHead}
 use Rattle.session.specs.declared.types.IsoFatal.{IsoFatal}
 use Rattle.session.specs.declared.types.IsoRequest.{IsoRequest}
 use Rattle.session.specs.declared.types.IsoPacketPlan.{IsoPacketPlan}
+use lib.Seq.{slice}
+use Rattle.session.specs.Session.{packets_of}
 use Rattle.session.specs.Scan.{whole}
 use Rattle.port.specs.declared.tags.Tagged.{Tagged}
 use Rattle.port.specs.Tags.{tagged_of, fatal_of}
@@ -30,6 +32,14 @@ short_layout xs h = sym (ap (λ (b : Bool). cond b 17 (cond (is_bad_layout xs) 1
 number_by : {short bad b : Bool} → short ≡ false → bad ≡ b → ◌≡◌ {A = ℕ} (cond b 18 0) (cond short 17 (cond bad 18 0))
 number_by {bad = bad} p q = sym (ap (λ (x : Bool). cond x 17 (cond bad 18 0)) p ∙ ap (λ (x : Bool). cond x 18 0) q)
 
+is_none : (r : Bool) (n : ℕ) → None ≡ cond r None (Some n) → r ≡ true
+is_none true n e = refl
+is_none false n e = absurd (cc)
+
+is_some : (r : Bool) (m n : ℕ) → Some m ≡ cond r None (Some n) → (r ≡ false) × (m ≡ n)
+is_some true m n e = absurd (cc)
+is_some false m n e = (refl, cc)
+
 -- the tests in the code's order: what stands before the tables, then the entries in use
 module _ (xs : List ℕ) {f : Bool} (long : 8488 ≤ length xs) (ef : f ≡ (is_bad_mark xs || is_bad_head xs)) where
   pub bad_front : f ≡ true → 18 ≡ layout_number xs
@@ -53,3 +63,21 @@ module _ (xs : List ℕ) {f : Bool} (long : 8488 ≤ length xs) (ef : f ≡ (is_
       let two = neither (is_bad_mark xs) (is_bad_head xs) (sym ef ∙ good) in
       let all : is_bad_layout xs ≡ b = rw (two.0, two.1, ← er, ← ep) e in
       number_by (le-ltb (length xs) 8488 long) all
+
+  -- the same by what a walk over the first `n` requests gives: none where one is bad, and else their packets
+  module _ {n : ℕ} {o : Option ℕ} (good : f ≡ false) (en : n ≡ requests_in (session_of xs))
+      (eo : o ≡ cond (any_of is_bad_request_bytes 20 n (drop 40 xs)) None (Some (packets_of (slice 0 n (session_of xs).requests)))) where
+    used : o ≡ cond (any_of is_bad_request_bytes 20 (requests_in (session_of xs)) (drop 40 xs)) None (Some (packets_of (slice 0 (requests_in (session_of xs)) (session_of xs).requests)))
+    used = rw (← en) eo
+
+    pub layout_none : o ≡ None → 18 ≡ layout_number xs
+    layout_none e =
+        layout_by true good refl refl
+        (ap (λ (x : Bool). x || any_of is_bad_plan_bytes 7 (plans_in (session_of xs)) (drop 1320 xs)) (is_none _ _ (sym e ∙ used)))
+
+    pub layout_some :
+        {m k : ℕ} {p : Bool} (b : Bool) → o ≡ Some m → k ≡ min m 1024 → p ≡ any_of is_bad_plan_bytes 7 k (drop 1320 xs) → p ≡ b → cond b 18 0 ≡ layout_number xs
+    layout_some {m} {k} {p} b e ek ep pb =
+        let two = is_some _ m _ (sym e ∙ used) in
+        let plans = ep ∙ ap (λ (j : ℕ). any_of is_bad_plan_bytes 7 j (drop 1320 xs)) (ek ∙ ap (λ (j : ℕ). min j 1024) two.1) in
+        layout_by b good refl plans (ap (λ (x : Bool). x || p) two.0 ∙ pb)

@@ -46,6 +46,14 @@ module _ (bad : List ℕ → Bool) (w : ℕ) where
       → any_of bad w (n - (i + 1)) (drop (at + w) xs) ≡ any_of bad w (n - i) (drop at xs)
   any_more n i at xs h e clear = any_by n i at xs false h (sym clear ∙ e)
 
+  -- the same where the place is counted from the first
+  pub any_on :
+      (n i from : ℕ) (xs : List ℕ) {b : Bool} → i < n → b ≡ bad (drop (from + w * i) xs) → b ≡ false
+      → any_of bad w (n - (i + 1)) (drop (from + w * (i + 1)) xs) ≡ any_of bad w (n - i) (drop (from + w * i) xs)
+  any_on n i from xs h e clear =
+      let on : from + w * (i + 1) ≡ from + w * i + w = omega arith in
+      ap (λ (k : ℕ). any_of bad w (n - (i + 1)) (drop k xs)) on ∙ any_more n i (from + w * i) xs h e clear
+
   pub any_found :
       (n i at : ℕ) (xs : List ℕ) {b : Bool} → i < n → b ≡ bad (drop at xs) → b ≡ true → true ≡ any_of bad w (n - i) (drop at xs)
   any_found n i at xs h e found = any_by n i at xs true h (sym found ∙ e)

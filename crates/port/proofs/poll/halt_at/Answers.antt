@@ -14,4 +14,4 @@ returns c =
     let xs = c.args.bytes.now in
     reason_here xs octets c.requires
     (Reason c.args.reason)
-    (c.put_tagged.ensures ∙ ap (λ (t : Tagged). sets xs 34 (tagged_bytes t)) c.fatal_tagged.ensures)
+    (c.put_tagged.ensures ∙ ap (λ (t : Tagged). sets xs 34 (tagged_bytes t)) c.from.ensures)
