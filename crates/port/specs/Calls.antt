@@ -1,6 +1,6 @@
 -- A call by bytes: the session is loaded, the call acts on it as crate session's definition says, and the session is saved again. One definition,
 -- `by_bytes`, serves every answer, every lent word and the bytes of every call.
-use Rattle.std.specs.Prelude.{ℕ, ◌/◌, ◌%◌, Bool, cond, Option, Some, None, Result, Ok, Err, ◌||◌, List, length, replicate, ◌==◌, nat_lt}
+use Rattle.std.specs.Prelude.{ℕ, Bool, cond, Option, Some, None, Result, Ok, Err, ◌||◌, List, length, replicate, ◌==◌, nat_lt}
 use Rattle.std.proofs.lemmas.List.Edits.{sets}
 use Rattle.session.specs.Numbers.{open_number, submit_number, submit_value, answer_number, reclaim_number, reclaim_length, reclaim_packets}
 use Rattle.session.specs.Record.{is_bad_record}
@@ -49,10 +49,6 @@ reply_refused n = port_reply n 0 0
 abbrev pub reply_port : IsoReply → PortReply
 reply_port r = port_reply (answer_number r.answer) (flag_tag r.taken) (flag_tag r.halt)
 
--- an answer that is handed over as one number: the refusal, above it whether the event was taken, above that whether the channel is to halt
-abbrev pub reply_of : ℕ → PortReply
-reply_of n = port_reply (n % 4294967296) (n / 4294967296 % 2) (n / 8589934592)
-
 abbrev pub reply_by : List ℕ → (IsoChannelState → IsoReply) → PortReply
 reply_by xs call = by_bytes xs reply_refused (λ (s : IsoChannelState). reply_port (call s))
 
@@ -98,9 +94,12 @@ reclaim_port a taken halt =
       halt = halt;
     }
 
+abbrev pub not_completed : ℕ → ℕ → ℕ → PortReclaimed
+not_completed n taken halt =
+    record { refusal = n; completed = 0; outcome = 0; fault = 0; word = 0; length = 0; packets = 0; taken = taken; halt = halt }
+
 abbrev pub reclaim_refused : ℕ → PortReclaimed
-reclaim_refused n =
-    record { refusal = n; completed = 0; outcome = 0; fault = 0; word = 0; length = 0; packets = 0; taken = 0; halt = 0 }
+reclaim_refused n = not_completed n 0 0
 
 abbrev pub reclaimed_port : Reclaimed → PortReclaimed
 reclaimed_port r = reclaim_port r.answer (flag_tag r.taken) (flag_tag r.halt)
@@ -136,6 +135,20 @@ abbrev pub is_cut : Result IsoSubmission IsoRefusal → ℕ
 is_cut (Ok submission) = cut submission
 is_cut (Err r) = 0
 
+abbrev pub not_started : ℕ → ℕ → ℕ → PortSubmitted
+not_started value refusal cut =
+    record {
+      value = value;
+      refusal = refusal;
+      cut = cut;
+      first = 0;
+      hcchar = 0;
+      hctsiz = 0;
+      hcintmsk = 0;
+      frame_count = 0;
+      frames = replicate 64 0;
+    }
+
 -- the answer, with what the caller programs where the submission was the first; zeros where it was not
 abbrev pub submit_port : Result IsoSubmission IsoRefusal → Option IsoChannelStart → PortSubmitted
 submit_port a (Some start) =
@@ -150,25 +163,13 @@ submit_port a (Some start) =
       frame_count = start.frames.count;
       frames = start.frames.frames;
     }
-submit_port a None =
-    record {
-      value = submit_value a;
-      refusal = submit_number a;
-      cut = is_cut a;
-      first = 0;
-      hcchar = 0;
-      hctsiz = 0;
-      hcintmsk = 0;
-      frame_count = 0;
-      frames = replicate 64 0;
-    }
+submit_port a None = not_started (submit_value a) (submit_number a) (is_cut a)
 
 abbrev pub submitted_port : Submitted → PortSubmitted
 submitted_port r = submit_port r.answer r.start
 
 abbrev pub submit_refused : ℕ → PortSubmitted
-submit_refused n =
-    record { value = 0; refusal = n; cut = 0; first = 0; hcchar = 0; hctsiz = 0; hcintmsk = 0; frame_count = 0; frames = replicate 64 0 }
+submit_refused n = not_started 0 n 0
 
 abbrev pub submit_by : List ℕ → PortTransfer → List ℕ → List ℕ → PortSubmitted
 submit_by xs t lengths ring =

@@ -1,12 +1,11 @@
 // What the calls answer, as C has it: numbers only. include/dwc2_port.h says what each field means.
 ghost use Rattle.std.specs.Prelude.{◌≡◌};
-ghost use Rattle.session.specs.Numbers.{submit_number, submit_value, answer_number};
-ghost use Rattle.session.specs.declared.reply.ReclaimAnswer.TheVariants.{Refused};
+ghost use Rattle.session.specs.Numbers.{refusal_number, refusal_value, answer_number};
 ghost use Rattle.port.specs.Tags.{flag_tag};
-ghost use Rattle.port.specs.Calls.{port_reply, reply_refused, reclaim_port, reclaim_refused, transfer_of, is_cut, submit_port, submit_refused};
+ghost use Rattle.port.specs.Calls.{port_reply, reply_refused, not_completed, reclaim_port, reclaim_refused, transfer_of, not_started, submit_port, submit_refused};
 
 use crate::tags::Tagged;
-use session::{IsoAnswer, IsoChannelStart, IsoTransfer, ReclaimAnswer, SubmitAnswer};
+use session::{IsoChannelStart, IsoCompletion, IsoRefusal, IsoSubmission, IsoTransfer};
 
 #[repr(C)]
 #[derive(Clone, Copy)]
@@ -59,40 +58,43 @@ pub struct PortSubmitted {
     pub frames: [u8; 64],
 }
 
-fn answer_number(answer: IsoAnswer) -> u16
+// The number of a refusal, as C has it.
+pub(crate) fn refusal_number(refusal: IsoRefusal) -> u32
+    ensures { result ≡ refusal_number refusal }
+{
+    u32::from(u16::from(refusal))
+}
+
+fn answer_number(answer: Result<(), IsoRefusal>) -> u32
     ensures { result ≡ answer_number answer }
 {
     match answer {
-        IsoAnswer::Done => 0,
-        IsoAnswer::Refused(number) => number,
+        Ok(()) => 0,
+        Err(refusal) => refusal_number(refusal),
     }
 }
 
-pub(crate) fn reply_refused(refusal: u16) -> PortReply
-    ensures { result ≡ reply_refused refusal }
+pub(crate) fn reply_refused(refusal: IsoRefusal) -> PortReply
+    ensures { result ≡ reply_refused (refusal_number refusal) }
 {
-    PortReply {
-        refusal: u32::from(refusal),
-        taken: 0,
-        halt: 0,
-    }
+    reply_port(Err(refusal), false, false)
 }
 
-pub(crate) fn reply_port(answer: IsoAnswer, taken: bool, halt: bool) -> PortReply
+pub(crate) fn reply_port(answer: Result<(), IsoRefusal>, taken: bool, halt: bool) -> PortReply
     ensures { result ≡ port_reply (answer_number answer) (flag_tag taken) (flag_tag halt) }
 {
     PortReply {
-        refusal: u32::from(answer_number(answer)),
+        refusal: answer_number(answer),
         taken: u32::from(taken),
         halt: u32::from(halt),
     }
 }
 
-fn not_completed(refusal: u16, taken: bool, halt: bool) -> PortReclaimed
-    ensures { result ≡ reclaim_port (Refused refusal) (flag_tag taken) (flag_tag halt) }
+fn not_completed(refusal: u32, taken: bool, halt: bool) -> PortReclaimed
+    ensures { result ≡ not_completed refusal (flag_tag taken) (flag_tag halt) }
 {
     PortReclaimed {
-        refusal: u32::from(refusal),
+        refusal,
         completed: 0,
         outcome: 0,
         fault: 0,
@@ -104,32 +106,36 @@ fn not_completed(refusal: u16, taken: bool, halt: bool) -> PortReclaimed
     }
 }
 
-pub(crate) fn reclaim_refused(refusal: u16) -> PortReclaimed
-    ensures { result ≡ reclaim_refused refusal }
+pub(crate) fn reclaim_refused(refusal: IsoRefusal) -> PortReclaimed
+    ensures { result ≡ reclaim_refused (refusal_number refusal) }
 {
-    not_completed(refusal, false, false)
+    not_completed(refusal_number(refusal), false, false)
 }
 
-pub(crate) fn reclaim_port(answer: ReclaimAnswer, taken: bool, halt: bool) -> PortReclaimed
+pub(crate) fn reclaim_port(
+    answer: Result<Option<IsoCompletion>, IsoRefusal>,
+    taken: bool,
+    halt: bool,
+) -> PortReclaimed
     ensures { result ≡ reclaim_port answer (flag_tag taken) (flag_tag halt) }
 {
     match answer {
-        ReclaimAnswer::Completed(outcome, total, packets) => {
-            let t = Tagged::from(outcome);
+        Ok(Some(completion)) => {
+            let t = Tagged::from(completion.outcome);
             PortReclaimed {
                 refusal: 0,
                 completed: 1,
                 outcome: u32::from(t.tag),
                 fault: u32::from(t.kind),
                 word: t.word,
-                length: total,
-                packets: u32::from(packets),
+                length: completion.actual_length,
+                packets: u32::from(completion.packets),
                 taken: u32::from(taken),
                 halt: u32::from(halt),
             }
         }
-        ReclaimAnswer::NotYet => not_completed(0, taken, halt),
-        ReclaimAnswer::Refused(number) => not_completed(number, taken, halt),
+        Ok(None) => not_completed(0, taken, halt),
+        Err(refusal) => not_completed(refusal_number(refusal), taken, halt),
     }
 }
 
@@ -150,13 +156,24 @@ pub(crate) fn transfer_of(t: PortTransfer) -> IsoTransfer
     }
 }
 
-pub(crate) fn submit_refused(refusal: u16) -> PortSubmitted
-    ensures { result ≡ submit_refused refusal }
+// What comes with a refusal: the index of the first packet that is too long.
+fn refusal_value(refusal: IsoRefusal) -> u64
+    ensures { result ≡ refusal_value refusal }
+{
+    match refusal {
+        IsoRefusal::PacketTooLong(index) => u64::from(index),
+        _ => 0,
+    }
+}
+
+// An answer with nothing to program.
+fn not_started(value: u64, refusal: u32, cut: u32) -> PortSubmitted
+    ensures { result ≡ not_started value refusal cut }
 {
     PortSubmitted {
-        value: 0,
-        refusal: u32::from(refusal),
-        cut: 0,
+        value,
+        refusal,
+        cut,
         first: 0,
         hcchar: 0,
         hctsiz: 0,
@@ -166,14 +183,25 @@ pub(crate) fn submit_refused(refusal: u16) -> PortSubmitted
     }
 }
 
-pub(crate) fn submit_port(answer: SubmitAnswer, start: IsoChannelStart) -> PortSubmitted
+pub(crate) fn submit_refused(refusal: IsoRefusal) -> PortSubmitted
+    ensures { result ≡ submit_refused (refusal_number refusal) }
+{
+    not_started(0, refusal_number(refusal), 0)
+}
+
+pub(crate) fn submit_port(
+    answer: Result<IsoSubmission, IsoRefusal>,
+    start: Option<IsoChannelStart>,
+) -> PortSubmitted
     ensures { result ≡ submit_port answer start }
 {
     let (value, refusal, cut) = match answer {
-        SubmitAnswer::Accepted(id) => (id, 0, 0),
-        SubmitAnswer::Cut => (0, 0, 1),
-        SubmitAnswer::Refused(number) => (0, u32::from(number), 0),
-        SubmitAnswer::PacketTooLong(index) => (index as u64, 9, 0),
+        Ok(IsoSubmission::Accepted(id)) => (id, 0, 0),
+        Ok(IsoSubmission::Cut) => (0, 0, 1),
+        Err(refusal) => (refusal_value(refusal), refusal_number(refusal), 0),
+    };
+    let Some(start) = start else {
+        return not_started(value, refusal, cut);
     };
     let list = start.frames;
     let frames = list.frames;
@@ -181,7 +209,7 @@ pub(crate) fn submit_port(answer: SubmitAnswer, start: IsoChannelStart) -> PortS
         value,
         refusal,
         cut,
-        first: u32::from(start.first),
+        first: 1,
         hcchar: start.hcchar,
         hctsiz: start.hctsiz,
         hcintmsk: start.hcintmsk,

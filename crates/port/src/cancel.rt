@@ -12,7 +12,7 @@ use crate::end::put_outcome;
 use crate::load::{head_at, reason_at};
 use crate::numbers::u64_at;
 use crate::poll::halt_at;
-use session::{IsoAnswer, IsoHaltReason, IsoOutcome, has_reason};
+use session::{IsoHaltReason, IsoOutcome, IsoRefusal};
 use std::num::wrapping_sub_u64;
 
 // The place of the first request with the number, or `count`.
@@ -52,21 +52,20 @@ pub(crate) fn cancel_at(bytes: &mut [u8], bad: bool, id: u64, many: bool) -> Por
         × (Left bytes.old bytes.new (cancelled (session_of bytes.old) id).session) }
 {
     if bad {
-        return reply_refused(18);
+        return reply_refused(IsoRefusal::BadRecord);
     }
     let head = head_at(bytes);
     let at = found_at(bytes, head.done, head.count, id, many);
     if at < head.done {
         put_outcome(bytes, 40 + 20 * at as usize, IsoOutcome::Cancelled);
-        return reply_port(IsoAnswer::Done, false, false);
+        return reply_port(Ok(()), false, false);
     }
     if at >= head.count {
-        return reply_refused(15);
+        return reply_refused(IsoRefusal::UnknownRequest);
     }
-    let fatal = reason_at(bytes);
-    if has_reason(fatal) {
-        return reply_port(IsoAnswer::Done, false, false);
+    if reason_at(bytes).is_some() {
+        return reply_port(Ok(()), false, false);
     }
     halt_at(bytes, IsoHaltReason::Cancelled);
-    reply_port(IsoAnswer::Done, false, true)
+    reply_port(Ok(()), false, true)
 }

@@ -14,7 +14,7 @@ use crate::entries::{put_request, put_tagged, request_at};
 use crate::load::{config_at, head_at};
 use crate::save::put_head;
 use crate::tags::Tagged;
-use session::{IsoFatal, IsoHead, IsoOutcome, clear_first, ring_words, with_outcome};
+use session::{IsoHead, IsoOutcome, clear_first, ring_words, with_outcome};
 
 // The outcome of the request at an offset.
 pub(crate) fn put_outcome(bytes: &mut [u8], at: usize, outcome: IsoOutcome)
@@ -63,6 +63,6 @@ pub(crate) fn end_at(bytes: &mut [u8], outcome: IsoOutcome, ring: &mut [u32])
     let head = head_at(bytes);
     fail_at(bytes, head.done, head.count, outcome);
     put_head(bytes, ended_head(head));
-    put_tagged(bytes, 34, Tagged::from(IsoFatal::Nothing));
+    put_tagged(bytes, 34, Tagged::from(None));
     clear_first(ring, words);
 }

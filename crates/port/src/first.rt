@@ -1,9 +1,9 @@
 // The first request settled and handed out in one: document 01, "Poll" and "Reclaim". So a camera's driver takes its frames, the oldest
 // at a time with others behind it. What settling writes into its entries is then moved over by the others, and is not written at all.
-ghost use Rattle.std.specs.Prelude.{◌≡◌, ℕ, ◌+◌, ◌-◌, ◌*◌, ◌<◌, ◌≤◌, true, false, not, ◌||◌, map, length, get_or, ◌≢◌, slice_index, slice_index_or};
+ghost use Rattle.std.specs.Prelude.{None, Some, Ok, ◌≡◌, ℕ, ◌+◌, ◌-◌, ◌*◌, ◌<◌, ◌≤◌, true, false, not, ◌||◌, map, length, get_or, ◌≢◌, slice_index, slice_index_or};
 ghost use Rattle.std.proofs.Math.Seq.{slice};
 ghost use Rattle.std.proofs.lemmas.List.Edits.{sets};
-ghost use Rattle.words.specs.Words.{is_set, active, complete, is_packet_error, moved_length};
+ghost use Rattle.words.specs.Words.{is_set, active, complete, halted, hcint_fault, is_packet_error, moved_length};
 ghost use Rattle.session.specs.declared.reply.PollWay.TheVariants.{Settle};
 ghost use Rattle.session.specs.Session.{blank_request, blank_plan, all_packets, ring_words};
 ghost use Rattle.session.specs.Record.{is_bad_record};
@@ -19,20 +19,26 @@ use crate::answers::{PortReclaimed, reclaim_port};
 use crate::drain::{clear_slots_at, error_tag, is_served_at, packets_at, slot_at};
 use crate::load::head_at;
 use crate::numbers::{byte_at, put_u16, u16_at};
-use crate::poll::is_calm;
 use crate::reclaim::{close_plans_at, close_requests_at};
 use crate::tags::direction_of;
-use session::{IsoEvent, IsoOutcome, ReclaimAnswer};
+use session::{IsoCompletion, IsoEvent, IsoOutcome};
 use words::{Direction, hcint_xfercompl, moved_length};
+
+// No fault, and not halted, by two tests in the place of seven: the bits 1 to 3 and 7 to 10 together.
+fn is_calm(hcint: u32) -> bool
+    ensures { result ≡ true → (hcint_fault hcint ≡ None) × (is_set halted hcint ≡ false) }
+{
+    (hcint / 2 % 8 == 0) & (hcint / 128 % 16 == 0)
+}
 
 // A calm event that is taken, and no reason to end.
 fn is_settling_way(bytes: &[u8], event: IsoEvent) -> bool
     requires { 8488 ≤ length bytes.now }
-    ensures { result ≡ true → Settle (is_set complete event.hcint) ≡ poll_way (session_of bytes.now) event }
+    ensures { result ≡ true → Settle (is_set complete event.hcint) ≡ poll_way (session_of bytes.now) (Some event) }
 {
     let head = head_at(bytes);
     let hcint = event.hcint;
-    (head.live & (event.reported & !event.unplugged)) & (is_calm(hcint) & (byte_at(bytes, 34) == 0))
+    (head.live & !event.unplugged) & (is_calm(hcint) & (byte_at(bytes, 34) == 0))
 }
 
 // None of the first plans, `n` of them, has the slot.
@@ -94,7 +100,7 @@ pub(crate) fn is_first_only(
     bytes: &[u8],
     at: u16,
     all: usize,
-    event: IsoEvent,
+    event: Option<IsoEvent>,
     ring: &[u32],
 ) -> bool
     requires { (layout_number bytes.now ≡ 0)
@@ -102,6 +108,9 @@ pub(crate) fn is_first_only(
         × (all ≡ all_packets (session_of bytes.now)) }
     ensures { result ≡ true → (at ≡ 0) × FirstOnly (session_of bytes.now) event ring.now }
 {
+    let Some(event) = event else {
+        return false;
+    };
     let several = (at == 0) & ((u16_at(bytes, 30) == 0) & (u16_at(bytes, 32) > 1));
     if !(several & is_settling_way(bytes, event)) {
         return false;
@@ -195,13 +204,17 @@ pub(crate) fn reclaim_first(
         × (ring_words (session_of bytes.old).cfg ≤ length ring.old)
         × (255 ≤ length results.old) }
     ensures { (result
-        ≡ reclaim_port (handed_answer (slice_index_or (settled_session (session_of bytes.old) ring.old).requests 0 blank_request)) 1 0)
+        ≡ reclaim_port (Ok (Some (handed_answer (slice_index_or (settled_session (session_of bytes.old) ring.old).requests 0 blank_request)))) 1 0)
         × (Left bytes.old bytes.new (removed 0 (settled_session (session_of bytes.old) ring.old)))
         × (ring.new ≡ settled_ring (session_of bytes.old) ring.old)
         × (results.new ≡ handed_results 0 (settled_session (session_of bytes.old) ring.old) results.old) }
 {
     let n = packets_at(bytes, 0);
     let total = take_first(bytes, n, all, ring, results);
-    let answer = ReclaimAnswer::Completed(IsoOutcome::Done, total, n as u16);
-    reclaim_port(answer, true, false)
+    let completion = IsoCompletion {
+        outcome: IsoOutcome::Done,
+        actual_length: total,
+        packets: n as u16,
+    };
+    reclaim_port(Ok(Some(completion)), true, false)
 }

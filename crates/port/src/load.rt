@@ -4,13 +4,13 @@ ghost use Rattle.std.proofs.Math.Seq.{slice};
 ghost use Rattle.session.specs.Session.{packets_of};
 ghost use Rattle.port.specs.Tags.{tagged_of, fatal_of, is_bad_tagged};
 ghost use Rattle.port.specs.Layout.{config_of, head_of, session_of, any_of, is_bad_request_bytes, is_bad_plan_bytes, is_bad_mark, is_bad_head};
-ghost use Rattle.port.specs.Layout.{requests_in, layout_number};
+ghost use Rattle.port.specs.Layout.{requests_in, layout_refusal};
 ghost use Rattle.port.specs.Places.{requests_of};
 
 use crate::entries::{is_bad_plan_at, is_bad_request_at, tagged_at};
 use crate::numbers::{byte_at, u16_at, u32_at, u64_at};
 use crate::tags::{direction_of, is_bad_tagged, mode_of, speed_of};
-use session::{IsoConfig, IsoFatal, IsoHead};
+use session::{IsoConfig, IsoHaltReason, IsoHead, IsoRefusal};
 
 pub(crate) fn config_at(bytes: &[u8]) -> IsoConfig
     requires { 8488 ≤ length bytes.now }
@@ -43,11 +43,11 @@ pub(crate) fn head_at(bytes: &[u8]) -> IsoHead
 }
 
 // Why the session is ending.
-pub(crate) fn reason_at(bytes: &[u8]) -> IsoFatal
+pub(crate) fn reason_at(bytes: &[u8]) -> Option<IsoHaltReason>
     requires { 8488 ≤ length bytes.now }
     ensures { result ≡ fatal_of (tagged_of (drop 34 bytes.now)) }
 {
-    IsoFatal::from(tagged_at(bytes, 34))
+    Option::from(tagged_at(bytes, 34))
 }
 
 // The requests in use, as far as the table goes.
@@ -56,13 +56,6 @@ fn requests_in(bytes: &[u8]) -> u16
     ensures { result ≡ requests_in (session_of bytes.now) }
 {
     u16_at(bytes, 32).min(64)
-}
-
-// What a walk over the requests in use finds: whether one is bad by the test that it makes and, where none is, the sum of their packets.
-#[derive(Clone, Copy)]
-pub(crate) struct Used {
-    pub bad: bool,
-    pub packets: usize,
 }
 
 // The packets of the first `n` requests, where none of those is bad.
@@ -121,22 +114,22 @@ pub(crate) fn is_bad_front(bytes: &[u8]) -> bool
                 | ((byte_at(bytes, 7) > 1) | ((byte_at(bytes, 15) > 1) | is_bad_reason(bytes)))))
 }
 
-// The number with which bytes are refused that are no session of the layout; 0 for those that are one.
-pub(crate) fn layout_refusal(bytes: &[u8]) -> u16
-    ensures { result ≡ layout_number bytes.now }
+// Refuses bytes that are no session of the layout.
+pub(crate) fn layout_refusal(bytes: &[u8]) -> Result<(), IsoRefusal>
+    ensures { result ≡ layout_refusal bytes.now }
 {
     if bytes.len() < 8_488 {
-        return 17;
+        return Err(IsoRefusal::ShortBuffer);
     }
     if is_bad_front(bytes) {
-        return 18;
+        return Err(IsoRefusal::BadRecord);
     }
     let Some(packets) = requests_used(bytes, requests_in(bytes)) else {
-        return 18;
+        return Err(IsoRefusal::BadRecord);
     };
     // The plans of so many packets, as far as the table goes.
     if any_bad_plan(bytes, packets.min(1_024)) {
-        return 18;
+        return Err(IsoRefusal::BadRecord);
     }
-    0
+    Ok(())
 }

@@ -7,7 +7,7 @@ use crate::save::put_idle;
 use crate::submit::submit_at;
 use crate::tags::{named_direction, named_mode, named_speed};
 use crate::verdict::verdict_at;
-use session::{IsoConfig, clear_first, is_bad_config, ring_words};
+use session::{IsoConfig, IsoRefusal, clear_first, is_bad_config, ring_words};
 
 // The configuration that numbers name. There are eight, as C gives them one by one.
 fn config_named(
@@ -96,13 +96,13 @@ pub fn dwc2_iso_submit(
         × (session.new ≡ submit_bytes session.old transfer lengths.now ring.old)
         × (ring.new ≡ submit_ring session.old transfer lengths.now ring.old) }
 {
-    let verdict = verdict_at(session);
-    if verdict.refusal != 0 {
-        return submit_refused(verdict.refusal);
+    match verdict_at(session) {
+        Err(refusal) => submit_refused(refusal),
+        Ok(sums) => {
+            if transfer.kind > 3 {
+                return submit_refused(IsoRefusal::BadRecord);
+            }
+            submit_at(session, sums, transfer_of(transfer), lengths, ring)
+        }
     }
-    if transfer.kind > 3 {
-        return submit_refused(18);
-    }
-    let t = transfer_of(transfer);
-    submit_at(session, verdict, t, lengths, ring)
 }

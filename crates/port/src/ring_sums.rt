@@ -8,7 +8,6 @@ ghost use Rattle.port.specs.Sums.{is_bad_speed, is_bad_direction, number_unless,
 
 use crate::tags::{named_direction, named_speed};
 use ring::IsoServiceFrames;
-use words::Dwc2Pid;
 
 // `refusal` is 0 or the refusal number; refused, `value` is 0.
 #[repr(C)]
@@ -102,25 +101,12 @@ pub fn dwc2_iso_schinfo(speed: u8, interval: u16) -> PortNumber
         .into()
 }
 
-// HCTSIZ's number of a PID.
-fn pid_number(pid: Dwc2Pid) -> u32
-    ensures { result ≡ pid_number pid }
-{
-    match pid {
-        Dwc2Pid::Data0 => 0,
-        Dwc2Pid::Data1 => 2,
-        Dwc2Pid::Data2 => 1,
-        Dwc2Pid::MData => 3,
-        Dwc2Pid::Setup => 3,
-    }
-}
-
 pub fn dwc2_iso_pid(speed: u8, direction: u8, mult: u8) -> PortNumber
     ensures { result ≡ number_unless (is_bad_speed speed || is_bad_direction direction) (pid_number (pid_of (speed_of speed) (direction_of direction) mult)) }
 {
     named_speed(speed)
         .zip(named_direction(direction))
-        .map(|(speed, direction)| pid_number(ring::iso_pid(speed, direction, mult)))
+        .map(|(speed, direction)| u32::from(ring::iso_pid(speed, direction, mult)))
         .into()
 }
 

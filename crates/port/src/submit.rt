@@ -8,17 +8,17 @@ ghost use Rattle.session.specs.Parts.{Fitting};
 ghost use Rattle.port.specs.Layout.{plan_bytes, table_bytes, layout_number, session_of};
 ghost use Rattle.port.specs.Calls.{submitted_port, grown_bytes};
 ghost use Rattle.port.specs.Submit.{Grown};
-ghost use Rattle.port.specs.Scan.{Told};
+ghost use Rattle.port.specs.Scan.{record_sums};
 
 use crate::answers::{PortSubmitted, submit_port};
-use crate::entries::{put_plan, put_request, tagged_at};
-use crate::load::{config_at, head_at};
+use crate::entries::{put_plan, put_request};
+use crate::load::{config_at, head_at, reason_at};
 use crate::marks::scan_of;
 use crate::save::put_head;
-use crate::verdict::Verdict;
+use crate::scan::RequestSums;
 use ring::next_slot;
 use session::{
-    IsoFatal, IsoHead, IsoPacketPlan, IsoTransfer, SubmitParts, TransferStatus, new_request,
+    IsoHead, IsoPacketPlan, IsoTransfer, SubmitParts, TransferStatus, new_request,
     submit_parts,
 };
 
@@ -63,12 +63,12 @@ fn put_added(bytes: &mut [u8], head: IsoHead, parts: SubmitParts, lengths: &[u32
 
 pub(crate) fn submit_at(
     bytes: &mut [u8],
-    verdict: Verdict,
+    sums: Option<RequestSums>,
     transfer: IsoTransfer,
     lengths: &[u32],
     ring: &mut [u32],
 ) -> PortSubmitted
-    requires { (layout_number bytes.old ≡ 0) × Told bytes.old verdict }
+    requires { (layout_number bytes.old ≡ 0) × (sums ≡ record_sums (session_of bytes.old)) }
     ensures { (result ≡ submitted_port (submitted (session_of bytes.old) transfer lengths.now ring.old))
         × (bytes.new
         ≡ grown_bytes bytes.old (submitted (session_of bytes.old) transfer lengths.now ring.old).session)
@@ -76,8 +76,8 @@ pub(crate) fn submit_at(
 {
     let cfg = config_at(bytes);
     let head = head_at(bytes);
-    let fatal = IsoFatal::from(tagged_at(bytes, 34));
-    let scan = scan_of(bytes, verdict, cfg, head, transfer, lengths, ring);
+    let fatal = reason_at(bytes);
+    let scan = scan_of(bytes, sums, cfg, head, transfer, lengths, ring);
     let parts = submit_parts(cfg, head, fatal, scan, transfer, lengths, ring);
     put_added(bytes, head, parts, lengths);
     put_head(bytes, parts.head);

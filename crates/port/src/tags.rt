@@ -6,7 +6,7 @@ ghost use Rattle.port.specs.Tags.{fault_of, is_fault, outcome_tagged, outcome_of
 ghost use Rattle.port.specs.Sums.{is_bad_speed, is_bad_direction};
 
 use ring::Speed;
-use session::{IsoFatal, IsoHaltReason, IsoMode, IsoOutcome, TransferStatus};
+use session::{IsoHaltReason, IsoMode, IsoOutcome, TransferStatus};
 use words::{Direction, Dwc2TransferFault};
 
 // A tag, with the fault and the interrupt word that go with it.
@@ -61,10 +61,7 @@ pub(crate) fn named_speed(speed: u8) -> Option<Speed>
 pub(crate) fn direction_tag(direction: Direction) -> u8
     ensures { result ≡ direction_tag direction }
 {
-    match direction {
-        Direction::Out => 0,
-        Direction::In => 1,
-    }
+    u32::from(direction) as u8
 }
 
 pub(crate) fn direction_of(tag: u8) -> Direction
@@ -138,17 +135,11 @@ pub(crate) fn flag_tag(flag: bool) -> u8
     u8::from(flag)
 }
 
+// A fault is its bit of HCINT.
 fn fault_tag(fault: Dwc2TransferFault) -> u8
     ensures { result ≡ fault_bit fault }
 {
-    match fault {
-        Dwc2TransferFault::Ahb => 2,
-        Dwc2TransferFault::Stall => 3,
-        Dwc2TransferFault::Babble => 8,
-        Dwc2TransferFault::Transaction => 7,
-        Dwc2TransferFault::FrameOverrun => 9,
-        Dwc2TransferFault::DataToggle => 10,
-    }
+    u32::from(fault) as u8
 }
 
 fn fault_of(kind: u8) -> Dwc2TransferFault
@@ -221,25 +212,25 @@ impl From<IsoHaltReason> for Tagged {
     }
 }
 
-impl From<IsoFatal> for Tagged {
+impl From<Option<IsoHaltReason>> for Tagged {
     ghost from_gives = { λ fatal t. t ≡ fatal_tagged fatal };
 
-    fn from(fatal: IsoFatal) -> Tagged {
+    fn from(fatal: Option<IsoHaltReason>) -> Tagged {
         match fatal {
-            IsoFatal::Nothing => BARE,
-            IsoFatal::Reason(reason) => Tagged::from(reason),
+            None => BARE,
+            Some(reason) => Tagged::from(reason),
         }
     }
 }
 
-impl From<Tagged> for IsoFatal {
+impl From<Tagged> for Option<IsoHaltReason> {
     ghost from_gives = { λ t fatal. fatal ≡ fatal_of t };
 
-    fn from(t: Tagged) -> IsoFatal {
+    fn from(t: Tagged) -> Option<IsoHaltReason> {
         match t.tag {
-            0 => IsoFatal::Nothing,
-            1 => IsoFatal::Reason(IsoHaltReason::Cancelled),
-            _ => IsoFatal::Reason(IsoHaltReason::Fault(fault_of(t.kind), t.word)),
+            0 => None,
+            1 => Some(IsoHaltReason::Cancelled),
+            _ => Some(IsoHaltReason::Fault(fault_of(t.kind), t.word)),
         }
     }
 }
