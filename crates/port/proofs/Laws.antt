@@ -1,4 +1,3 @@
-pub mod Answers
 pub mod Back
 pub mod Calls
 pub mod Closing
@@ -25,6 +24,5 @@ pub mod Sounds
 pub mod Steps
 pub mod Submits
 pub mod Tables
-pub mod Tags
 pub mod Verdict
 pub mod Walks

@@ -1,10 +1,9 @@
 -- The first request settled and handed out in one: when a poll settles it and no other, and what is left without it.
-use Rattle.std.proofs.Common.{◌≡◌, ℕ, suc, drop, ◌+◌, ◌-◌, ◌*◌, ◌<◌, ◌≤◌, Bool, true, false, not, ◌||◌, ltb, List, [], ◌∷◌, map, length, get_or, set, sym, refl, ap, ◌∙◌, ap₂, arith, get_or-set_other, get_or-set_same, ltb-false, ltb-true}
+use Rattle.std.proofs.Common.{None, ◌≡◌, ℕ, suc, drop, ◌+◌, ◌-◌, ◌*◌, ◌<◌, ◌≤◌, Bool, true, false, not, ◌||◌, ltb, List, [], ◌∷◌, map, length, get_or, set, sym, refl, ap, ◌∙◌, ap₂, arith, get_or-set_other, get_or-set_same, ltb-false, ltb-true}
 use lib.ListN.{length-map}
 use lib.Seq.{slice, sets}
 use Rattle.words.specs.Words.{is_set, active}
 use Rattle.words.specs.declared.types.Direction.{Direction}
-use Rattle.session.specs.declared.types.IsoFatal.TheVariants.{Nothing}
 use Rattle.session.specs.declared.types.IsoHead.{IsoHead}
 use Rattle.session.specs.declared.types.IsoRequest.{IsoRequest}
 use Rattle.session.specs.declared.types.IsoPacketPlan.{IsoPacketPlan}
@@ -212,6 +211,6 @@ first_taken xs ring {n} {all} {count} z g none more en ea half ec {b} {c} eb er 
 
 -- ---- no reason to end
 
-pub no_reason : (ys : List ℕ) → byte_of ys ≡ 0 → fatal_of (tagged_of ys) ≡ Nothing
+pub no_reason : (ys : List ℕ) → byte_of ys ≡ 0 → fatal_of (tagged_of ys) ≡ None
 unfolding tagged_of
 no_reason ys e = ap (λ (n : ℕ). fatal_of (tagged n (byte_of (drop 1 ys)) (u32_of (drop 2 ys)))) e

@@ -1,9 +1,11 @@
 -- The whole of a session's bytes: whether they are refused, and the session.
-use Rattle.std.proofs.Common.{◌≡◌, ℕ, ◌<◌, ◌≤◌, Bool, true, false, cond, ◌||◌, min, Option, Some, None, List, length, drop, sym, refl, ap, ◌∙◌, arith, le-ltb, lt-ltb}
+use Rattle.std.proofs.Common.{◌≡◌, ℕ, ◌<◌, ◌≤◌, Bool, true, false, cond, ◌||◌, min, Option, Some, None, Result, Ok, Err, ⊤, List, length, drop, sym, refl, ap, ◌∙◌, arith, le-ltb, lt-ltb}
 use Rattle.words.proofs.Laws.Tests.{neither}
+use Rattle.session.specs.declared.refusal.IsoRefusal.{IsoRefusal}
+use Rattle.session.specs.declared.refusal.IsoRefusal.TheVariants.{ShortBuffer, BadRecord}
 use Rattle.session.specs.declared.types.IsoConfig.{IsoConfig}
 use Rattle.session.specs.declared.types.IsoHead.{IsoHead}
-use Rattle.session.specs.declared.types.IsoFatal.{IsoFatal}
+use Rattle.session.specs.declared.types.IsoHaltReason.{IsoHaltReason}
 use Rattle.session.specs.declared.types.IsoRequest.{IsoRequest}
 use Rattle.session.specs.declared.types.IsoPacketPlan.{IsoPacketPlan}
 use lib.Seq.{slice}
@@ -12,10 +14,10 @@ use Rattle.session.specs.Scan.{whole}
 use Rattle.port.specs.declared.tags.Tagged.{Tagged}
 use Rattle.port.specs.Tags.{tagged_of, fatal_of}
 use Rattle.port.specs.Layout.{config_of, head_of, request_of, plan_of, table_of, any_of}
-use Rattle.port.specs.Layout.{is_bad_mark, is_bad_head, is_bad_request_bytes, is_bad_plan_bytes, is_bad_layout, layout_number, session_of, requests_in, plans_in}
+use Rattle.port.specs.Layout.{is_bad_mark, is_bad_head, is_bad_request_bytes, is_bad_plan_bytes, is_bad_layout, layout_refusal, session_of, requests_in, plans_in}
 
 pub session_at :
-    (xs : List ℕ) {cfg : IsoConfig} {head : IsoHead} {fatal : IsoFatal} {t : Tagged} {requests : List IsoRequest} {plans : List IsoPacketPlan}
+    (xs : List ℕ) {cfg : IsoConfig} {head : IsoHead} {fatal : Option IsoHaltReason} {t : Tagged} {requests : List IsoRequest} {plans : List IsoPacketPlan}
     → cfg ≡ config_of xs
     → head ≡ head_of xs
     → t ≡ tagged_of (drop 34 xs)
@@ -26,11 +28,14 @@ pub session_at :
 unfolding session_of
 session_at xs ec eh et ef er ep = rw (ec, eh, ef, et, er, ep)
 
-pub short_layout : (xs : List ℕ) → length xs < 8488 → 17 ≡ layout_number xs
-short_layout xs h = sym (ap (λ (b : Bool). cond b 17 (cond (is_bad_layout xs) 18 0)) (lt-ltb (length xs) 8488 h))
+abbrev bad_by : Bool → Result ⊤ IsoRefusal
+bad_by b = cond b (Err BadRecord) (Ok tt)
 
-number_by : {short bad b : Bool} → short ≡ false → bad ≡ b → ◌≡◌ {A = ℕ} (cond b 18 0) (cond short 17 (cond bad 18 0))
-number_by {bad = bad} p q = sym (ap (λ (x : Bool). cond x 17 (cond bad 18 0)) p ∙ ap (λ (x : Bool). cond x 18 0) q)
+pub short_layout : (xs : List ℕ) → length xs < 8488 → Err ShortBuffer ≡ layout_refusal xs
+short_layout xs h = sym (ap (λ (b : Bool). cond b (Err ShortBuffer) (bad_by (is_bad_layout xs))) (lt-ltb (length xs) 8488 h))
+
+refusal_by : {short bad b : Bool} → short ≡ false → bad ≡ b → bad_by b ≡ cond short (Err ShortBuffer) (bad_by bad)
+refusal_by {bad = bad} p q = sym (ap (λ (x : Bool). cond x (Err ShortBuffer) (bad_by bad)) p ∙ ap bad_by q)
 
 is_none : (r : Bool) (n : ℕ) → None ≡ cond r None (Some n) → r ≡ true
 is_none true n e = refl
@@ -42,11 +47,11 @@ is_some false m n e = (refl, cc)
 
 -- the tests in the code's order: what stands before the tables, then the entries in use
 module _ (xs : List ℕ) {f : Bool} (long : 8488 ≤ length xs) (ef : f ≡ (is_bad_mark xs || is_bad_head xs)) where
-  pub bad_front : f ≡ true → 18 ≡ layout_number xs
+  pub bad_front : f ≡ true → Err BadRecord ≡ layout_refusal xs
   unfolding is_bad_layout
   bad_front e =
       let all : is_bad_layout xs ≡ true = go (is_bad_mark xs) (is_bad_head xs) _ (sym ef ∙ e) in
-      number_by (le-ltb (length xs) 8488 long) all
+      refusal_by (le-ltb (length xs) 8488 long) all
     where
       go : (a b c : Bool) → (a || b) ≡ true → (a || (b || c)) ≡ true
       go true b c p = p
@@ -57,12 +62,12 @@ module _ (xs : List ℕ) {f : Bool} (long : 8488 ≤ length xs) (ef : f ≡ (is_
       {r p : Bool} (b : Bool) → f ≡ false → r ≡ any_of is_bad_request_bytes 20 (requests_in (session_of xs)) (drop 40 xs)
       → p ≡ any_of is_bad_plan_bytes 7 (plans_in (session_of xs)) (drop 1320 xs)
       → (r || p) ≡ b
-      → cond b 18 0 ≡ layout_number xs
+      → bad_by b ≡ layout_refusal xs
   unfolding is_bad_layout
   layout_by b good er ep e =
       let two = neither (is_bad_mark xs) (is_bad_head xs) (sym ef ∙ good) in
       let all : is_bad_layout xs ≡ b = rw (two.0, two.1, ← er, ← ep) e in
-      number_by (le-ltb (length xs) 8488 long) all
+      refusal_by (le-ltb (length xs) 8488 long) all
 
   -- the same by what a walk over the first `n` requests gives: none where one is bad, and else their packets
   module _ {n : ℕ} {o : Option ℕ} (good : f ≡ false) (en : n ≡ requests_in (session_of xs))
@@ -70,13 +75,13 @@ module _ (xs : List ℕ) {f : Bool} (long : 8488 ≤ length xs) (ef : f ≡ (is_
     used : o ≡ cond (any_of is_bad_request_bytes 20 (requests_in (session_of xs)) (drop 40 xs)) None (Some (packets_of (slice 0 (requests_in (session_of xs)) (session_of xs).requests)))
     used = rw (← en) eo
 
-    pub layout_none : o ≡ None → 18 ≡ layout_number xs
+    pub layout_none : o ≡ None → Err BadRecord ≡ layout_refusal xs
     layout_none e =
         layout_by true good refl refl
         (ap (λ (x : Bool). x || any_of is_bad_plan_bytes 7 (plans_in (session_of xs)) (drop 1320 xs)) (is_none _ _ (sym e ∙ used)))
 
     pub layout_some :
-        {m k : ℕ} {p : Bool} (b : Bool) → o ≡ Some m → k ≡ min m 1024 → p ≡ any_of is_bad_plan_bytes 7 k (drop 1320 xs) → p ≡ b → cond b 18 0 ≡ layout_number xs
+        {m k : ℕ} {p : Bool} (b : Bool) → o ≡ Some m → k ≡ min m 1024 → p ≡ any_of is_bad_plan_bytes 7 k (drop 1320 xs) → p ≡ b → bad_by b ≡ layout_refusal xs
     layout_some {m} {k} {p} b e ek ep pb =
         let two = is_some _ m _ (sym e ∙ used) in
         let plans = ep ∙ ap (λ (j : ℕ). any_of is_bad_plan_bytes 7 j (drop 1320 xs)) (ek ∙ ap (λ (j : ℕ). min j 1024) two.1) in

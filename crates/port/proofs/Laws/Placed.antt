@@ -47,3 +47,12 @@ head_there xs = refl
 pub reason_there : (xs : List ℕ) → fatal_of (tagged_of (drop 34 xs)) ≡ (session_of xs).fatal
 unfolding session_of
 reason_there xs = refl
+
+-- whether the session is ending, by the reason that was read
+pub ending_there :
+    (xs : List ℕ) {f : Option IsoHaltReason} {b : Bool} → f ≡ fatal_of (tagged_of (drop 34 xs)) → b ≡ is_some f → b ≡ has_reason (session_of xs).fatal
+ending_there xs {f} ef eb = eb ∙ by_case f ∙ ap has_reason (ef ∙ reason_there xs)
+  where
+    by_case : (o : Option IsoHaltReason) → is_some o ≡ has_reason o
+    by_case None = refl
+    by_case (Some r) = refl

@@ -1,17 +1,15 @@
 -- Which way a poll goes in the common cases, and when nothing is settled; what it answers and leaves, and the same by bytes.
 use Rattle.std.specs.Prelude.{Result, Ok, Err, ⊤}
-use Rattle.std.proofs.Common.{cond, ◌<◌, ◌≤◌, lt-ltb, le-ltb, ◌≡◌, ℕ, ◌+◌, ◌-◌, ◌*◌, ◌/◌, ◌%◌, Bool, true, false, not, ◌&&◌, ◌||◌, eqb, ltb, List, length, get_or, sym, refl, ap, ◌∙◌, subst, ap₂, arith, ne_eqb}
+use Rattle.std.proofs.Common.{Option, cond, ◌<◌, ◌≤◌, lt-ltb, le-ltb, ◌≡◌, ℕ, ◌+◌, ◌-◌, ◌*◌, ◌/◌, ◌%◌, Bool, true, false, not, ◌&&◌, ◌||◌, eqb, ltb, List, length, get_or, sym, refl, ap, ◌∙◌, subst, ap₂, arith, ne_eqb}
 use mathlib.Core.Bool.{or-true}
 use Rattle.words.specs.Words.{is_set, active, complete, halted, hcint_fault}
-use Rattle.words.specs.declared.types.HcintFault.{HcintFault}
-use Rattle.words.specs.declared.types.HcintFault.TheVariants as fault
+use Rattle.words.specs.declared.types.Dwc2TransferFault.{Dwc2TransferFault}
 use Rattle.session.specs.declared.reply.IsoAnswer.TheVariants.{Done}
 use Rattle.session.specs.declared.reply.IsoEvent.{IsoEvent}
 use Rattle.session.specs.declared.reply.IsoReply.{IsoReply}
 use Rattle.session.specs.declared.reply.PollWay.{PollWay}
 use Rattle.session.specs.declared.reply.PollWay.TheVariants as way
-use Rattle.session.specs.declared.types.IsoFatal.{IsoFatal}
-use Rattle.session.specs.declared.types.IsoFatal.TheVariants as fatal
+use Rattle.session.specs.declared.types.IsoHaltReason.{IsoHaltReason}
 use Rattle.session.specs.declared.types.IsoOutcome.TheVariants as outcome
 use Rattle.session.specs.declared.types.IsoChannelState.{IsoChannelState}
 use Rattle.session.specs.Session.{blank_request, blank_plan, ring_words, all_packets, pending_packets}
@@ -36,7 +34,7 @@ use Rattle.port.proofs.Laws.Settling.{oldest_ends}
 use Rattle.port.proofs.Laws.Steps.{same_bytes, becomes, acted, reply_said}
 
 -- the bits 1 to 3 and 7 to 10 of an event, each of which is clear where both numbers of them are 0
-pub calm_bits : (w : ℕ) → w / 2 % 8 ≡ 0 → w / 128 % 16 ≡ 0 → (hcint_fault w ≡ fault.Nothing) × (is_set halted w ≡ false)
+pub calm_bits : (w : ℕ) → w / 2 % 8 ≡ 0 → w / 128 % 16 ≡ 0 → (hcint_fault w ≡ None) × (is_set halted w ≡ false)
 calm_bits w low high =
     let clear : (n : ℕ) → n ≡ 0 → eqb n 1 ≡ false = λ n z. ne_eqb n 1 (λ one. omega arith) in (
       rw (
@@ -50,29 +48,21 @@ calm_bits w low high =
       clear (w / 2 % 2) (omega arith),
     )
 
--- an event that a live channel takes
-pub taken_is : (live reported : Bool) → live ≡ true → reported ≡ true → (not live || not reported) ≡ false
-taken_is live reported l r = ap₂ (λ (a b : Bool). not a || not b) l r
-
 module _ (s : IsoChannelState) (e : IsoEvent) where
-  pub quiet_way : (not s.head.live || not e.reported) ≡ true → way.Nothing ≡ poll_way s e
-  quiet_way q = sym (first (not s.head.live || not e.reported) way.Nothing _ q)
-
   pub calm_way :
-      (not s.head.live || not e.reported) ≡ false → e.unplugged ≡ false → hcint_fault e.hcint ≡ fault.Nothing → is_set halted e.hcint ≡ false
-      → s.fatal ≡ fatal.Nothing
-      → way.Settle (is_set complete e.hcint) ≡ poll_way s e
-  calm_way q u f h n =
+      s.head.live ≡ true → e.unplugged ≡ false → hcint_fault e.hcint ≡ None → is_set halted e.hcint ≡ false → s.fatal ≡ None
+      → way.Settle (is_set complete e.hcint) ≡ poll_way s (Some e)
+  calm_way l u f h n =
       let w : ℕ = e.hcint in
       sym
-      (second (not s.head.live || not e.reported) way.Nothing _ q
+      (ap (λ (b : Bool). cond b (way_by_event s.fatal e) way.Nothing) l
       ∙ second e.unplugged (way.End outcome.Disconnected) _ u
-      ∙ ap (λ (k : HcintFault). way_by_fault k s.fatal w) f
-      ∙ ap (λ (r : IsoFatal). way_by_reason r w) n
+      ∙ ap (λ (k : Option Dwc2TransferFault). way_by_fault k s.fatal w) f
+      ∙ ap (λ (r : Option IsoHaltReason). way_by_reason r w) n
       ∙ second (is_set halted w) (way.End (outcome.UnexpectedHalt w)) (way.Settle (is_set complete w)) h)
 
 -- a poll past both tests answers and leaves what its way does
-module _ (xs ring : List ℕ) (e : IsoEvent) (fits : ltb (length ring) (ring_words (session_of xs).cfg) ≡ false) (good : is_bad_record (session_of xs) ≡ false) where
+module _ (xs ring : List ℕ) (e : Option IsoEvent) (fits : ltb (length ring) (ring_words (session_of xs).cfg) ≡ false) (good : is_bad_record (session_of xs) ≡ false) where
   pub replied :
       {v : PollWay} {p : PortReply} {taken halt : Bool} {after words : List ℕ} → v ≡ poll_way (session_of xs) e → p ≡ port_reply 0 (flag_tag taken) (flag_tag halt)
       → taken ≡ (polled_by v (session_of xs) ring).taken
@@ -91,28 +81,28 @@ module _ (xs ring : List ℕ) (e : IsoEvent) (fits : ltb (length ring) (ring_wor
 -- ---- a call that is lent the ring: refused with a number, or past both tests
 
 module _ (s : IsoChannelState) (words : ℕ) where
-  abbrev lent_by : Bool → Bool → Result ⊤ ℕ
-  lent_by short bad = cond short (Err 17) (cond bad (Err 18) (Ok tt))
+  abbrev lent_by : Bool → Bool → Result ⊤ IsoRefusal
+  lent_by short bad = cond short (Err ShortBuffer) (cond bad (Err BadRecord) (Ok tt))
 
   module _ {least : ℕ} (is : least ≡ ring_words s.cfg) where
-    pub lent_short : words < least → Err 17 ≡ lent s words
+    pub lent_short : words < least → Err ShortBuffer ≡ lent s words
     lent_short h = sym (ap (λ (a : Bool). lent_by a (is_bad_record s)) (sym (ap (ltb words) is) ∙ lt-ltb words least h))
 
     enough : least ≤ words → ltb words (ring_words s.cfg) ≡ false
     enough h = sym (ap (ltb words) is) ∙ le-ltb words least h
 
-    pub lent_bad : least ≤ words → is_bad_record s ≡ true → Err 18 ≡ lent s words
+    pub lent_bad : least ≤ words → is_bad_record s ≡ true → Err BadRecord ≡ lent s words
     lent_bad h bad = sym (ap₂ lent_by (enough h) bad)
 
     pub lent_good : least ≤ words → is_bad_record s ≡ false → Ok tt ≡ lent s words
     lent_good h good = sym (ap₂ lent_by (enough h) good)
 
   pub lent_refused :
-      {A : Type 0} {n : ℕ} (answer : ℕ → A) (r : A) → Err n ≡ lent s words
-      → cond (ltb words (ring_words s.cfg)) (answer 17) (cond (is_bad_record s) (answer 18) r) ≡ answer n
+      {A : Type 0} {n : IsoRefusal} (answer : IsoRefusal → A) (r : A) → Err n ≡ lent s words
+      → cond (ltb words (ring_words s.cfg)) (answer ShortBuffer) (cond (is_bad_record s) (answer BadRecord) r) ≡ answer n
   lent_refused {A} {n} answer r is = go (ltb words (ring_words s.cfg)) (is_bad_record s) is
     where
-      go : (a b : Bool) → ◌≡◌ {A = Result ⊤ ℕ} (Err n) (cond a (Err 17) (cond b (Err 18) (Ok tt))) → cond a (answer 17) (cond b (answer 18) r) ≡ answer n
+      go : (a b : Bool) → ◌≡◌ {A = Result ⊤ IsoRefusal} (Err n) (cond a (Err ShortBuffer) (cond b (Err BadRecord) (Ok tt))) → cond a (answer ShortBuffer) (cond b (answer BadRecord) r) ≡ answer n
       go true b e = ap answer (grind arith)
       go false true e = ap answer (grind arith)
       go false false e = grind arith
@@ -120,7 +110,7 @@ module _ (s : IsoChannelState) (words : ℕ) where
   pub lent_passed : Ok tt ≡ lent s words → (ltb words (ring_words s.cfg) ≡ false) × (is_bad_record s ≡ false)
   lent_passed is = go (ltb words (ring_words s.cfg)) (is_bad_record s) refl refl is
     where
-      go : (a b : Bool) → ltb words (ring_words s.cfg) ≡ a → is_bad_record s ≡ b → ◌≡◌ {A = Result ⊤ ℕ} (Ok tt) (cond a (Err 17) (cond b (Err 18) (Ok tt)))
+      go : (a b : Bool) → ltb words (ring_words s.cfg) ≡ a → is_bad_record s ≡ b → ◌≡◌ {A = Result ⊤ IsoRefusal} (Ok tt) (cond a (Err ShortBuffer) (cond b (Err BadRecord) (Ok tt)))
           → (ltb words (ring_words s.cfg) ≡ false) × (is_bad_record s ≡ false)
       go true b p q e = grind arith
       go false true p q e = grind arith

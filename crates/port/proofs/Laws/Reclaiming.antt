@@ -1,5 +1,5 @@
 -- Reclaiming in place: the answer, the bytes and the lent words at each exit, where the code looked, and looked again at what that left.
-use Rattle.std.proofs.Common.{◌≡◌, ℕ, ◌+◌, ◌≤◌, Bool, true, false, cond, ◌||◌, ltb, ltb-false, List, length, get_or, sym, refl, ap, ◌∙◌, subst, ap₂}
+use Rattle.std.proofs.Common.{Option, Some, None, Result, Ok, Err, ◌≡◌, ℕ, ◌+◌, ◌≤◌, Bool, true, false, cond, ◌||◌, ltb, ltb-false, List, length, get_or, sym, refl, ap, ◌∙◌, subst, ap₂}
 use mathlib.Core.Path.{subst⁻¹}
 use Rattle.words.proofs.Laws.Tests.{neither}
 use lib.Seq.{slice}
@@ -8,9 +8,10 @@ use Rattle.session.specs.declared.types.IsoHead.{IsoHead}
 use Rattle.session.specs.declared.types.IsoChannelState.{IsoChannelState}
 use Rattle.session.specs.declared.reply.IsoEvent.{IsoEvent}
 use Rattle.session.specs.declared.reply.IsoReply.{IsoReply}
-use Rattle.session.specs.declared.reply.IsoAnswer.TheVariants.{Done}
-use Rattle.session.specs.declared.reply.ReclaimAnswer.{ReclaimAnswer}
-use Rattle.session.specs.declared.reply.ReclaimAnswer.TheVariants.{NotYet, Refused}
+use Rattle.session.specs.declared.refusal.IsoRefusal.{IsoRefusal}
+use Rattle.session.specs.declared.refusal.IsoRefusal.TheVariants.{UnknownRequest}
+use Rattle.session.specs.declared.reply.IsoCompletion.{IsoCompletion}
+use Rattle.session.specs.Numbers.{refusal_number}
 use Rattle.session.specs.declared.reply.Reclaimed.{Reclaimed}
 use Rattle.session.specs.Session.{blank_request, ring_words, all_packets}
 use Rattle.session.specs.Record.{is_bad_record}
@@ -53,7 +54,7 @@ module _ (xs : List ℕ) where
 
 -- ---- what is left
 
-module _ (xs ring results : List ℕ) (id : ℕ) (e : IsoEvent) where
+module _ (xs ring results : List ℕ) (id : ℕ) (e : Option IsoEvent) where
   abbrev s : IsoChannelState
   s = session_of xs
 
@@ -66,8 +67,8 @@ module _ (xs ring results : List ℕ) (id : ℕ) (e : IsoEvent) where
       × (after ≡ reclaimed_results s id e ring results)
 
   pub refused_in_place :
-      {n : ℕ} {p : PortReclaimed} → Left xs xs s → p ≡ reclaim_refused n
-      → (reclaim_reply (Refused n) false false s ≡ reclaimed s id e ring (length results))
+      {r : IsoRefusal} {p : PortReclaimed} → Left xs xs s → p ≡ reclaim_refused (refusal_number r)
+      → (reclaim_reply (Err r) false false s ≡ reclaimed s id e ring (length results))
       × (ring ≡ reclaimed_ring s id e ring (length results))
       × (results ≡ reclaimed_results s id e ring results)
       → Told p xs ring results
@@ -101,7 +102,7 @@ module _ (xs ring results : List ℕ) (id : ℕ) (e : IsoEvent) where
     still = place ∙ sym (ap (request_at id) act.bytes.holds ∙ same_place id s t (looked_in_use id e s ring g))
 
     pub done_in_place :
-        {a : ReclaimAnswer} {c words after : List ℕ} {p : PortReclaimed} → is_short s (length ring) (length results) ≡ false → is_bad_record s ≡ false
+        {a : Result (Option IsoCompletion) IsoRefusal} {c words after : List ℕ} {p : PortReclaimed} → is_short s (length ring) (length results) ≡ false → is_bad_record s ≡ false
         → words ≡ looked_ring_at at e s ring
         → ((taken halt : Bool) → reclaim_reply a taken halt (session_of c) ≡ looked_again_at at taken halt (session_of b))
         → Left b c (session_of c)
@@ -130,27 +131,27 @@ module _ (xs ring results : List ℕ) (id : ℕ) (e : IsoEvent) where
       {c words after : List ℕ} {p : PortReclaimed} → Sound s → is_short s (length ring) (length results) ≡ false → is_bad_record s ≡ false
       → 0 ≡ request_at id s
       → FirstOnly s e ring
-      → p ≡ reclaim_port (handed_answer (get_or (settled_session s ring).requests 0 blank_request)) 1 0
+      → p ≡ reclaim_port (Ok (Some (handed_answer (get_or (settled_session s ring).requests 0 blank_request)))) 1 0
       → Left xs c (removed 0 (settled_session s ring))
       → words ≡ settled_ring s ring
       → after ≡ handed_results 0 (settled_session s ring) results
       → Told p c words after
   first_in_place {c} g h k place f ep ec ew ea =
       let t : IsoChannelState = settled_session s ring in
-      let x : IsoReply = reply Done true false t in
+      let x : IsoReply = reply (Ok tt) true false t in
       let off : ltb (request_at id s) s.head.done ≡ false = ap₂ ltb (sym place) f.none_done in
       let look : x ≡ looked id e s ring =
-      sym f.polled ∙ sym (ap (λ (b : Bool). cond b (reply Done false false s) (polled_by (poll_way s e) s ring)) off) in
+      sym f.polled ∙ sym (ap (λ (b : Bool). cond b (reply (Ok tt) false false s) (polled_by (poll_way s e) s ring)) off) in
       let words_looked : settled_ring s ring ≡ looked_ring id e s ring =
       sym f.cleared ∙ sym (ap (λ (b : Bool). cond b ring (polled_ring_by (poll_way s e) s ring)) off) in
       let in_use : InUse s t = subst⁻¹ (λ (r : IsoReply). InUse s r.session) look (looked_in_use id e s ring g) in
       let still : 0 ≡ request_at id t = place ∙ sym (same_place id s t in_use) in
       let on : ltb 0 t.head.done ≡ true = ap (λ (d : ℕ). ltb 0 (d + 1)) f.none_done in
-      let again : reclaim_reply (handed_answer (request_of 0 t)) true false (removed 0 t) ≡ looked_again id true false t =
+      let again : reclaim_reply (Ok (Some (handed_answer (request_of 0 t)))) true false (removed 0 t) ≡ looked_again id true false t =
       sym
       (ap (λ (b : Bool).
-      cond b (reclaim_reply (handed_answer (request_of 0 t)) true false (removed 0 t))
-      (reclaim_reply (cond (ltb 0 t.head.count) NotYet (Refused 15)) true false t)) on)
+      cond b (reclaim_reply (Ok (Some (handed_answer (request_of 0 t)))) true false (removed 0 t))
+      (reclaim_reply (cond (ltb 0 t.head.count) (Ok None) (Err UnknownRequest)) true false t)) on)
       ∙ ap (λ (n : ℕ). looked_again_at n true false t) still in
       let handed : handed_results 0 t results ≡ looked_results id t results =
       sym (ap (λ (b : Bool). cond b (handed_results 0 t results) results) on) ∙ ap (λ (n : ℕ). looked_results_at n t results) still in
@@ -159,7 +160,7 @@ module _ (xs ring results : List ℕ) (id : ℕ) (e : IsoEvent) where
 
 -- ---- the call by bytes
 
-module _ (xs ring results : List ℕ) (id : ℕ) (e : IsoEvent) where
+module _ (xs ring results : List ℕ) (id : ℕ) (e : Option IsoEvent) where
   abbrev call : IsoChannelState → Reclaimed
   call s = reclaimed s id e ring (length results)
 

@@ -7,7 +7,7 @@ use lib.Seq.{slice}
 use Rattle.words.proofs.Laws.Tests.{neither}
 use Rattle.ring.specs.RingSums.{packet_limit}
 use Rattle.session.specs.declared.types.IsoConfig.{IsoConfig}
-use Rattle.session.specs.declared.types.IsoFatal.{IsoFatal}
+use Rattle.session.specs.declared.types.IsoHaltReason.{IsoHaltReason}
 use Rattle.session.specs.declared.types.IsoHead.{IsoHead}
 use Rattle.session.specs.declared.types.IsoChannelState.{IsoChannelState}
 use Rattle.session.specs.Session.{slots, room, packets_of, all_packets, pending_packets, has_reason}
@@ -43,7 +43,7 @@ good_entry xs at {word} e h =
 
 module _ (s : IsoChannelState) where
   pub numbers_test :
-      {cfg : IsoConfig} {h : IsoHead} {fatal : IsoFatal} {size : ℕ} {bad state b : Bool}
+      {cfg : IsoConfig} {h : IsoHead} {fatal : Option IsoHaltReason} {size : ℕ} {bad state b : Bool}
       → cfg ≡ s.cfg
       → h ≡ s.head
       → fatal ≡ s.fatal

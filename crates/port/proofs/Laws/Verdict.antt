@@ -1,13 +1,15 @@
 -- What a verdict on a session's bytes says of them, and what a record tells: nothing where it is bad, and its sums where it is good.
 use Rattle.std.specs.Prelude.{Option, None, Some, Result, Ok, Err}
-use Rattle.std.proofs.Common.{arith, ◌≡◌, ℕ, Bool, true, false, cond, eqb, eqb-true, List, sym, refl, ap, ◌∙◌}
-use borrow.Author.Tests.{eqb-false}
+use Rattle.std.proofs.Common.{arith, ◌≡◌, ℕ, Bool, true, false, cond, ltb, List, length, sym, refl, ap, ◌∙◌}
 use Rattle.std.proofs.lemmas.Option.{none-some, same_Some}
 use Rattle.session.specs.Session.{all_packets, pending_packets}
 use Rattle.session.specs.Record.{is_bad_record}
+use Rattle.session.specs.declared.refusal.IsoRefusal.{IsoRefusal}
+use Rattle.session.specs.declared.refusal.IsoRefusal.TheVariants.{ShortBuffer, BadRecord}
+use Rattle.session.specs.Numbers.{refusal_number}
 use Rattle.session.specs.declared.types.IsoChannelState.{IsoChannelState}
 use Rattle.port.specs.declared.scan.RequestSums.{RequestSums}
-use Rattle.port.specs.Layout.{layout_number, session_of}
+use Rattle.port.specs.Layout.{is_bad_layout, layout_number, session_of}
 use Rattle.port.specs.Scan.{sums_of, record_sums, verdict_of}
 
 module _ (s : IsoChannelState) where
@@ -31,26 +33,28 @@ module _ (s : IsoChannelState) where
           (is, ap (λ (r : RequestSums). r.all) same, ap (λ (r : RequestSums). r.pending) same)
 
 module _ (xs : List ℕ) where
-  abbrev verdict_by : Bool → Result (Option RequestSums) ℕ
-  verdict_by b = cond b (Ok (record_sums (session_of xs))) (Err (layout_number xs))
+  abbrev verdict_by : Bool → Bool → Result (Option RequestSums) IsoRefusal
+  verdict_by short bad = cond short (Err ShortBuffer) (cond bad (Err BadRecord) (Ok (record_sums (session_of xs))))
 
-  pub verdict_refused : {n : ℕ} → Err n ≡ verdict_of xs → (n ≡ layout_number xs) × (n ≡ 0 → ⊥)
-  verdict_refused {n} e = go (eqb (layout_number xs) 0) refl
+  abbrev number_by : Bool → Bool → ℕ
+  number_by short bad = cond short 17 (cond bad 18 0)
+
+  pub verdict_refused : {r : IsoRefusal} → Err r ≡ verdict_of xs → (refusal_number r ≡ layout_number xs) × (refusal_number r ≡ 0 → ⊥)
+  verdict_refused {r} e = go (ltb (length xs) 8488) (is_bad_layout xs) e
     where
-      go : (b : Bool) → eqb (layout_number xs) 0 ≡ b → (n ≡ layout_number xs) × (n ≡ 0 → ⊥)
-      go true is =
-          let made : Err n ≡ verdict_by true = e ∙ ap verdict_by is in
-          grind arith
-      go false is =
-          let made : Err n ≡ verdict_by false = e ∙ ap verdict_by is in
-          let same : n ≡ layout_number xs = grind arith in
-          (same, λ z. eqb-false (layout_number xs) 0 is (sym same ∙ z))
+      go : (short bad : Bool) → Err r ≡ verdict_by short bad → (refusal_number r ≡ number_by short bad) × (refusal_number r ≡ 0 → ⊥)
+      go true bad m =
+          let same : r ≡ ShortBuffer = grind arith in
+          (ap refusal_number same, λ z. omega (arith, z, ap refusal_number same))
+      go false true m =
+          let same : r ≡ BadRecord = grind arith in
+          (ap refusal_number same, λ z. omega (arith, z, ap refusal_number same))
+      go false false m = grind arith
 
   pub verdict_told : {r : Option RequestSums} → Ok r ≡ verdict_of xs → layout_number xs ≡ 0
-  verdict_told {r} e = go (eqb (layout_number xs) 0) refl
+  verdict_told {r} e = go (ltb (length xs) 8488) (is_bad_layout xs) e
     where
-      go : (b : Bool) → eqb (layout_number xs) 0 ≡ b → layout_number xs ≡ 0
-      go true is = eqb-true (layout_number xs) 0 is
-      go false is =
-          let made : Ok r ≡ verdict_by false = e ∙ ap verdict_by is in
-          grind arith
+      go : (short bad : Bool) → Ok r ≡ verdict_by short bad → number_by short bad ≡ 0
+      go true bad m = grind arith
+      go false true m = grind arith
+      go false false m = refl

@@ -5,7 +5,6 @@ use native.Mathlib.Nat.{min-le_right}
 use lib.Seq.{slice}
 use Rattle.session.specs.declared.types.IsoHead.{IsoHead}
 use Rattle.session.specs.declared.types.IsoOutcome.TheVariants as outcome
-use Rattle.session.specs.Session.{has_reason}
 use Rattle.session.specs.Record.{is_bad_record}
 use Rattle.session.specs.Cancel.{place_of, request_at, with_cancelled, cancelled}
 use Rattle.session.proofs.Laws.Record.{sound}
@@ -15,7 +14,7 @@ use Rattle.port.proofs.Laws.Calls.{long_enough}
 use Rattle.port.proofs.Laws.Left.{left_is}
 use Rattle.port.proofs.Laws.Steps.{outcome_here, stays, becomes}
 use Rattle.port.proofs.Laws.Walks.{requests_in_lem}
-use Rattle.port.proofs.Laws.Placed.{head_there, reason_there, requests_many, plans_many}
+use Rattle.port.proofs.Laws.Placed.{head_there, ending_there, requests_many, plans_many}
 use Rattle.port.proofs.cancel.cancel_at.Goals as goal
 
 -- the place that was found, by the head that was read: what the definition asks of it
@@ -91,18 +90,18 @@ returns-then-at-head-2 c =
     (cancel_unknown s id (sym c.requires.1 ∙ c.if-bad.false) (found.0 ∙ le-ltb at head.done c.if-at-head.false) (found.1 ∙ le-ltb at head.count c.if-at-head-2.true))
     refl c.reply_refused-then-at-head-2.ensures
 
-pub returns-then-has_reason : goal.returns-then-has_reason
-returns-then-has_reason c =
+pub returns-then-is_some : goal.returns-then-is_some
+returns-then-is_some c =
     let xs = c.args.bytes.now in
     let id = c.args.id in
     let s = session_of xs in
     let at = c.found_at-at.result in
     let head = c.head_at-head.result in
     let found = found_is xs id (c.head_at-head.ensures ∙ head_there xs) c.found_at-at.ensures in
-    let reason_is = c.has_reason.ensures ∙ ap has_reason (c.reason_at-fatal.ensures ∙ reason_there xs) in
+    let reason_is = ending_there xs c.reason_at.ensures c.is_some.ensures in
     stays xs (λ i. omega (arith, c.slice_known-1.given i)) c.requires.0 (cancelled s id)
     (cancel_again s id (sym c.requires.1 ∙ c.if-bad.false) (found.0 ∙ le-ltb at head.done c.if-at-head.false) (found.1 ∙ lt-ltb at head.count c.if-at-head-2.false)
-    (sym reason_is ∙ c.if-has_reason.true)) refl c.reply_port-then-has_reason.ensures
+    (sym reason_is ∙ c.if-is_some.true)) refl c.reply_port-then-is_some.ensures
 
 pub returns : goal.returns
 returns c =
@@ -112,7 +111,7 @@ returns c =
     let at = c.found_at-at.result in
     let head = c.head_at-head.result in
     let found = found_is xs id (c.head_at-head.ensures ∙ head_there xs) c.found_at-at.ensures in
-    let reason_is = c.has_reason.ensures ∙ ap has_reason (c.reason_at-fatal.ensures ∙ reason_there xs) in
+    let reason_is = ending_there xs c.reason_at.ensures c.is_some.ensures in
     becomes xs (cancelled s id)
     (cancel_halt s id (sym c.requires.1 ∙ c.if-bad.false) (found.0 ∙ le-ltb at head.done c.if-at-head.false) (found.1 ∙ lt-ltb at head.count c.if-at-head-2.false)
-    (sym reason_is ∙ c.if-has_reason.false)) c.reply_port-2.ensures c.halt_at.ensures
+    (sym reason_is ∙ c.if-is_some.false)) c.reply_port-2.ensures c.halt_at.ensures

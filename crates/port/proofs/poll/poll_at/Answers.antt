@@ -1,6 +1,6 @@
 -- Each arm knows the way, and there the definitions are the arm's own.
-use Rattle.std.proofs.Common.{◌≡◌, sym, refl, ◌∙◌, ap₂, arith}
-use Rattle.session.specs.declared.types.IsoFatal.{IsoFatal}
+use Rattle.std.proofs.Common.{Option, ◌≡◌, sym, refl, ◌∙◌, ap₂, arith}
+use Rattle.session.specs.declared.types.IsoHaltReason.{IsoHaltReason}
 use Rattle.session.specs.declared.types.IsoHead.{IsoHead}
 use Rattle.session.specs.Poll.{way_of, poll_way}
 use Rattle.port.specs.Layout.{session_of}
@@ -17,7 +17,7 @@ returns-in-Nothing c =
     c.args.event = let start = c in
     let xs = start.args.bytes.now in
     c.way_of.ensures
-    ∙ ap₂ (λ (h : IsoHead) (f : IsoFatal). way_of h f start.args.event)
+    ∙ ap₂ (λ (h : IsoHead) (f : Option IsoHaltReason). way_of h f start.args.event)
     (c.head_at-head.ensures ∙ head_there xs) (c.reason_at-fatal.ensures ∙ reason_there xs) in
     let start = c in
     let xs = start.args.bytes.now in
@@ -34,7 +34,7 @@ returns-in-End c =
     c.args.event = let start = c in
     let xs = start.args.bytes.now in
     c.way_of.ensures
-    ∙ ap₂ (λ (h : IsoHead) (f : IsoFatal). way_of h f start.args.event)
+    ∙ ap₂ (λ (h : IsoHead) (f : Option IsoHaltReason). way_of h f start.args.event)
     (c.head_at-head.ensures ∙ head_there xs) (c.reason_at-fatal.ensures ∙ reason_there xs) in
     let start = c in
     let xs =
@@ -54,7 +54,7 @@ returns-in-Halt c =
     c.args.event = let start = c in
     let xs = start.args.bytes.now in
     c.way_of.ensures
-    ∙ ap₂ (λ (h : IsoHead) (f : IsoFatal). way_of h f start.args.event)
+    ∙ ap₂ (λ (h : IsoHead) (f : Option IsoHaltReason). way_of h f start.args.event)
     (c.head_at-head.ensures ∙ head_there xs) (c.reason_at-fatal.ensures ∙ reason_there xs) in
     let start = c in
     let xs = start.args.bytes.now in
@@ -73,7 +73,7 @@ returns-in-Wait c =
     c.args.event = let start = c in
     let xs = start.args.bytes.now in
     c.way_of.ensures
-    ∙ ap₂ (λ (h : IsoHead) (f : IsoFatal). way_of h f start.args.event)
+    ∙ ap₂ (λ (h : IsoHead) (f : Option IsoHaltReason). way_of h f start.args.event)
     (c.head_at-head.ensures ∙ head_there xs) (c.reason_at-fatal.ensures ∙ reason_there xs) in
     let start = c in
     let xs = start.args.bytes.now in
@@ -90,7 +90,7 @@ returns-in-Settle c =
     c.args.event = let start = c in
     let xs = start.args.bytes.now in
     c.way_of.ensures
-    ∙ ap₂ (λ (h : IsoHead) (f : IsoFatal). way_of h f start.args.event)
+    ∙ ap₂ (λ (h : IsoHead) (f : Option IsoHaltReason). way_of h f start.args.event)
     (c.head_at-head.ensures ∙ head_there xs) (c.reason_at-fatal.ensures ∙ reason_there xs) in
     let start = c in
     let xs =

@@ -1,5 +1,6 @@
 -- Refused with a number, or polled by its way.
-use Rattle.std.proofs.Common.{ℕ, length, sym, refl, arith, ltb-false}
+use Rattle.std.proofs.Common.{length, sym, refl, arith, ltb-false}
+use Rattle.session.specs.declared.refusal.IsoRefusal.{IsoRefusal}
 use Rattle.session.specs.Session.{ring_words}
 use Rattle.session.specs.Poll.{refused_reply, poll_way, polled_by, polled_ring_by, polled}
 use Rattle.port.specs.Layout.{session_of}
@@ -16,8 +17,8 @@ returns-in-Err c =
     let is = c.in-Err.ensures in
     let both =
     stays xs (λ i. omega (arith, c.slice_known-1.given i)) c.requires.0 (polled s c.args.event ring)
-    (lent_refused s (length ring) (λ (n : ℕ). refused_reply n s) (polled_by way s ring) is) refl c.reply_refused.ensures in
-    (both.0, both.1, sym (lent_refused s (length ring) (λ (n : ℕ). ring) (polled_ring_by way s ring) is))
+    (lent_refused s (length ring) (λ (r : IsoRefusal). refused_reply r s) (polled_by way s ring) is) refl c.reply_refused.ensures in
+    (both.0, both.1, sym (lent_refused s (length ring) (λ (r : IsoRefusal). ring) (polled_ring_by way s ring) is))
 
 pub poll_at-said-requires : goal.poll_at-said-requires
 poll_at-said-requires c =

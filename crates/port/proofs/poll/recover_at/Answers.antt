@@ -1,6 +1,6 @@
 -- Refused with a number, or ended.
-use Rattle.std.proofs.Common.{ℕ, false, length, sym, refl, ◌∙◌, arith}
-use Rattle.session.specs.declared.reply.IsoAnswer.TheVariants as answer
+use Rattle.std.proofs.Common.{Ok, false, length, sym, refl, ◌∙◌, arith}
+use Rattle.session.specs.declared.refusal.IsoRefusal.{IsoRefusal}
 use Rattle.session.specs.declared.reply.IsoReply.{IsoReply}
 use Rattle.session.specs.declared.types.IsoOutcome.TheVariants.{Disconnected}
 use Rattle.session.specs.declared.types.IsoChannelState.{IsoChannelState}
@@ -13,7 +13,7 @@ use Rattle.port.proofs.Laws.Steps.{stays, becomes}
 use Rattle.port.proofs.poll.recover_at.Goals as goal
 
 abbrev done_by : IsoChannelState → IsoReply
-done_by s = reply answer.Done false false (ended Disconnected s)
+done_by s = reply (Ok tt) false false (ended Disconnected s)
 
 pub returns-in-Err : goal.returns-in-Err
 returns-in-Err c =
@@ -23,8 +23,8 @@ returns-in-Err c =
     let is = c.in-Err.ensures in
     let both =
     stays xs (λ i. omega (arith, c.slice_known-1.given i)) c.requires.0 (recovered s (length ring))
-    (lent_refused s (length ring) (λ (n : ℕ). refused_reply n s) (done_by s) is) refl c.reply_refused.ensures in
-    (both.0, both.1, sym (lent_refused s (length ring) (λ (n : ℕ). ring) (ended_ring s ring) is))
+    (lent_refused s (length ring) (λ (r : IsoRefusal). refused_reply r s) (done_by s) is) refl c.reply_refused.ensures in
+    (both.0, both.1, sym (lent_refused s (length ring) (λ (r : IsoRefusal). ring) (ended_ring s ring) is))
 
 pub returns-in-Ok : goal.returns-in-Ok
 returns-in-Ok c =
