@@ -4,7 +4,6 @@ pub mod Calls
 pub mod Closing
 pub mod Entries
 pub mod First
-pub mod Fresh
 pub mod Head
 pub mod InUse
 pub mod Kept
@@ -13,7 +12,6 @@ pub mod Loaded
 pub mod Numbers
 pub mod Over
 pub mod Placed
-pub mod Plain
 pub mod Planning
 pub mod Polling
 pub mod Reclaiming
@@ -22,7 +20,6 @@ pub mod Runs
 pub mod Saved
 pub mod Scans
 pub mod Settling
-pub mod Several
 pub mod Setup
 pub mod Sounds
 pub mod Steps

@@ -1,6 +1,6 @@
 -- A call by bytes: the session is loaded, the call acts on it as crate session's definition says, and the session is saved again. One definition,
 -- `by_bytes`, serves every answer, every lent word and the bytes of every call.
-use Rattle.std.specs.Prelude.{ℕ, ◌/◌, ◌%◌, Bool, cond, ◌||◌, List, length, replicate, ◌==◌, nat_lt}
+use Rattle.std.specs.Prelude.{ℕ, Bool, cond, ◌||◌, List, length, replicate, ◌==◌, nat_lt}
 use Rattle.std.proofs.lemmas.List.Edits.{sets}
 use Rattle.session.specs.Numbers.{open_number, submit_number, submit_value, answer_number, reclaim_number, reclaim_length, reclaim_packets}
 use Rattle.session.specs.Record.{is_bad_record}
@@ -48,10 +48,6 @@ reply_refused n = port_reply n 0 0
 
 abbrev pub reply_port : IsoReply → PortReply
 reply_port r = port_reply (answer_number r.answer) (flag_tag r.taken) (flag_tag r.halt)
-
--- an answer that is handed over as one number: the refusal, above it whether the event was taken, above that whether the channel is to halt
-abbrev pub reply_of : ℕ → PortReply
-reply_of n = port_reply (n % 4294967296) (n / 4294967296 % 2) (n / 8589934592)
 
 abbrev pub reply_by : List ℕ → (IsoChannelState → IsoReply) → PortReply
 reply_by xs call = by_bytes xs reply_refused (λ (s : IsoChannelState). reply_port (call s))

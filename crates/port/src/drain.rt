@@ -187,35 +187,3 @@ pub(crate) fn drain_at(bytes: &mut [u8], bit: bool, ring: &mut [u32])
         done += 1;
     }
 }
-
-// The oldest request is to be settled, by the bit or because it is served. What is completed has `before` packets.
-fn is_settling(bytes: &[u8], before: usize, bit: bool, ring: &[u32]) -> bool
-    requires { (layout_number bytes.now ≡ 0)
-        × (is_bad_record (session_of bytes.now) ≡ false)
-        × (before ≡ oldest_from (session_of bytes.now)) }
-    ensures { result ≡ false
-        → drained bit (session_of bytes.now) ring.now
-        ≡ record { session = session_of bytes.now; ring = ring.now } }
-{
-    let done = u16_at(bytes, 30);
-    if done >= u16_at(bytes, 32) {
-        return false;
-    }
-    let to = before + packets_at(bytes, done as usize);
-    bit | is_served_at(bytes, to, ring)
-}
-
-// Most events find nothing to settle: that is told before anything is written.
-pub(crate) fn drain_from(bytes: &mut [u8], before: usize, bit: bool, ring: &mut [u32])
-    requires { (layout_number bytes.old ≡ 0)
-        × (is_bad_record (session_of bytes.old) ≡ false)
-        × (before ≡ oldest_from (session_of bytes.old))
-        × (ring_words (session_of bytes.old).cfg ≤ length ring.old) }
-    ensures { (Left bytes.old bytes.new
-        (drained bit (session_of bytes.old) ring.old).session)
-        × (ring.new ≡ (drained bit (session_of bytes.old) ring.old).ring) }
-{
-    if is_settling(bytes, before, bit, ring) {
-        drain_at(bytes, bit, ring);
-    }
-}

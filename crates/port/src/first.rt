@@ -3,7 +3,8 @@
 ghost use Rattle.std.specs.Prelude.{◌≡◌, ℕ, ◌+◌, ◌-◌, ◌*◌, ◌<◌, ◌≤◌, true, false, not, ◌||◌, map, length, get_or, ◌≢◌, slice_index, slice_index_or};
 ghost use Rattle.std.proofs.Math.Seq.{slice};
 ghost use Rattle.std.proofs.lemmas.List.Edits.{sets};
-ghost use Rattle.words.specs.Words.{is_set, active, complete, is_packet_error, moved_length};
+ghost use Rattle.words.specs.Words.{is_set, active, complete, halted, hcint_fault, is_packet_error, moved_length};
+ghost use Rattle.words.specs.declared.types.HcintFault.TheVariants.{Nothing};
 ghost use Rattle.session.specs.declared.reply.PollWay.TheVariants.{Settle};
 ghost use Rattle.session.specs.Session.{blank_request, blank_plan, all_packets, ring_words};
 ghost use Rattle.session.specs.Record.{is_bad_record};
@@ -19,11 +20,17 @@ use crate::answers::{PortReclaimed, reclaim_port};
 use crate::drain::{clear_slots_at, error_tag, is_served_at, packets_at, slot_at};
 use crate::load::head_at;
 use crate::numbers::{byte_at, put_u16, u16_at};
-use crate::poll::is_calm;
 use crate::reclaim::{close_plans_at, close_requests_at};
 use crate::tags::direction_of;
 use session::{IsoEvent, IsoOutcome, ReclaimAnswer};
 use words::{Direction, hcint_xfercompl, moved_length};
+
+// No fault, and not halted, by two tests in the place of seven: the bits 1 to 3 and 7 to 10 together.
+fn is_calm(hcint: u32) -> bool
+    ensures { result ≡ true → (hcint_fault hcint ≡ Nothing) × (is_set halted hcint ≡ false) }
+{
+    (hcint / 2 % 8 == 0) & (hcint / 128 % 16 == 0)
+}
 
 // A calm event that is taken, and no reason to end.
 fn is_settling_way(bytes: &[u8], event: IsoEvent) -> bool

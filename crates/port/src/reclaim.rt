@@ -4,10 +4,10 @@ ghost use Rattle.std.proofs.Math.Seq.{slice};
 ghost use Rattle.std.proofs.lemmas.List.Edits.{sets};
 ghost use Rattle.session.specs.Session.{blank_request, ring_words, all_packets};
 ghost use Rattle.session.specs.Record.{is_bad_record};
-ghost use Rattle.session.specs.Reclaim.{result_word, looked_at, looked_ring_at, plans_begin, plans_end, closed_up, one_less, removed, handed_answer, handed_results, reclaim_reply, looked_again_at, looked_results_at, reclaimed, reclaimed_ring, reclaimed_results};
+ghost use Rattle.session.specs.Reclaim.{result_word, looked_at, looked_ring_at, plans_begin, plans_end, closed_up, one_less, removed, handed_answer, handed_results, reclaim_reply, looked_again_at, looked_results_at, is_short, reclaimed, reclaimed_ring, reclaimed_results};
 ghost use Rattle.port.specs.Layout.{plan_of, is_bad_plan_bytes, layout_number, session_of, requests_in, plans_in};
 ghost use Rattle.port.specs.Calls.{reclaimed_port};
-ghost use Rattle.port.specs.Scan.{Told};
+ghost use Rattle.port.specs.Scan.{record_sums};
 ghost use Rattle.port.specs.Places.{requests_of, plans_of, with_requests, with_plans, Left, Acted};
 
 use crate::answers::{PortReclaimed, reclaim_port, reclaim_refused};
@@ -19,7 +19,7 @@ use crate::load::{config_at, head_at};
 use crate::numbers::{byte_at, move_down, u16_at};
 use crate::poll::{PollSaid, poll_at};
 use crate::save::put_head;
-use crate::verdict::Verdict;
+use crate::scan::RequestSums;
 use session::{IsoEvent, IsoHead, ReclaimAnswer, handed_answer, is_done, ring_words};
 
 // The entries from `from` to `to` move down to `into`, as plain bytes: an entry in use is written as it was read. So for requests and for plans.
@@ -167,17 +167,46 @@ fn look_at(bytes: &mut [u8], at: u16, event: IsoEvent, ring: &mut [u32]) -> Poll
     poll_at(bytes, event, ring)
 }
 
-// Hands out the completed request with the number: its outcome and, unless that is an error, a result for each packet. The poll between the two
-// looks leaves every request at its place, so that it is looked for once.
-pub(crate) fn reclaim_at(
+// The request with the number, on a good record and with lent arrays that are long enough. The poll between the two looks leaves every request at its
+// place, so that it is looked for once.
+fn reclaim_good(
     bytes: &mut [u8],
-    verdict: Verdict,
+    all: usize,
     id: u64,
     event: IsoEvent,
     ring: &mut [u32],
     results: &mut [u64],
 ) -> PortReclaimed
-    requires { (layout_number bytes.old ≡ 0) × Told bytes.old verdict }
+    requires { (layout_number bytes.old ≡ 0)
+        × (is_bad_record (session_of bytes.old) ≡ false)
+        × (all ≡ all_packets (session_of bytes.old))
+        × (is_short (session_of bytes.old) (length ring.old) (length results.old) ≡ false) }
+    ensures { (result ≡ reclaimed_port (reclaimed (session_of bytes.old) id event ring.old (length results.old)))
+        × (Left bytes.old bytes.new
+        (reclaimed (session_of bytes.old) id event ring.old (length results.old)).session)
+        × (ring.new ≡ reclaimed_ring (session_of bytes.old) id event ring.old (length results.old))
+        × (results.new ≡ reclaimed_results (session_of bytes.old) id event ring.old results.old) }
+{
+    let head = head_at(bytes);
+    let at = place_at(bytes, head.count, id);
+    if is_first_only(bytes, at, all, event, ring) {
+        return reclaim_first(bytes, all, ring, results);
+    }
+    let look = look_at(bytes, at, event, ring);
+    let answer = look_again_at(bytes, at, all, results);
+    reclaim_port(answer, look.taken, look.halt)
+}
+
+// Hands out the completed request with the number: its outcome and, unless that is an error, a result for each packet.
+pub(crate) fn reclaim_at(
+    bytes: &mut [u8],
+    sums: Option<RequestSums>,
+    id: u64,
+    event: IsoEvent,
+    ring: &mut [u32],
+    results: &mut [u64],
+) -> PortReclaimed
+    requires { (layout_number bytes.old ≡ 0) × (sums ≡ record_sums (session_of bytes.old)) }
     ensures { (result ≡ reclaimed_port (reclaimed (session_of bytes.old) id event ring.old (length results.old)))
         × (Left bytes.old bytes.new
         (reclaimed (session_of bytes.old) id event ring.old (length results.old)).session)
@@ -188,16 +217,8 @@ pub(crate) fn reclaim_at(
     if (ring.len() < words) | (results.len() < 255) {
         return reclaim_refused(17);
     }
-    if verdict.bad {
-        return reclaim_refused(18);
+    match sums {
+        None => reclaim_refused(18),
+        Some(sums) => reclaim_good(bytes, sums.all as usize, id, event, ring, results),
     }
-    let head = head_at(bytes);
-    let at = place_at(bytes, head.count, id);
-    let all = verdict.all as usize;
-    if is_first_only(bytes, at, all, event, ring) {
-        return reclaim_first(bytes, all, ring, results);
-    }
-    let look = look_at(bytes, at, event, ring);
-    let answer = look_again_at(bytes, at, all, results);
-    reclaim_port(answer, look.taken, look.halt)
 }

@@ -94,13 +94,13 @@ pub fn dwc2_iso_submit(
         × (session.new ≡ submit_bytes session.old transfer lengths.now ring.old)
         × (ring.new ≡ submit_ring session.old transfer lengths.now ring.old) }
 {
-    let verdict = verdict_at(session);
-    if verdict.refusal != 0 {
-        return submit_refused(verdict.refusal);
+    match verdict_at(session) {
+        Err(refusal) => submit_refused(refusal),
+        Ok(sums) => {
+            if transfer.kind > 3 {
+                return submit_refused(18);
+            }
+            submit_at(session, sums, transfer_of(transfer), lengths, ring)
+        }
     }
-    if transfer.kind > 3 {
-        return submit_refused(18);
-    }
-    let t = transfer_of(transfer);
-    submit_at(session, verdict, t, lengths, ring)
 }

@@ -8,15 +8,15 @@ ghost use Rattle.session.specs.Parts.{Fitting};
 ghost use Rattle.port.specs.Layout.{plan_bytes, table_bytes, layout_number, session_of};
 ghost use Rattle.port.specs.Calls.{submitted_port, grown_bytes};
 ghost use Rattle.port.specs.Submit.{Grown};
-ghost use Rattle.port.specs.Scan.{Told};
+ghost use Rattle.port.specs.Scan.{record_sums};
 
 use crate::answers::{PortSubmitted, submit_port};
 use crate::entries::{put_plan, put_request, tagged_at};
 use crate::load::{config_at, head_at};
 use crate::marks::scan_of;
 use crate::save::put_head;
+use crate::scan::RequestSums;
 use crate::tags::fatal_of;
-use crate::verdict::Verdict;
 use ring::next_slot;
 use session::{
     IsoHead, IsoPacketPlan, IsoTransfer, SubmitParts, TransferStatus, new_request, submit_parts,
@@ -76,12 +76,12 @@ fn put_added(bytes: &mut [u8], head: IsoHead, parts: SubmitParts, lengths: &[u32
 
 pub(crate) fn submit_at(
     bytes: &mut [u8],
-    verdict: Verdict,
+    sums: Option<RequestSums>,
     transfer: IsoTransfer,
     lengths: &[u32],
     ring: &mut [u32],
 ) -> PortSubmitted
-    requires { (layout_number bytes.old ≡ 0) × Told bytes.old verdict }
+    requires { (layout_number bytes.old ≡ 0) × (sums ≡ record_sums (session_of bytes.old)) }
     ensures { (result ≡ submitted_port (submitted (session_of bytes.old) transfer lengths.now ring.old))
         × (bytes.new
         ≡ grown_bytes bytes.old (submitted (session_of bytes.old) transfer lengths.now ring.old).session)
@@ -90,7 +90,7 @@ pub(crate) fn submit_at(
     let cfg = config_at(bytes);
     let head = head_at(bytes);
     let fatal = fatal_of(tagged_at(bytes, 34));
-    let scan = scan_of(bytes, verdict, cfg, head, transfer, lengths, ring);
+    let scan = scan_of(bytes, sums, cfg, head, transfer, lengths, ring);
     let parts = submit_parts(cfg, head, fatal, scan, transfer, lengths, ring);
     put_added(bytes, head, parts, lengths);
     let next = parts.head;

@@ -1,9 +1,10 @@
 -- The first request settled and handed out in one: when a poll settles it and no other, and what is left without it.
-use Rattle.std.proofs.Common.{◌≡◌, ℕ, suc, ◌+◌, ◌-◌, ◌*◌, ◌<◌, ◌≤◌, Bool, true, false, not, ◌||◌, ltb, List, [], ◌∷◌, map, length, get_or, set, sym, refl, ap, ◌∙◌, ap₂, arith, get_or-set_other, get_or-set_same, ltb-false, ltb-true}
+use Rattle.std.proofs.Common.{◌≡◌, ℕ, suc, drop, ◌+◌, ◌-◌, ◌*◌, ◌<◌, ◌≤◌, Bool, true, false, not, ◌||◌, ltb, List, [], ◌∷◌, map, length, get_or, set, sym, refl, ap, ◌∙◌, ap₂, arith, get_or-set_other, get_or-set_same, ltb-false, ltb-true}
 use lib.ListN.{length-map}
 use lib.Seq.{slice, sets}
 use Rattle.words.specs.Words.{is_set, active}
 use Rattle.words.specs.declared.types.Direction.{Direction}
+use Rattle.session.specs.declared.types.IsoFatal.TheVariants.{Nothing}
 use Rattle.session.specs.declared.types.IsoHead.{IsoHead}
 use Rattle.session.specs.declared.types.IsoRequest.{IsoRequest}
 use Rattle.session.specs.declared.types.IsoPacketPlan.{IsoPacketPlan}
@@ -16,7 +17,8 @@ use Rattle.session.proofs.Laws.Lists.{slice_sets, get_or-slice, get_or-sets_afte
 use Rattle.session.proofs.Laws.Record.{Sound}
 use Rattle.session.proofs.Laws.Settled.{oldest_in, all_settled, settled_count, settled_sound, drained_next, drained_stop}
 use Rattle.session.proofs.Laws.Handed.{removed_by, handed_by}
-use Rattle.port.specs.Bytes.{u16_bytes}
+use Rattle.port.specs.Bytes.{byte_of, u32_of, u16_bytes}
+use Rattle.port.specs.Tags.{tagged, tagged_of, fatal_of}
 use Rattle.port.specs.Layout.{layout_number, session_of}
 use Rattle.port.specs.Places.{requests_of, with_requests, with_plans, Left}
 use Rattle.port.proofs.Laws.Calls.{long_enough}
@@ -207,3 +209,9 @@ first_taken xs ring {n} {all} {count} z g none more en ea half ec {b} {c} eb er 
     ∙ ap (λ (k : ℕ). with_requests (with_plans s plans) (closed_up 0 1 k s.requests)) ec) in
     left_is (kept_count long both (s.head.count - 1) (ed ∙ ap (λ (k : ℕ). sets c 32 (u16_bytes (k - 1))) ec))
     (first_removed s ring g none more en ea half)
+
+-- ---- no reason to end
+
+pub no_reason : (ys : List ℕ) → byte_of ys ≡ 0 → fatal_of (tagged_of ys) ≡ Nothing
+unfolding tagged_of
+no_reason ys e = ap (λ (n : ℕ). fatal_of (tagged n (byte_of (drop 1 ys)) (u32_of (drop 2 ys)))) e

@@ -1,6 +1,10 @@
 -- Reclaiming in place: the answer, the bytes and the lent words at each exit, where the code looked, and looked again at what that left.
-use Rattle.std.proofs.Common.{◌≡◌, ℕ, ◌+◌, Bool, true, false, cond, ltb, List, length, get_or, sym, refl, ap, ◌∙◌, subst, ap₂}
+use Rattle.std.proofs.Common.{◌≡◌, ℕ, ◌+◌, ◌≤◌, Bool, true, false, cond, ◌||◌, ltb, ltb-false, List, length, get_or, sym, refl, ap, ◌∙◌, subst, ap₂}
 use mathlib.Core.Path.{subst⁻¹}
+use Rattle.words.proofs.Laws.Tests.{neither}
+use lib.Seq.{slice}
+use Rattle.session.specs.declared.types.IsoConfig.{IsoConfig}
+use Rattle.session.specs.declared.types.IsoHead.{IsoHead}
 use Rattle.session.specs.declared.types.IsoChannelState.{IsoChannelState}
 use Rattle.session.specs.declared.reply.IsoEvent.{IsoEvent}
 use Rattle.session.specs.declared.reply.IsoReply.{IsoReply}
@@ -8,9 +12,9 @@ use Rattle.session.specs.declared.reply.IsoAnswer.TheVariants.{Done}
 use Rattle.session.specs.declared.reply.ReclaimAnswer.{ReclaimAnswer}
 use Rattle.session.specs.declared.reply.ReclaimAnswer.TheVariants.{NotYet, Refused}
 use Rattle.session.specs.declared.reply.Reclaimed.{Reclaimed}
-use Rattle.session.specs.Session.{blank_request, all_packets}
+use Rattle.session.specs.Session.{blank_request, ring_words, all_packets}
 use Rattle.session.specs.Record.{is_bad_record}
-use Rattle.session.specs.Cancel.{request_at}
+use Rattle.session.specs.Cancel.{place_of, request_at}
 use Rattle.session.specs.Settle.{settled_session, settled_ring}
 use Rattle.session.specs.Poll.{reply, poll_way, polled_by, polled_ring_by}
 use Rattle.session.specs.Reclaim.{looked_at, looked_ring_at, looked, looked_ring, request_of, removed, handed_answer, handed_results, reclaim_reply, looked_again_at, looked_results_at, looked_again, looked_results, is_short, reclaimed, reclaimed_ring, reclaimed_results}
@@ -19,13 +23,35 @@ use Rattle.session.proofs.Laws.Reclaims.{reclaim_done, looked_sound}
 use Rattle.port.specs.declared.answers.PortReclaimed.{PortReclaimed}
 use Rattle.port.specs.declared.poll.PollSaid.{PollSaid}
 use Rattle.port.specs.Tags.{flag_tag}
-use Rattle.port.specs.Layout.{layout_number, session_of, left_bytes}
+use Rattle.port.specs.Layout.{config_of, head_of, layout_number, session_of, left_bytes}
 use Rattle.port.specs.Calls.{bytes_by, words_by, reclaim_port, reclaim_refused, reclaimed_port, reclaim_by}
 use Rattle.port.specs.Places.{Acted, Left}
 use Rattle.port.specs.First.{FirstOnly}
 use Rattle.port.proofs.Laws.Calls.{long_enough, refused, done}
 use Rattle.port.proofs.Laws.InUse.{InUse, kept_layout, looked_in_use, same_place}
 use Rattle.port.proofs.Laws.Left.{left_is, left_over}
+use Rattle.port.proofs.Laws.Placed.{config_there, head_there}
+
+-- ---- what the code reads
+
+module _ (xs : List ℕ) where
+  -- where the request with the number stands
+  pub place_there :
+      (id : ℕ) {h : IsoHead} {at : ℕ} → h ≡ head_of xs → at ≡ place_of id (slice 0 h.count (session_of xs).requests) → at ≡ request_at id (session_of xs)
+  place_there id eh e = e ∙ ap (λ (h : IsoHead). place_of id (slice 0 h.count (session_of xs).requests)) (eh ∙ head_there xs)
+
+  module _ (ring results : List ℕ) where
+    -- the test of the lent arrays
+    pub short_there :
+        {cfg : IsoConfig} {words : ℕ} → cfg ≡ config_of xs → words ≡ ring_words cfg
+        → is_short (session_of xs) (length ring) (length results) ≡ (ltb (length ring) words || ltb (length results) 255)
+    short_there ec ew = ap (λ (n : ℕ). ltb (length ring) n || ltb (length results) 255) (sym (ew ∙ ap ring_words (ec ∙ config_there xs)))
+
+    pub long_results : is_short (session_of xs) (length ring) (length results) ≡ false → 255 ≤ length results
+    long_results e =
+        ltb-false (length results) 255 (neither (ltb (length ring) (ring_words (session_of xs).cfg)) (ltb (length results) 255) e).1
+
+-- ---- what is left
 
 module _ (xs ring results : List ℕ) (id : ℕ) (e : IsoEvent) where
   abbrev s : IsoChannelState

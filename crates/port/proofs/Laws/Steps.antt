@@ -27,7 +27,7 @@ use Rattle.port.specs.Bytes.{u16_bytes}
 use Rattle.port.specs.Tags.{flag_tag, tagged_bytes, fatal_tagged}
 use Rattle.port.specs.Layout.{head_bytes, request_bytes, request_of, layout_number, session_of, requests_in}
 use Rattle.port.specs.Calls.{port_reply, reply_port}
-use Rattle.port.specs.Parts.{ended_head, lent_number}
+use Rattle.port.specs.Parts.{ended_head}
 use Rattle.port.specs.Places.{requests_of, with_requests, Left}
 use Rattle.port.proofs.Canonical.{loaded_left, request_clear}
 use Rattle.port.proofs.Laws.Calls.{long_enough}
@@ -119,28 +119,6 @@ end_put xs o enough {a = a} {b} eh ea ee eb et ec =
     (ap (λ (k : IsoHead). with_requests s (sets s.requests k.done (map (with_outcome o) (slice k.done k.count s.requests)))) eh) in
     let second = kept_head enough first (ended_head s.head) (eb ∙ ap (λ (k : IsoHead). sets a 15 (head_bytes k)) (ee ∙ ap ended_head eh)) in
     kept_reason enough second Nothing (ec ∙ ap (λ (k : Tagged). sets b 34 (tagged_bytes k)) et)
-
--- ---- a call that is lent the ring: refused with a number, or past both tests
-
-module _ (s : IsoChannelState) (words : ℕ) {n : ℕ} (is : n ≡ lent_number s words) where
-  pub lent_refused :
-      {A : Type 0} (answer : ℕ → A) (r : A) → (n ≡ 0 → ⊥)
-      → cond (ltb words (ring_words s.cfg)) (answer 17) (cond (is_bad_record s) (answer 18) r) ≡ answer n
-  lent_refused {A} answer r z = go (ltb words (ring_words s.cfg)) (is_bad_record s) is
-    where
-      go : (a b : Bool) → n ≡ cond a 17 (cond b 18 0) → cond a (answer 17) (cond b (answer 18) r) ≡ answer n
-      go true b e = ap answer (sym e)
-      go false true e = ap answer (sym e)
-      go false false e = absurd (z e)
-
-  pub lent_passed : n ≡ 0 → (ltb words (ring_words s.cfg) ≡ false) × (is_bad_record s ≡ false)
-  lent_passed z = go (ltb words (ring_words s.cfg)) (is_bad_record s) refl refl (sym is ∙ z)
-    where
-      go : (a b : Bool) → ltb words (ring_words s.cfg) ≡ a → is_bad_record s ≡ b → ◌≡◌ {A = ℕ} (cond a 17 (cond b 18 0)) 0
-          → (ltb words (ring_words s.cfg) ≡ false) × (is_bad_record s ≡ false)
-      go true b p q e = absurd (omega arith)
-      go false true p q e = absurd (omega arith)
-      go false false p q e = (p, q)
 
 -- ---- a poll by its way
 

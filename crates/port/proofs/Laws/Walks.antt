@@ -74,6 +74,12 @@ packets_more xs n i sum all {packets = packets} h few place e so_far =
     e ∙ ap (λ (k : ℕ). u16_of (drop k xs)) place ∙ packets_there xs i (omega arith) in
     omega (arith, packets_next i n (requests_of xs) h (omega (arith, requests_many xs)), here, so_far)
 
+pub packets_step :
+    (xs : List ℕ) (n i sum all : ℕ) {packets : ℕ} → i < n → n ≤ 64 → packets ≡ (get_or (requests_of xs) i blank_request).packets
+    → sum + packets_of (slice i n (requests_of xs)) ≡ all
+    → sum + packets + packets_of (slice (i + 1) n (requests_of xs)) ≡ all
+packets_step xs n i sum all h few here so_far = omega (arith, packets_next i n (requests_of xs) h (omega (arith, requests_many xs)), here, so_far)
+
 -- ---- one turn of a walk: `now` holds the session `s` but for one table, and an entry of that table that is in use is written
 
 module _ (xs : List ℕ) (z : layout_number xs ≡ 0) (s : IsoChannelState) {now next : List ℕ} where

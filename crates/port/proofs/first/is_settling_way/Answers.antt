@@ -5,7 +5,7 @@ use Rattle.session.specs.declared.types.IsoHead.{IsoHead}
 use Rattle.port.specs.Layout.{session_of}
 use Rattle.port.proofs.Laws.Kept.{both}
 use Rattle.port.proofs.Laws.Placed.{head_there, reason_there}
-use Rattle.port.proofs.Laws.Plain.{no_reason}
+use Rattle.port.proofs.Laws.First.{no_reason}
 use Rattle.port.proofs.Laws.Polling.{calm_way, taken_is}
 use Rattle.port.proofs.first.is_settling_way.Goals as goal
 

@@ -12,11 +12,11 @@ use Rattle.port.proofs.poll.poll_at.Goals as goal
 pub returns-in-Nothing : goal.returns-in-Nothing
 returns-in-Nothing c =
     let octets : Octets c.args.bytes.now = (λ i. omega (arith, c.slice_known-1.given i)) in
-    let way_is : c.way_of-way.result
+    let way_is : c.way_of.result
     ≡ poll_way (session_of c.args.bytes.now)
     c.args.event = let start = c in
     let xs = start.args.bytes.now in
-    c.way_of-way.ensures
+    c.way_of.ensures
     ∙ ap₂ (λ (h : IsoHead) (f : IsoFatal). way_of h f start.args.event)
     (c.head_at-head.ensures ∙ head_there xs) (c.reason_at-fatal.ensures ∙ reason_there xs) in
     let start = c in
@@ -29,11 +29,11 @@ returns-in-Nothing c =
 
 pub returns-in-End : goal.returns-in-End
 returns-in-End c =
-    let way_is : c.way_of-way.result
+    let way_is : c.way_of.result
     ≡ poll_way (session_of c.args.bytes.now)
     c.args.event = let start = c in
     let xs = start.args.bytes.now in
-    c.way_of-way.ensures
+    c.way_of.ensures
     ∙ ap₂ (λ (h : IsoHead) (f : IsoFatal). way_of h f start.args.event)
     (c.head_at-head.ensures ∙ head_there xs) (c.reason_at-fatal.ensures ∙ reason_there xs) in
     let start = c in
@@ -49,11 +49,11 @@ returns-in-End c =
 
 pub returns-in-Halt : goal.returns-in-Halt
 returns-in-Halt c =
-    let way_is : c.way_of-way.result
+    let way_is : c.way_of.result
     ≡ poll_way (session_of c.args.bytes.now)
     c.args.event = let start = c in
     let xs = start.args.bytes.now in
-    c.way_of-way.ensures
+    c.way_of.ensures
     ∙ ap₂ (λ (h : IsoHead) (f : IsoFatal). way_of h f start.args.event)
     (c.head_at-head.ensures ∙ head_there xs) (c.reason_at-fatal.ensures ∙ reason_there xs) in
     let start = c in
@@ -68,11 +68,11 @@ returns-in-Halt c =
 pub returns-in-Wait : goal.returns-in-Wait
 returns-in-Wait c =
     let octets : Octets c.args.bytes.now = (λ i. omega (arith, c.slice_known-1.given i)) in
-    let way_is : c.way_of-way.result
+    let way_is : c.way_of.result
     ≡ poll_way (session_of c.args.bytes.now)
     c.args.event = let start = c in
     let xs = start.args.bytes.now in
-    c.way_of-way.ensures
+    c.way_of.ensures
     ∙ ap₂ (λ (h : IsoHead) (f : IsoFatal). way_of h f start.args.event)
     (c.head_at-head.ensures ∙ head_there xs) (c.reason_at-fatal.ensures ∙ reason_there xs) in
     let start = c in
@@ -85,11 +85,11 @@ returns-in-Wait c =
 
 pub returns-in-Settle : goal.returns-in-Settle
 returns-in-Settle c =
-    let way_is : c.way_of-way.result
+    let way_is : c.way_of.result
     ≡ poll_way (session_of c.args.bytes.now)
     c.args.event = let start = c in
     let xs = start.args.bytes.now in
-    c.way_of-way.ensures
+    c.way_of.ensures
     ∙ ap₂ (λ (h : IsoHead) (f : IsoFatal). way_of h f start.args.event)
     (c.head_at-head.ensures ∙ head_there xs) (c.reason_at-fatal.ensures ∙ reason_there xs) in
     let start = c in
