@@ -127,15 +127,6 @@ module _ (R insert step i n : ℕ) (lengths : List ℕ) (table : List IsoPacketP
 
 -- ---- lengths
 
--- the first long packet is one of them, or their number
-pub first_long-within : (limit : ℕ) (lengths : List ℕ) → first_long limit lengths ≤ length lengths
-first_long-within limit [] = omega arith
-first_long-within limit (l ∷ ls) = within (ltb limit l) (first_long-within limit ls)
-  where
-    within : (b : Bool) → first_long limit ls ≤ length ls → cond b 0 (suc (first_long limit ls)) ≤ suc (length ls)
-    within true h = omega arith
-    within false h = omega arith
-
 -- where no packet is long, the first is not, and none after it is
 first_short : (limit l n m : ℕ) (b : Bool) → ltb limit l ≡ b → suc n ≤ cond b 0 (suc m) → (l ≤ limit) × (n ≤ m)
 first_short limit l n m true e h = absurd (omega arith)
