@@ -22,7 +22,7 @@ use Rattle.session.proofs.Laws.Lists.{slice_next, slice_after_set, slice_sets, g
 use Rattle.session.proofs.Laws.Sums.{packets_next, packets_split}
 use Rattle.session.proofs.Laws.Record.{Sound, GoodRequest, GoodPlan}
 
--- the slots still to clear, after one plan's is, and where none is left
+-- the slots still to clear, after one plan's is
 pub cleared_next :
     (i t : ℕ) (l : List IsoPacketPlan) (ring now : List ℕ) → i < t → t ≤ length l
     → now ≡ set (set ring (2 * (get_or l i blank_plan).desc_index) 0) (2 * (get_or l i blank_plan).desc_index + 1) 0
