@@ -10,6 +10,7 @@ use Rattle.session.proofs.open
 use Rattle.session.proofs.place
 use Rattle.session.proofs.poll
 use Rattle.session.proofs.reclaim
+use Rattle.session.proofs.refusal
 use Rattle.session.proofs.record
 use Rattle.session.proofs.submit
 use Rattle.session.proofs.way
@@ -78,3 +79,11 @@ clear_first_unique κs a x y u v = equal_lent (λ (words : List ℕ). (words, (t
 
 pub new_request_unique : Unique 0 submit.new_request.Kinds.ps submit.new_request.Kinds.r submit.new_request.Reads.Post
 new_request_unique κs a x y u v = equal refl
+
+-- ---- the numbers and the outcomes
+
+pub refusal_number_unique : Unique 0 refusal.U16FromIsoRefusal.from.Kinds.ps refusal.U16FromIsoRefusal.from.Kinds.r refusal.U16FromIsoRefusal.from.Reads.Post
+refusal_number_unique κs a x y u v = equal refl
+
+pub outcome_of_unique : Unique 0 poll.IsoOutcomeFromIsoHaltReason.from.Kinds.ps poll.IsoOutcomeFromIsoHaltReason.from.Kinds.r poll.IsoOutcomeFromIsoHaltReason.from.Reads.Post
+outcome_of_unique κs a x y u v = equal refl

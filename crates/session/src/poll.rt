@@ -10,12 +10,15 @@ use crate::reply::{IsoEvent, IsoReply, PollWay, done, refused};
 use crate::types::{IsoChannelState, IsoHaltReason, IsoHead, IsoOutcome};
 use words::{Dwc2TransferFault, hcint_chhltd, hcint_fault, hcint_xfercompl};
 
-fn outcome_of(reason: IsoHaltReason) -> IsoOutcome
-    ensures { result ≡ outcome_of reason }
-{
-    match reason {
-        IsoHaltReason::Cancelled => IsoOutcome::Cancelled,
-        IsoHaltReason::Fault(kind, word) => IsoOutcome::Fault(kind, word),
+// A session that had a reason to end ends with it.
+impl From<IsoHaltReason> for IsoOutcome {
+    ghost from_gives = { λ reason outcome. outcome ≡ outcome_of reason };
+
+    fn from(reason: IsoHaltReason) -> IsoOutcome {
+        match reason {
+            IsoHaltReason::Cancelled => IsoOutcome::Cancelled,
+            IsoHaltReason::Fault(kind, word) => IsoOutcome::Fault(kind, word),
+        }
     }
 }
 
@@ -24,20 +27,11 @@ fn way_by_reason(fatal: Option<IsoHaltReason>, hcint: u32) -> PollWay
     ensures { result ≡ way_by_reason fatal hcint }
 {
     let halted = hcint_chhltd(hcint);
-    let complete = hcint_xfercompl(hcint);
     match fatal {
-        None => {
-            if halted {
-                return PollWay::End(IsoOutcome::UnexpectedHalt(hcint));
-            }
-            PollWay::Settle(complete)
-        }
-        Some(reason) => {
-            if halted {
-                return PollWay::End(outcome_of(reason));
-            }
-            PollWay::Wait
-        }
+        None if halted => PollWay::End(IsoOutcome::UnexpectedHalt(hcint)),
+        None => PollWay::Settle(hcint_xfercompl(hcint)),
+        Some(reason) if halted => PollWay::End(IsoOutcome::from(reason)),
+        Some(_) => PollWay::Wait,
     }
 }
 
@@ -49,15 +43,10 @@ fn way_by_fault(
 ) -> PollWay
     ensures { result ≡ way_by_fault fault fatal hcint }
 {
-    let halted = hcint_chhltd(hcint);
     match fault {
         None => way_by_reason(fatal, hcint),
-        Some(kind) => {
-            if halted {
-                return PollWay::End(IsoOutcome::Fault(kind, hcint));
-            }
-            PollWay::Halt(IsoHaltReason::Fault(kind, hcint))
-        }
+        Some(kind) if hcint_chhltd(hcint) => PollWay::End(IsoOutcome::Fault(kind, hcint)),
+        Some(kind) => PollWay::Halt(IsoHaltReason::Fault(kind, hcint)),
     }
 }
 
@@ -65,16 +54,15 @@ fn way_by_fault(
 pub fn way_of(head: IsoHead, fatal: Option<IsoHaltReason>, event: Option<IsoEvent>) -> PollWay
     ensures { result ≡ way_of head fatal event }
 {
-    let Some(event) = event else {
-        return PollWay::Nothing;
-    };
-    if !head.live {
-        return PollWay::Nothing;
+    match event {
+        Some(event) if head.live => {
+            if event.unplugged {
+                return PollWay::End(IsoOutcome::Disconnected);
+            }
+            way_by_fault(hcint_fault(event.hcint), fatal, event.hcint)
+        }
+        _ => PollWay::Nothing,
     }
-    if event.unplugged {
-        return PollWay::End(IsoOutcome::Disconnected);
-    }
-    way_by_fault(hcint_fault(event.hcint), fatal, event.hcint)
 }
 
 impl IsoChannelState {
@@ -90,19 +78,10 @@ impl IsoChannelState {
     {
         match way {
             PollWay::Nothing => done(false, false, self),
-            PollWay::End(outcome) => {
-                let session = self.end(outcome, ring);
-                done(true, false, session)
-            }
-            PollWay::Halt(reason) => {
-                let session = self.with_reason(reason);
-                done(true, true, session)
-            }
+            PollWay::End(outcome) => done(true, false, self.end(outcome, ring)),
+            PollWay::Halt(reason) => done(true, true, self.with_reason(reason)),
             PollWay::Wait => done(true, false, self),
-            PollWay::Settle(bit) => {
-                let session = self.drain_serviced(bit, ring);
-                done(true, false, session)
-            }
+            PollWay::Settle(bit) => done(true, false, self.drain_serviced(bit, ring)),
         }
     }
 
@@ -110,14 +89,12 @@ impl IsoChannelState {
     pub fn poll_channel(self, event: Option<IsoEvent>, ring: &mut [u32]) -> IsoReply
         ensures { (result ≡ polled self event ring.old) × (ring.new ≡ polled_ring self event ring.old) }
     {
-        let words = ring_words(self.cfg);
-        if ring.len() < words {
+        if ring.len() < ring_words(self.cfg) {
             return refused(IsoRefusal::ShortBuffer, self);
         }
         if self.is_bad_record() {
             return refused(IsoRefusal::BadRecord, self);
         }
-        let way = self.poll_way(event);
-        self.poll_by(way, ring)
+        self.poll_by(self.poll_way(event), ring)
     }
 }

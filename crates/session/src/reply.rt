@@ -5,8 +5,8 @@ ghost use Rattle.session.specs.Poll.{reply, refused_reply};
 use crate::refusal::IsoRefusal;
 use crate::types::{IsoChannelState, IsoHaltReason, IsoOutcome};
 
-// What the interrupt handler left for the channel: whether the port is gone, and the interrupt word. A call is given None where it
-// left nothing.
+// What the interrupt handler left for the channel: whether the port is gone, a yes/no beside the word as document 01 has it, and the
+// interrupt word. A call is given None where it left nothing.
 #[derive(Clone, Copy, Debug, PartialEq, Eq)]
 pub struct IsoEvent {
     pub unplugged: bool,

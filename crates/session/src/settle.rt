@@ -41,7 +41,7 @@ fn settle_packets(packets: &mut [IsoPacketPlan], direction: Direction, ring: &[u
     }
 }
 
-// The table with the plans from `from` to `to` settled: it lends that part of itself.
+// The table with the plans from `from` to `to` settled: it goes in by value and lends that part of itself, as document 01 has it.
 fn settle_plans(
     mut plans: [IsoPacketPlan; 1024],
     from: usize,
@@ -103,7 +103,8 @@ impl IsoChannelState {
         !is_active_at(ring, self.plans[last].desc_index)
     }
 
-    // Settles the oldest request at once where the bit is set, then each oldest one that is served.
+    // Settles the oldest request at once where the bit is set, then each oldest one that is served. The loop counts no index: a turn
+    // makes the session that the next one asks, so a `for` over the pending ones is no plainer.
     pub(crate) fn drain_serviced(mut self, bit: bool, ring: &mut [u32]) -> Self
         requires { is_bad_record self ≡ false }
         ensures { (result ≡ (drained bit self ring.old).session) × (ring.new ≡ (drained bit self ring.old).ring) }

@@ -13,26 +13,23 @@ use words::Dwc2EpType;
 fn start_words(cfg: IsoConfig, head: IsoHead, transfer: IsoTransfer) -> IsoChannelStart
     ensures { result ≡ start_words (only cfg head) transfer }
 {
-    let speed = cfg.speed;
-    let direction = cfg.direction;
-    let mps = cfg.max_packet_size.max(1);
     let start = start_of(cfg, head, transfer);
-    let pid = iso_pid(speed, direction, cfg.mult);
-    let schinfo = iso_schinfo(speed, cfg.interval);
+    let pid = iso_pid(cfg.speed, cfg.direction, cfg.mult);
+    let schinfo = iso_schinfo(cfg.speed, cfg.interval);
     IsoChannelStart {
         hcchar: words::hcchar(
             cfg.device,
             cfg.endpoint,
-            direction,
+            cfg.direction,
             Dwc2EpType::Isochronous,
-            mps,
+            cfg.max_packet_size.max(1),
             false,
             cfg.mult,
             false,
         ),
         hctsiz: words::hctsiz_ddma(pid, slots_of(cfg) as u32, schinfo),
-        hcintmsk: words::iso_hcintmsk(direction),
-        frames: iso_service_frames(start, cfg.interval, speed),
+        hcintmsk: words::iso_hcintmsk(cfg.direction),
+        frames: iso_service_frames(start, cfg.interval, cfg.speed),
     }
 }
 
@@ -45,8 +42,5 @@ pub(crate) fn start_if(
 ) -> Option<IsoChannelStart>
     ensures { result ≡ cond first (Some (start_words (only cfg head) transfer)) None }
 {
-    if first {
-        return Some(start_words(cfg, head, transfer));
-    }
-    None
+    first.then(|| start_words(cfg, head, transfer))
 }

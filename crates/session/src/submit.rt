@@ -161,6 +161,8 @@ fn asked(
 }
 
 // A submission but for the tables of the session, which its caller holds: the ring is stored to, and the parts say what else is left.
+// The three parts of a session that it reads come one by one: port has a session in bytes and reads these alone, and a struct of them
+// would be taken apart again in each function below.
 pub fn submit_parts(
     cfg: IsoConfig,
     head: IsoHead,

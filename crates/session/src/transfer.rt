@@ -4,7 +4,9 @@ use crate::types::{IsoChannelState, IsoHead};
 use ring::IsoServiceFrames;
 
 // A request as the caller brings it, beside the lengths of its packets: what kind it is, its buffer, the frame readings, whether a
-// channel is to be had, whether the port is connected before programming and before enabling, and how many words may be stored.
+// channel is to be had, whether the port is connected before programming and before enabling, and how many words may be stored. The
+// buffer's address and length stand beside `has_buffer` and in no Option, as the C call passes them: whoever reads one past the test
+// of `has_buffer` would take the Option apart once more.
 #[derive(Clone, Copy)]
 pub struct IsoTransfer {
     pub isochronous: bool,
@@ -68,7 +70,8 @@ pub struct Submitted {
 }
 
 // A submission as small things: what it answers, the numbers that it leaves, and the packets that it adds. Packet i of them has its
-// plan at `to` + i and the slot `insert` + i × `step` in a ring of `slots`.
+// plan at `to` + i and the slot `insert` + i × `step` in a ring of `slots`; the three are no struct, since ring's functions take them
+// one by one.
 #[derive(Clone, Copy)]
 pub struct SubmitParts {
     pub answer: Result<IsoSubmission, IsoRefusal>,

@@ -1,6 +1,6 @@
 -- The answers of recovery, reset and cancelling: what each is where the tests before it were passed and its own held; and how the walk for a
 -- request's number goes on.
-use mathlib.Core.Path.{◌≡◌, ◌∙◌, sym, ap, subst}
+use mathlib.Core.Path.{◌≡◌, ◌∙◌, ap}
 use mathlib.Core.Bool.{Bool, true, false, cond}
 use mathlib.Core.List.{List}
 use Prim.Native.Nat.{ℕ, suc, ◌+◌, ◌≤◌, ◌<◌}
@@ -8,7 +8,6 @@ use Rattle.std.specs.Prelude.{Ok}
 use lib.Dec.{eqb, ltb}
 use lib.ListN.{length, get_or}
 use lib.Seq.{slice}
-use borrow.Author.Tests.{lt-ltb, le-ltb}
 use Rattle.session.specs.declared.types.IsoChannelState.{IsoChannelState}
 use Rattle.session.specs.declared.types.IsoHaltReason.TheVariants as reason
 use Rattle.session.specs.declared.types.IsoRequest.{IsoRequest}
@@ -18,7 +17,7 @@ use Rattle.session.specs.Session.{blank_request, ring_words, has_reason}
 use Rattle.session.specs.Record.{is_bad_record}
 use Rattle.session.specs.Poll.{reply, refused_reply, with_reason, is_empty, at_start, reset_reply}
 use Rattle.session.specs.Cancel.{place_of, request_at, with_cancelled, cancelled}
-use Rattle.session.proofs.Laws.Lists.{slice_next, slice_past}
+use Rattle.session.proofs.Laws.Lists.{slice_next}
 use Rattle.session.proofs.Laws.Tests.{first, second, in_turn}
 
 -- a call that is lent the ring: 17, then 18, then what it does
@@ -39,28 +38,6 @@ module _ (s : IsoChannelState) (ring : List ℕ) (r : IsoReply) (words : List �
   pub lent_done :
       short ≡ false → is_bad_record s ≡ false → (cond short (refused_reply refusal.ShortBuffer s) inner ≡ r) × (cond short ring inner_words ≡ words)
   lent_done e b = (in_turn (refused_reply refusal.ShortBuffer s) (refused_reply refusal.BadRecord s) r e b, in_turn ring ring words e b)
-
-  -- each exit, by what the code knows there: how many words it asks for, and whether the record is bad
-  pub lent_short : {n : ℕ} {answered : IsoReply} → n ≡ ring_words s.cfg → length ring < n → answered ≡ refused_reply refusal.ShortBuffer s → Told answered ring
-  lent_short asked h p =
-      let e : short ≡ true = lt-ltb (length ring) (ring_words s.cfg) (subst (λ (k : ℕ). length ring < k) asked h) in
-      (p ∙ sym (first short (refused_reply refusal.ShortBuffer s) inner e), sym (first short ring inner_words e))
-
-  long : {n : ℕ} → n ≡ ring_words s.cfg → n ≤ length ring → short ≡ false
-  long asked h = le-ltb (length ring) (ring_words s.cfg) (subst (λ (k : ℕ). k ≤ length ring) asked h)
-
-  pub lent_bad :
-      {n : ℕ} {bad : Bool} {answered : IsoReply} → n ≡ ring_words s.cfg → n ≤ length ring → bad ≡ is_bad_record s → bad ≡ true
-      → answered ≡ refused_reply refusal.BadRecord s → Told answered ring
-  lent_bad asked h is b p = (
-    p ∙ sym (in_turn (refused_reply refusal.ShortBuffer s) (refused_reply refusal.BadRecord s) r (long asked h) (sym is ∙ b)),
-    sym (in_turn ring ring words (long asked h) (sym is ∙ b)),
-  )
-
-  pub lent_left :
-      {n : ℕ} {bad : Bool} {answered : IsoReply} {left : List ℕ} → n ≡ ring_words s.cfg → n ≤ length ring → bad ≡ is_bad_record s → bad ≡ false
-      → answered ≡ r → left ≡ words → Told answered left
-  lent_left asked h is b p q = let d = lent_done (long asked h) (sym is ∙ b) in (p ∙ sym d.0, q ∙ sym d.1)
 
 -- reset
 module _ (s : IsoChannelState) where
@@ -135,6 +112,3 @@ module _ (id i t : ℕ) (l : List IsoRequest) where
       → place_of id (slice i t l) ≡ suc (place_of id (slice (i + 1) t l))
   place_next h k e =
       ap (place_of id) (slice_next i t l blank_request h k) ∙ ap (λ (b : Bool). cond b 0 (suc (place_of id (slice (i + 1) t l)))) e
-
-  pub place_past : t ≤ i → place_of id (slice i t l) ≡ 0
-  place_past h = ap (place_of id) (slice_past i t l h)

@@ -5,7 +5,6 @@ use mathlib.Core.List.{List}
 use mathlib.Core.Logic.{◌⊎◌, ⊎_elim}
 use Prim.Native.Nat.{ℕ, ◌+◌, ◌*◌, ◌≤◌, ◌<◌}
 use Rattle.std.specs.Prelude.{Option, Some, None, Result}
-use native.Mathlib.Decide.{dec_le}
 use native.Mathlib.Omega.{arith}
 use lib.Dec.{T, ltb}
 use lib.ListN.{length, set, take}
@@ -60,14 +59,6 @@ module _ (s : IsoChannelState) (t : IsoTransfer) (slot : ℕ) where
   none_counted Cut n e h = refl
   none_counted Late n e h = refl
   none_counted Accept n e h = let some : 0 < n = h refl in absurd (omega arith)
-
--- what an accepted submission is sure of, packets that are added are
-pub few_added : (way : SubmitWay) (count n limit : ℕ) → n ≡ added way count → (way ≡ Accept → count ≤ limit) → n ≤ limit
-few_added way count n limit e h = go (dec_le 1 n)
-  where
-    go : Dec (1 ≤ n) → n ≤ limit
-    go (yes some) = let q = some_added way count n e (omega arith) in omega (arith, q.1, h q.0)
-    go (no none) = omega arith
 
 -- an accepted submission passed every refusal
 pub gate : (way : SubmitWay) → way ≡ Accept → T (is_gate way)
