@@ -98,7 +98,12 @@ fn said(taken: bool, halt: bool) -> PollSaid
     PollSaid { taken, halt }
 }
 
-pub(crate) fn poll_on(bytes: &mut [u8], bad: bool, event: Option<IsoEvent>, ring: &mut [u32]) -> PortReply
+pub(crate) fn poll_on(
+    bytes: &mut [u8],
+    bad: bool,
+    event: Option<IsoEvent>,
+    ring: &mut [u32],
+) -> PortReply
     requires { (layout_number bytes.old ≡ 0) × (bad ≡ is_bad_record (session_of bytes.old)) }
     ensures { (result ≡ reply_port (polled (session_of bytes.old) event ring.old))
         × (Left bytes.old bytes.new (polled (session_of bytes.old) event ring.old).session)

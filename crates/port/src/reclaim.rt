@@ -1,10 +1,10 @@
 // Reclaiming on the session's bytes: document 01, "Reclaim". A completed request is handed out once; the tables close up behind it where they stand.
-ghost use Rattle.std.specs.Prelude.{◌≡◌, ℕ, ◌+◌, ◌*◌, ◌<◌, ◌≤◌, Bool, false, map, length, drop, if◌then◌else◌, slice_index_or};
+ghost use Rattle.std.specs.Prelude.{◌≡◌, ℕ, ◌+◌, ◌*◌, ◌<◌, ◌≤◌, Bool, false, map, length, drop, cond, slice_index_or};
 ghost use Rattle.std.proofs.Math.Seq.{slice};
 ghost use Rattle.std.proofs.lemmas.List.Edits.{sets};
 ghost use Rattle.session.specs.Session.{blank_request, ring_words, all_packets};
 ghost use Rattle.session.specs.Record.{is_bad_record};
-ghost use Rattle.session.specs.Reclaim.{result_word, looked_at, looked_ring_at, plans_begin, plans_end, closed_up, one_less, removed, handed_answer, handed_results, reclaim_reply, looked_again_at, looked_results_at, is_short, reclaimed, reclaimed_ring, reclaimed_results};
+ghost use Rattle.session.specs.Reclaim.{is_done, result_word, looked_at, looked_ring_at, plans_begin, plans_end, closed_up, one_less, removed, handed_answer, handed_results, reclaim_reply, looked_again_at, looked_results_at, is_short, reclaimed, reclaimed_ring, reclaimed_results};
 ghost use Rattle.port.specs.Layout.{plan_of, is_bad_plan_bytes, layout_number, session_of, requests_in, plans_in};
 ghost use Rattle.port.specs.Calls.{reclaimed_port};
 ghost use Rattle.port.specs.Scan.{record_sums};
@@ -85,23 +85,20 @@ fn result_at(bytes: &[u8], at: usize) -> u64
 }
 
 // The results of the plans from `from` to `to`, unless their request ended in an error; those behind them stay.
-fn hand_results_at(bytes: &[u8], done: bool, from: usize, to: usize, results: &mut [u64])
+fn hand_results_at(bytes: &[u8], outcome: IsoOutcome, from: usize, to: usize, results: &mut [u64])
     requires { (8488 ≤ length bytes.now)
         × (from ≤ to)
         × (to ≤ 1024)
         × (to ≤ from + length results.old)
         × ((k : ℕ) → k < to → is_bad_plan_bytes (drop (1320 + 7 * k) bytes.now) ≡ false) }
     ensures { results.new
-        ≡ (if done then sets results.old 0 (map result_word (slice from to (plans_of bytes.now))) else results.old) }
+        ≡ cond (is_done outcome) (sets results.old 0 (map result_word (slice from to (plans_of bytes.now)))) results.old }
 {
-    if !done {
+    if outcome != IsoOutcome::Done {
         return;
     }
-    let n = to - from;
-    let mut at: usize = 0;
-    while at < n {
+    for at in 0..to - from {
         results[at] = result_at(bytes, 1_320 + 7 * (from + at));
-        at += 1;
     }
 }
 
@@ -120,7 +117,7 @@ fn hand_out_at(bytes: &mut [u8], at: u16, all: usize, results: &mut [u64]) -> Is
     let request = request_at(bytes, 40 + 20 * place);
     let from = packets_before(bytes, at);
     let to = from + packets_at(bytes, place);
-    hand_results_at(bytes, request.outcome == IsoOutcome::Done, from, to, results);
+    hand_results_at(bytes, request.outcome, from, to, results);
     remove_at(bytes, at, from, to, all);
     handed_answer(request)
 }

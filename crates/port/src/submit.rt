@@ -18,8 +18,7 @@ use crate::save::put_head;
 use crate::scan::RequestSums;
 use ring::next_slot;
 use session::{
-    IsoHead, IsoPacketPlan, IsoTransfer, SubmitParts, TransferStatus, new_request,
-    submit_parts,
+    IsoHead, IsoPacketPlan, IsoTransfer, SubmitParts, TransferStatus, new_request, submit_parts,
 };
 
 // The plans of the packets that are added, behind one another.

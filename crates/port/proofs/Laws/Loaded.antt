@@ -1,5 +1,6 @@
 -- The whole of a session's bytes: whether they are refused, and the session.
-use Rattle.std.proofs.Common.{◌≡◌, ℕ, ◌<◌, ◌≤◌, Bool, true, false, cond, ◌||◌, min, Option, Some, None, Result, Ok, Err, ⊤, List, length, drop, sym, refl, ap, ◌∙◌, arith, le-ltb, lt-ltb}
+use Rattle.std.specs.Prelude.{⊤}
+use Rattle.std.proofs.Common.{◌≡◌, ℕ, ◌<◌, ◌≤◌, Bool, true, false, cond, ◌||◌, ltb, min, Option, Some, None, Result, Ok, Err, List, length, drop, sym, refl, ap, ◌∙◌, arith, le-ltb, lt-ltb}
 use Rattle.words.proofs.Laws.Tests.{neither}
 use Rattle.session.specs.declared.refusal.IsoRefusal.{IsoRefusal}
 use Rattle.session.specs.declared.refusal.IsoRefusal.TheVariants.{ShortBuffer, BadRecord}
@@ -14,7 +15,7 @@ use Rattle.session.specs.Scan.{whole}
 use Rattle.port.specs.declared.tags.Tagged.{Tagged}
 use Rattle.port.specs.Tags.{tagged_of, fatal_of}
 use Rattle.port.specs.Layout.{config_of, head_of, request_of, plan_of, table_of, any_of}
-use Rattle.port.specs.Layout.{is_bad_mark, is_bad_head, is_bad_request_bytes, is_bad_plan_bytes, is_bad_layout, layout_refusal, session_of, requests_in, plans_in}
+use Rattle.port.specs.Layout.{is_bad_mark, is_bad_head, is_bad_request_bytes, is_bad_plan_bytes, is_bad_layout, layout_number, layout_refusal, session_of, requests_in, plans_in}
 
 pub session_at :
     (xs : List ℕ) {cfg : IsoConfig} {head : IsoHead} {fatal : Option IsoHaltReason} {t : Tagged} {requests : List IsoRequest} {plans : List IsoPacketPlan}
@@ -36,6 +37,15 @@ short_layout xs h = sym (ap (λ (b : Bool). cond b (Err ShortBuffer) (bad_by (is
 
 refusal_by : {short bad b : Bool} → short ≡ false → bad ≡ b → bad_by b ≡ cond short (Err ShortBuffer) (bad_by bad)
 refusal_by {bad = bad} p q = sym (ap (λ (x : Bool). cond x (Err ShortBuffer) (bad_by bad)) p ∙ ap bad_by q)
+
+-- bytes that are not refused have the number 0
+pub not_refused : (xs : List ℕ) → Ok tt ≡ layout_refusal xs → layout_number xs ≡ 0
+not_refused xs e = go (ltb (length xs) 8488) (is_bad_layout xs) e
+  where
+    go : (short bad : Bool) → ◌≡◌ {A = Result ⊤ IsoRefusal} (Ok tt) (cond short (Err ShortBuffer) (bad_by bad)) → ◌≡◌ {A = ℕ} (cond short 17 (cond bad 18 0)) 0
+    go true bad m = grind arith
+    go false true m = grind arith
+    go false false m = refl
 
 is_none : (r : Bool) (n : ℕ) → None ≡ cond r None (Some n) → r ≡ true
 is_none true n e = refl

@@ -1,7 +1,10 @@
 -- One part of a session's bytes, read where it stands: what that is of the session which the bytes hold.
-use Rattle.std.proofs.Common.{◌≡◌, ℕ, zero, suc, ◌+◌, ◌*◌, ◌<◌, List, length, get_or, drop, sym, refl, ap, ◌∙◌, arith, drop-drop}
+use Rattle.std.specs.Option.{is_some}
+use Rattle.std.proofs.Common.{Option, Some, None, Bool, ◌≡◌, ℕ, zero, suc, ◌+◌, ◌*◌, ◌<◌, List, length, get_or, drop, sym, refl, ap, ◌∙◌, arith, drop-drop}
+use Rattle.session.specs.declared.types.IsoHaltReason.{IsoHaltReason}
 use Rattle.session.specs.declared.types.IsoRequest.{IsoRequest}
 use Rattle.session.specs.declared.types.IsoPacketPlan.{IsoPacketPlan}
+use Rattle.session.specs.Session.{has_reason}
 use Rattle.port.specs.Tags.{tagged_of, fatal_of}
 use Rattle.port.specs.Layout.{config_of, head_of, request_of, plan_of, table_of, session_of}
 use Rattle.port.proofs.Laws.Tables.{length_table}

@@ -1,5 +1,6 @@
 -- Submitting and opening by bytes, at each way out.
-use Rattle.std.proofs.Common.{Result, Ok, Err, ⊤, ◌≡◌, ℕ, ◌<◌, ◌≤◌, Bool, true, false, cond, eqb, ltb, List, length, sym, refl, ap, ◌∙◌, ap₂, le-ltb, lt-ltb, eq-eqb}
+use Rattle.std.specs.Prelude.{⊤}
+use Rattle.std.proofs.Common.{Result, Ok, Err, ◌≡◌, ℕ, ◌<◌, ◌≤◌, Bool, true, false, cond, eqb, ltb, List, length, sym, refl, ap, ◌∙◌, ap₂, le-ltb, lt-ltb, eq-eqb}
 use lib.Seq.{sets}
 use Rattle.session.specs.Numbers.{open_number}
 use Rattle.session.specs.Open.{open_answer, opened, ring_after, opened_ring}

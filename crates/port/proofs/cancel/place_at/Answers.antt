@@ -1,6 +1,8 @@
 -- A request that has the number ends the walk, and any other is passed.
 use Rattle.std.proofs.Common.{ℕ, ◌≤◌, eqb, length, sym, ap, ◌∙◌, arith, eq-eqb, ne_eqb}
-use Rattle.session.proofs.Laws.Replies.{place_here, place_next, place_past}
+use Rattle.session.specs.Cancel.{place_of}
+use Rattle.session.proofs.Laws.Lists.{slice_past}
+use Rattle.session.proofs.Laws.Replies.{place_here, place_next}
 use Rattle.port.specs.Layout.{session_of}
 use Rattle.port.proofs.Laws.Placed.{requests_many}
 use Rattle.port.proofs.Laws.Walks.{id_there}
@@ -25,4 +27,6 @@ loop-i-preserved c =
     omega (arith, c.loop-i.invariant, place_next a.id i a.count requests (omega arith) within other)
 
 pub returns : goal.returns
-returns c = omega (arith, c.loop-i.invariant, place_past c.args.id c.loop-i.i c.args.count (session_of c.args.bytes.now).requests (omega arith))
+returns c =
+    let l = (session_of c.args.bytes.now).requests in
+    omega (arith, c.loop-i.invariant, ap (place_of c.args.id) (slice_past c.loop-i.i c.args.count l (omega arith)))

@@ -17,8 +17,8 @@ loop-j-init c =
     let a = c.args in
     let l = (session_of a.bytes.now).plans in
     let from = a.all - a.pending in
-    let first : from + (c.rest-j.result - from) ≡ from + (0 - from) = omega (arith, c.rest-j.ensures) in (
-      omega (arith, c.rest-j.ensures),
+    let first : from + (c.saturating_sub-j.result - from) ≡ from + (0 - from) = omega (arith, c.saturating_sub-j.ensures) in (
+      omega (arith, c.saturating_sub-j.ensures),
       refl,
       λ k h. ap (λ (n : ℕ). get_or (replicate 256 false) k false || is_held (slice n a.all l) k) first ∙ marks_first from a.all l k h,
     )

@@ -19,7 +19,7 @@ use Rattle.port.proofs.marks.scan_of.Goals as goal
 pub clash_at-requires : goal.clash_at-requires
 clash_at-requires c =
     let xs = c.args.bytes.now in
-    let told = record_some (session_of xs) (sym c.in-Some.is ∙ c.requires.1) in
+    let told = record_some (session_of xs) (sym c.in_ok-all.was ∙ c.requires.1) in
     (long_enough xs refl c.requires.0, told.0, told.1, told.2)
 
 pub returns : goal.returns
@@ -28,22 +28,20 @@ returns c =
     let xs = a.bytes.now in
     let s = session_of xs in
     let L = a.lengths.now in
-    let told = record_some s (sym c.in-Some.is ∙ c.requires.1) in
-    let newest : c.rest.result < 1024 = omega (arith, c.rest.ensures, told.1, (good_sums s told.0).0) in
+    let told = record_some s (sym c.in_ok-all.was ∙ c.requires.1) in
+    let newest : c.saturating_sub.result < 1024 = omega (arith, c.saturating_sub.ensures, told.1, (good_sums s told.0).0) in
     let plan = c.plan_at-last in
     let insert = c.insert_of-insert in
-    let last = plan.ensures ∙ plan_there xs c.rest.result blank_plan newest in
+    let last = plan.ensures ∙ plan_there xs c.saturating_sub.result blank_plan newest in
     let tail : plan.result.desc_index ≡ tail_slot s =
     ap (λ (p : IsoPacketPlan). p.desc_index) last
-    ∙ ap (λ (k : ℕ). (get_or s.plans k blank_plan).desc_index) (c.rest.ensures ∙ ap (λ (n : ℕ). n - 1) told.1) in
-    record {
-      bad = sym told.0;
-      found = λ g.
-          found_at s a.transfer L a.ring.now _ told.1 told.2 tail
+    ∙ ap (λ (k : ℕ). (get_or s.plans k blank_plan).desc_index) (c.saturating_sub.ensures ∙ ap (λ (n : ℕ). n - 1) told.1) in (
+      told.0,
+      found_at s a.transfer L a.ring.now _ told.1 told.2 tail
           (insert.ensures
           ∙ ap₂ (λ (cfg : IsoConfig) (h : IsoHead). insert_at cfg h a.transfer plan.result.desc_index a.ring.now) c.requires.2 c.requires.3)
           (λ few.
           c.clash_at.ensures few
           ∙ ap (λ (cfg : IsoConfig).
-          is_guarded cfg.mode && any_held (pending_plans s) (slots_from (slots cfg) insert.result (step_of cfg) 0 (length L))) c.requires.2);
-    }
+          is_guarded cfg.mode && any_held (pending_plans s) (slots_from (slots cfg) insert.result (step_of cfg) 0 (length L))) c.requires.2),
+    )

@@ -98,6 +98,6 @@ returns c =
           + c.packets_at.result) a.results.now
           c.packets_before-from.ensures
           to_is read
-          c.is_done.ensures
+          refl
           c.hand_results_at.ensures,
     )
