@@ -4,11 +4,12 @@ use mathlib.Core.Path.{◌≡◌, refl, ◌∙◌, ap, subst⁻¹}
 use mathlib.Core.Bool.{true}
 use mathlib.Core.List.{List, [], ◌∷◌, map}
 use Prim.Native.Nat.{◌≤◌}
+use Rattle.std.specs.Prelude.{Ok}
 use native.Mathlib.Omega.{arith}
 use lib.ListN.{length, get_or, take, drop}
 use Rattle.ring.specs.Gcd.{gcd}
 use Rattle.words.specs.Words.{is_set, active}
-use Rattle.session.specs.declared.transfer.SubmitAnswer.TheVariants.{Accepted}
+use Rattle.session.specs.declared.transfer.IsoSubmission.TheVariants.{Accepted}
 use Rattle.session.specs.Submit.{submitted, submitted_ring}
 use Rattle.session.specs.Poll.{recovered, recovered_ring}
 use Rattle.laws.specs.Drawing.{slot_of, Distinct}
@@ -49,7 +50,7 @@ example =
     }
 
 -- the third request is accepted as request 3 where it may store all of its words
-third_accepted : (submitted three.session (up_to 4 third) (192 ∷ 192 ∷ []) three.ring).answer ≡ Accepted 3
+third_accepted : (submitted three.session (up_to 4 third) (192 ∷ 192 ∷ []) three.ring).answer ≡ Ok (Accepted 3)
 unfolding gcd
 third_accepted = refl
 

@@ -5,10 +5,10 @@ use mathlib.Core.List.{List, [], ◌∷◌, ◌++◌, map, map-append}
 use Prim.Native.Nat.{ℕ, zero, suc, ◌+◌, ◌-◌, ◌*◌, ◌≤◌, ◌<◌}
 use native.Mathlib.Omega.{arith}
 use lib.ListN.{length, get_or, set, drop, length-map, length-drop}
-use lib.Seq.{slice, sets, set-get_or, set-set, set_comm, drop_at, drop-drop, length-slice, map-set_same}
+use lib.Seq.{slice, sets, set-get_or, set-set, set_comm, drop_at, drop-drop, length-slice}
 use Rattle.session.specs.declared.types.IsoPacketPlan.{IsoPacketPlan}
 use Rattle.session.specs.declared.types.IsoChannelState.{IsoChannelState}
-use Rattle.session.specs.Session.{blank_request, ring_words, packets_of, all_packets, pending_packets}
+use Rattle.session.specs.Session.{ring_words, packets_of, all_packets, pending_packets}
 use Rattle.session.specs.Way.{pending_plans}
 use Rattle.session.specs.Settle.{Drained, oldest, oldest_from, oldest_to, oldest_plans, settled_plans, settled_request, settled_session, slots_cleared, settled_ring, is_served, drain}
 use Rattle.session.proofs.Laws.Sums.{packets_next, packets_split}
@@ -21,7 +21,8 @@ use Rattle.laws.specs.Invariant.{Fits, Invariant}
 use Rattle.laws.proofs.Lists.{distinct_head, distinct_tail, distinct_drop, slice_after_sets}
 use Rattle.laws.proofs.Drawn.{one, Within, within_tail, drawn_set}
 use Rattle.laws.proofs.Fitting.{blank, blank_zero, put_length, put_below, pending_within}
-use Rattle.laws.proofs.Keeping.{Keeps, id_of, numbered_same, keeps_none}
+use Rattle.laws.proofs.Calls.Settled.{settled_numbers}
+use Rattle.laws.proofs.Keeping.{Keeps, numbered_same, keeps_none}
 
 -- ---- slots cleared
 
@@ -133,7 +134,7 @@ settled_keeps st v h =
       fits = settled_fits v.fits h;
       numbered =
           numbered_same st.session (settled_session st.session st.ring) st.numbers v.numbered refl
-          (map-set_same id_of st.session.requests st.session.head.done (settled_request st.session st.ring) blank_request refl);
+          (settled_numbers st.session st.ring);
     }
 
 -- ---- one after the other
