@@ -68,21 +68,18 @@ stopped_third =
 abbrev meanwhile : List Touch
 meanwhile = record { slot = 8; word = 5 } ∷ []
 
+three_of_four : 3 ≤ 4
+three_of_four = omega arith
+
 pub example_stopped : Stopped (reached example) stopped_third 3 (stopped (reached example) stopped_third 3)
 unfolding stopped_third
-example_stopped = (demand3 example stopped_third 3 few meanwhile).0
-  where
-    few : 3 ≤ 4
-    few = omega arith
+example_stopped = (demand3 example stopped_third 3 three_of_four meanwhile).0
 
 pub example_recovered :
     Recovered (reached example) stopped_third (recovered (reached example).session (length (found (reached example) stopped_third 3 meanwhile)))
     (recovered_ring (reached example).session (found (reached example) stopped_third 3 meanwhile))
 unfolding stopped_third
-example_recovered = (demand3 example stopped_third 3 few meanwhile).1
-  where
-    few : 3 ≤ 4
-    few = omega arith
+example_recovered = (demand3 example stopped_third 3 three_of_four meanwhile).1
 
 -- ---- in figures
 

@@ -1,6 +1,6 @@
 -- Settling the oldest request keeps the invariant: its slots become zero, what was put for it goes.
 use mathlib.Core.Path.{◌≡◌, refl, ◌∙◌, sym, ap, subst, subst⁻¹}
-use mathlib.Core.Bool.{Bool, true, false, ◌||◌, cond}
+use mathlib.Core.Bool.{Bool, false, ◌||◌}
 use mathlib.Core.List.{List, [], ◌∷◌, ◌++◌, map, map-append}
 use Prim.Native.Nat.{ℕ, zero, suc, ◌+◌, ◌-◌, ◌*◌, ◌≤◌, ◌<◌}
 use native.Mathlib.Omega.{arith}
@@ -14,6 +14,7 @@ use Rattle.session.specs.Settle.{Drained, oldest, oldest_from, oldest_to, oldest
 use Rattle.session.proofs.Laws.Sums.{packets_next, packets_split}
 use Rattle.session.proofs.Laws.Lists.{slice_after_set, slice_split, map_drop}
 use Rattle.session.proofs.Laws.Settled.{oldest_in, all_settled, settled_sound, settled_count}
+use Rattle.session.proofs.Laws.Tests.{chosen}
 use Rattle.laws.specs.Drawing.{Laid, drawn, slot_of, Distinct}
 use Rattle.laws.specs.Run.{State, still_put}
 use Rattle.laws.specs.Demand3.{slot_of_plan}
@@ -173,12 +174,6 @@ keeps_after st v u s ring k =
       numbered = k.numbered;
     }
 
-turn : (st : State) → Invariant st → (next : Drained) (b : Bool) → Keeps st next.session next.ring
-    → Keeps st (cond b next (record { session = st.session; ring = st.ring })).session
-    (cond b next (record { session = st.session; ring = st.ring })).ring
-turn st v next true n = n
-turn st v next false n = keeps_none st v
-
 pub drain_keeps :
     (k : ℕ) (bit : Bool) (st : State) → Invariant st → st.session.head.done + k ≤ st.session.head.count
     → Keeps st (drain k bit st.session st.ring).session (drain k bit st.session st.ring).ring
@@ -186,5 +181,8 @@ drain_keeps zero bit st v h = keeps_none st v
 drain_keeps (suc k) bit st v h =
     let one_kept = settled_keeps st v (omega arith) in
     let u : Invariant (settled_state st) = record { guarded = one_kept.guarded; fits = one_kept.fits; numbered = one_kept.numbered } in
-    turn st v (drain k false (settled_state st).session (settled_state st).ring) (bit || is_served st.session st.ring)
-    (keeps_after st v u _ _ (drain_keeps k false (settled_state st) u (omega arith)))
+    chosen (λ (d : Drained). Keeps st d.session d.ring) (bit || is_served st.session st.ring)
+    (drain k false (settled_state st).session (settled_state st).ring)
+    (record { session = st.session; ring = st.ring })
+    (λ e. keeps_after st v u _ _ (drain_keeps k false (settled_state st) u (omega arith)))
+    (λ e. keeps_none st v)
