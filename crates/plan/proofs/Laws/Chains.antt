@@ -39,7 +39,7 @@ sets_part l vs i h =
 -- ---- a chain
 
 -- one descriptor, and the rest of the chain
-chain_more : (m : ℕ) (is_in : Bool) (left rest buf : ℕ) → 1 < left
+pub chain_more : (m : ℕ) (is_in : Bool) (left rest buf : ℕ) → 1 < left
     → chain_words m is_in left rest buf
     ≡ chain_status (initial_len (chunk_of m) m is_in) false ∷ buf ∷ chain_words m is_in (left - 1) (rest - chunk_of m) (buf + chunk_of m)
 chain_more m is_in zero rest buf h = absurd (omega arith)
@@ -84,16 +84,13 @@ store_more m k is_in descs len addr i l l' d h e f g =
     ∙ sym (sets_two l (2 * i) s (addr + i * k) (chain_words m is_in (descs - i - 1) (len - i * k - chunk_of m) (addr + i * k + chunk_of m)))
     ∙ ap (sets l (2 * i)) (sym (chain_more m is_in (descs - i) (len - i * k) (addr + i * k) (omega arith)))
 
-pub store_last : (m k : ℕ) (is_in : Bool) (descs len addr i : ℕ) (l l' : List ℕ) (d : DmaDescriptor) → i + 1 ≡ descs
-    → d ≡ link_of (addr + i * k) (len - i * k) m is_in true
-    → l' ≡ set (set l (2 * i) d.status) (2 * i + 1) d.paddr
-    → l' ≡ sets l (2 * i) (chain_from m k is_in descs len addr i)
-store_last m k is_in descs len addr i l l' d h f g =
-    let one : descs - i ≡ 1 = omega arith in
-    g
-    ∙ ap (λ (d : DmaDescriptor). set (set l (2 * i) d.status) (2 * i + 1) d.paddr) f
-    ∙ sym (sets_two l (2 * i) (chain_status (initial_len (len - i * k) m is_in) true) (addr + i * k) [])
-    ∙ ap (λ (n : ℕ). sets l (2 * i) (chain_words m is_in n (len - i * k) (addr + i * k))) (sym one)
+pub chain_last : (m : ℕ) (is_in : Bool) (left rest buf : ℕ) → left ≡ 1 → chain_words m is_in left rest buf ≡ chain_status (initial_len rest m is_in) true ∷ buf ∷ []
+chain_last m is_in left rest buf e = rw e
+
+pub store_last : (m : ℕ) (is_in : Bool) (left rest buf at : ℕ) (l l' : List ℕ) (d : DmaDescriptor) → left ≡ 1 → d ≡ link_of buf rest m is_in true
+    → l' ≡ set (set l at d.status) (at + 1) d.paddr → l' ≡ sets l at (chain_words m is_in left rest buf)
+store_last m is_in left rest buf at l l' d h f g =
+    rw (g, f, chain_last m is_in left rest buf h) (sym (sets_two l at (chain_status (initial_len rest m is_in) true) buf []))
 
 -- a chunk is whole packets: a descriptor that takes one is not rounded up
 pub full_moved : (m k status : ℕ) → m ≤ 65_536 → k ≡ chunk_of m → k - get byte_count status ≡ link_moved k m status
@@ -140,12 +137,9 @@ count_more m k array base descs len i total r h e f =
     ∙ add_assoc total x (chain_moved m array (descs - i - 1) (base + i + 1) (len - i * k - chunk_of m))
     ∙ ap (λ (y : ℕ). total + y) (sym (moved_more m array (descs - i) (base + i) (len - i * k) (omega arith)))
 
-pub count_last : (m k : ℕ) (array : List ℕ) (base descs len i total r : ℕ) → i + 1 ≡ descs
-    → r ≡ link_moved (len - i * k) m (get_or array (2 * (base + i)) 0)
-    → total + r ≡ total + moved_from m k array base descs len i
-count_last m k array base descs len i total r h f =
-    let one : descs - i ≡ 1 = omega arith in
-    ap (λ (y : ℕ). total + y) (f ∙ ap (λ (n : ℕ). chain_moved m array n (base + i) (len - i * k)) (sym one))
+pub count_last : (m : ℕ) (array : List ℕ) (left at rest total r : ℕ) → left ≡ 1 → r ≡ link_moved rest m (get_or array (2 * at) 0)
+    → total + r ≡ total + chain_moved m array left at rest
+count_last m array left at rest total r h f = rw (f, h)
 
 -- two words a descriptor
 pub length_chain : (m : ℕ) (is_in : Bool) (n len addr : ℕ) → length (chain_words m is_in n len addr) ≡ 2 * n
