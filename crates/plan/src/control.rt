@@ -149,22 +149,18 @@ fn plan_control(request: ControlRequest, array: &mut [u32]) -> Dwc2ControlPlan
 {
     let setup = setup_stage(request);
     build_stage_descs(setup, array);
-    if request.len > 0 {
+    let (data, base) = if request.len > 0 {
         let data = data_stage_of(request);
         build_stage_descs(data, array);
-        let status = status_stage(request, 2);
-        build_stage_descs(status, array);
-        return Dwc2ControlPlan {
-            setup,
-            data: Some(data),
-            status,
-        };
-    }
-    let status = status_stage(request, 1);
+        (Some(data), 2)
+    } else {
+        (None, 1)
+    };
+    let status = status_stage(request, base);
     build_stage_descs(status, array);
     Dwc2ControlPlan {
         setup,
-        data: None,
+        data,
         status,
     }
 }

@@ -19,11 +19,10 @@ pub fn packet_count(len: u64, max_packet_size: u16) -> u64
     ensures { result ≡ packets len max_packet_size }
 {
     let m = max_packet_size.max(1);
-    let last = len.wrapping_sub(1);
-    if last < 4_294_967_296 {
-        return (last as u32 / m as u32) as u64 + 1;
+    match u32::try_from(len.wrapping_sub(1)) {
+        Ok(last) => (last / m as u32) as u64 + 1,
+        Err(_) => whole_parts(len, m as u64),
     }
-    whole_parts(len, m as u64)
 }
 
 // A count of bytes is 17 bits wide, and an IN count is rounded up to whole packets: a chunk of whole packets, with a packet less
