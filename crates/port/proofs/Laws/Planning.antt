@@ -1,27 +1,12 @@
--- Planning by numbers: what is answered where a number names nothing, and where all name something; and that a stage which planning hands out
--- is read as the stage that it was.
-use Rattle.std.proofs.Common.{◌≡◌, ℕ, Bool, true, false, cond, List, [], ◌∷◌, map, length, get_or, sym, refl, ap, ◌∙◌, arith}
-use Rattle.plan.specs.declared.types.ControlRequest.{ControlRequest}
-use Rattle.plan.specs.declared.types.DataRequest.{DataRequest}
-use Rattle.plan.specs.declared.types.Dwc2ControlPlan.{Dwc2ControlPlan}
-use Rattle.plan.specs.declared.types.Dwc2DataPlan.{Dwc2DataPlan}
+-- Planning by numbers: what is answered where a number names nothing, and where all name something, is a choice by one test; and a stage that
+-- planning hands out is read as the stage that it was.
+use Rattle.std.proofs.Common.{◌≡◌, ℕ, Bool, true, false, cond, List, sym, refl, ap, ◌∙◌}
 use Rattle.plan.specs.declared.types.Dwc2StageRole.{Dwc2StageRole}
 use Rattle.plan.specs.declared.types.Dwc2StageRole.TheVariants as role
 use Rattle.plan.specs.declared.types.Dwc2TransferStage.{Dwc2TransferStage}
-use Rattle.plan.specs.ControlPlan.{control_plan, control_array}
-use Rattle.plan.specs.DataStages.{blank_stage, data_plan, data_array}
 use Rattle.plan.specs.Numbers.{role_number}
 use Rattle.plan.specs.StageLength.{stage_length}
-use Rattle.port.specs.declared.planning.PortControlPlan.{PortControlPlan}
-use Rattle.port.specs.declared.planning.PortControlRequest.{PortControlRequest}
-use Rattle.port.specs.declared.planning.PortDataPlan.{PortDataPlan}
-use Rattle.port.specs.declared.planning.PortDataRequest.{PortDataRequest}
-use Rattle.port.specs.declared.stages.PortStage.{PortStage}
 use Rattle.port.specs.Planning.{role_of, is_bad_role, stage_numbers, stage_of, length_number, stage_moved_number}
-use Rattle.port.specs.Planning.{data_request_of, is_bad_data, data_numbers, unnamed_data, data_plan_numbers, data_array_after}
-use Rattle.port.specs.Planning.{control_request_of, control_numbers, unnamed_control, control_plan_numbers, control_array_after}
-use Rattle.port.specs.Sums.{is_bad_direction}
-use Rattle.port.specs.Tags.{flag_tag}
 
 -- the first where the test holds, the second where it does not
 pub first_of : {A : Type 0} (a b : A) {t bad : Bool} {x : A} → t ≡ bad → t ≡ true → x ≡ a → x ≡ cond bad a b
