@@ -1,5 +1,5 @@
 // Scene 5: an empty transfer and its toggle.
-use crate::disk::{PACKET, request};
+use crate::disk::{PACKET, plan_of};
 use crate::print::{say, text};
 use plan::{DataToggle, Dwc2DataPlan};
 use std::io;
@@ -34,7 +34,7 @@ pub(crate) fn scene(rt: &impl Print) -> io::Result<()> {
 // The toggle behind it.
 fn sent(rt: &impl Print, marked: &[u8], len: u64, toggle: DataToggle) -> io::Result<DataToggle> {
     let mut array = [0u32; 2048];
-    let plan = plan::data_stages(request(len, toggle), &mut array);
+    let plan = plan_of(len, toggle, &mut array)?;
     let after = plan.toggle;
     say(
         rt,

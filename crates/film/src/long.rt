@@ -1,5 +1,5 @@
 // Scene 4: document 01's P7, a transfer of two stages.
-use crate::disk::request;
+use crate::disk::plan_of;
 use crate::print::{say, text};
 use plan::{DataToggle, Dwc2TransferStage};
 use std::io;
@@ -18,7 +18,7 @@ pub(crate) fn scene(rt: &impl Print) -> io::Result<()> {
 ",
     )?;
     let mut array = [0u32; 2048];
-    let plan = plan::data_stages(request(33_423_361, DataToggle::data0()), &mut array);
+    let plan = plan_of(33_423_361, DataToggle::data0(), &mut array)?;
     let made = plan.stages;
     stages(rt, made, &array)
 }

@@ -1,21 +1,48 @@
-// The tests that planning calls share: document 01, "Refusal numbers".
+// Why a planning call refuses, and a test that the calls share: document 01, "Refusal numbers".
 ghost use Rattle.std.specs.Prelude.{◌≡◌};
-ghost use Rattle.plan.specs.Refusals.{is_planned, is_bad};
+ghost use Rattle.plan.specs.Numbers.{refusal_number};
+ghost use Rattle.plan.specs.Refusals.{is_bad};
 
-use crate::types::PlanAnswer;
+use std::error::Error;
+use std::fmt;
 
-pub(crate) fn is_planned(answer: PlanAnswer) -> bool
-    ensures { result ≡ is_planned answer }
-{
-    match answer {
-        PlanAnswer::Planned => true,
-        PlanAnswer::ShortBuffer => false,
-        PlanAnswer::BadEndpoint => false,
-        PlanAnswer::ControlTooLong => false,
-        PlanAnswer::TooManyDescriptors => false,
-        PlanAnswer::AddressLimit => false,
+#[derive(Clone, Copy, Debug, PartialEq, Eq)]
+pub enum PlanRefusal {
+    ShortBuffer,
+    BadEndpoint,
+    ControlTooLong,
+    TooManyDescriptors,
+    AddressLimit,
+}
+
+// Document 01's number.
+impl From<PlanRefusal> for u32 {
+    ghost from_gives = { λ refusal n. n ≡ refusal_number refusal };
+
+    fn from(refusal: PlanRefusal) -> u32 {
+        match refusal {
+            PlanRefusal::ShortBuffer => 17,
+            PlanRefusal::BadEndpoint => 18,
+            PlanRefusal::ControlTooLong => 19,
+            PlanRefusal::TooManyDescriptors => 20,
+            PlanRefusal::AddressLimit => 11,
+        }
     }
 }
+
+impl fmt::Display for PlanRefusal {
+    fn fmt<W: fmt::Write>(&self, f: &mut fmt::Formatter<W>) -> fmt::Result {
+        f.write_str(match self {
+            PlanRefusal::ShortBuffer => "the array is too short",
+            PlanRefusal::BadEndpoint => "no such endpoint",
+            PlanRefusal::ControlTooLong => "control data is too long",
+            PlanRefusal::TooManyDescriptors => "too many descriptors",
+            PlanRefusal::AddressLimit => "beyond the address limit",
+        })
+    }
+}
+
+impl Error for PlanRefusal {}
 
 pub(crate) fn is_bad(endpoint: u8, device: u8, packet: u16) -> bool
     ensures { result ≡ is_bad endpoint device packet }

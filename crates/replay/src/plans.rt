@@ -1,82 +1,55 @@
 // The planning calls of the list.
-use crate::answers::{Line, Verdict, byte_at, flag, half_at, judge, nth, word_at};
+use crate::answers::{Line, Verdict, byte_at, half_at, judge, nth, word_at};
 use crate::digest::{of_longs, of_words};
 use crate::ring_calls::{direction_of, speed_of};
 use crate::session_calls::fill;
 use plan::{
     ControlRequest, ControlSetup, DataKind, DataRequest, DataToggle, Dwc2ControlPlan, Dwc2DataPlan,
-    Dwc2StageRole, Dwc2TransferStage, PlanAnswer, Recipient, RequestType, StageLength,
+    Dwc2StageRole, Dwc2TransferStage, PlanRefusal, Recipient, RequestType,
 };
 
 pub(crate) fn call(kind: u8, line: Line, listed: &[u64], array: &mut [u32]) -> Verdict {
-    if kind == 18 {
-        return data(line, listed, array);
-    }
-    if kind == 19 {
-        return control(line, listed, array);
-    }
-    if kind == 20 {
-        return moved(line, listed, array);
-    }
-    part(kind, line, listed)
-}
-
-fn part(kind: u8, line: Line, listed: &[u64]) -> Verdict {
-    if kind == 21 {
-        return setup(line, listed);
-    }
-    let len = nth(listed, 1);
-    let size = half_at(listed, 2);
-    if kind == 22 {
-        let split = plan::split_dma_lengths(len, size);
-        return judge(
-            line,
-            listed,
-            &[split.count, split.chunk as u64, split.last as u64],
-        );
-    }
-    judge(line, listed, &[plan::packet_count(len, size)])
-}
-
-// Document 01's number of an answer.
-fn refusal(answer: PlanAnswer) -> u64 {
-    match answer {
-        PlanAnswer::Planned => 0,
-        PlanAnswer::ShortBuffer => 17,
-        PlanAnswer::BadEndpoint => 18,
-        PlanAnswer::ControlTooLong => 19,
-        PlanAnswer::TooManyDescriptors => 20,
-        PlanAnswer::AddressLimit => 11,
+    match kind {
+        18 => data(line, listed, array),
+        19 => control(line, listed, array),
+        20 => moved(line, listed, array),
+        21 => setup(line, listed),
+        22 => split(line, listed),
+        _ => packets(line, listed),
     }
 }
 
-fn role_number(role: Dwc2StageRole) -> u64 {
-    match role {
-        Dwc2StageRole::Data => 0,
-        Dwc2StageRole::ControlSetup => 1,
-        Dwc2StageRole::ControlData => 2,
-        Dwc2StageRole::ControlStatus => 3,
-    }
+fn split(line: Line, listed: &[u64]) -> Verdict {
+    let made = plan::split_dma_lengths(nth(listed, 1), half_at(listed, 2));
+    judge(
+        line,
+        listed,
+        &[made.count, made.chunk as u64, made.last as u64],
+    )
+}
+
+fn packets(line: Line, listed: &[u64]) -> Verdict {
+    let count = plan::packet_count(nth(listed, 1), half_at(listed, 2));
+    judge(line, listed, &[count])
+}
+
+// Document 01's number.
+fn number_of(refusal: PlanRefusal) -> u64 {
+    u32::from(refusal) as u64
 }
 
 fn role_of(n: u64) -> Dwc2StageRole {
-    if n == 0 {
-        return Dwc2StageRole::Data;
+    match n {
+        0 => Dwc2StageRole::Data,
+        1 => Dwc2StageRole::ControlSetup,
+        2 => Dwc2StageRole::ControlData,
+        _ => Dwc2StageRole::ControlStatus,
     }
-    if n == 1 {
-        return Dwc2StageRole::ControlSetup;
-    }
-    if n == 2 {
-        return Dwc2StageRole::ControlData;
-    }
-    Dwc2StageRole::ControlStatus
 }
 
-// A stage that is not there is all zeros.
 fn of_stage(stage: Dwc2TransferStage) -> u64 {
-    let role = stage.role;
     of_longs(&[
-        role_number(role),
+        u32::from(stage.role) as u64,
         stage.hcchar as u64,
         stage.hctsiz as u64,
         stage.dma_addr as u64,
@@ -86,11 +59,17 @@ fn of_stage(stage: Dwc2TransferStage) -> u64 {
     ])
 }
 
+// A stage that is not there is all zeros.
+fn of_none() -> u64 {
+    of_longs(&[0; 7])
+}
+
 fn kind_of(n: u64) -> DataKind {
     if n == 0 {
-        return DataKind::Bulk;
+        DataKind::Bulk
+    } else {
+        DataKind::Interrupt
     }
-    DataKind::Interrupt
 }
 
 fn data_request(listed: &[u64]) -> DataRequest {
@@ -111,29 +90,42 @@ fn data_request(listed: &[u64]) -> DataRequest {
 // The array was 0xA5 in each byte, and behind the plan it stays so.
 fn data(line: Line, listed: &[u64], array: &mut [u32]) -> Verdict {
     fill(array, 0xa5a5_a5a5);
-    let done = plan::data_stages(data_request(listed), array);
-    planned(line, listed, done, of_words(array))
+    let request = data_request(listed);
+    match plan::data_stages(request, array) {
+        Ok(made) => planned(line, listed, made, of_words(array)),
+        Err(refusal) => {
+            let none = of_none();
+            judge(
+                line,
+                listed,
+                &[
+                    number_of(refusal),
+                    u64::from(request.toggle.0),
+                    0,
+                    none,
+                    none,
+                    none,
+                    none,
+                    of_words(array),
+                ],
+            )
+        }
+    }
 }
 
-fn planned(line: Line, listed: &[u64], done: Dwc2DataPlan, array: u64) -> Verdict {
-    let answer = done.answer;
-    let toggle = done.toggle;
-    let stages = done.stages;
-    let first = stages[0];
-    let second = stages[1];
-    let third = stages[2];
-    let fourth = stages[3];
+fn planned(line: Line, listed: &[u64], made: Dwc2DataPlan, array: u64) -> Verdict {
+    let stages = made.stages.map(of_stage);
     judge(
         line,
         listed,
         &[
-            refusal(answer),
-            flag(toggle.0),
-            done.count as u64,
-            of_stage(first),
-            of_stage(second),
-            of_stage(third),
-            of_stage(fourth),
+            0,
+            u64::from(made.toggle.0),
+            made.count as u64,
+            stages[0],
+            stages[1],
+            stages[2],
+            stages[3],
             array,
         ],
     )
@@ -153,24 +145,29 @@ fn control_request(listed: &[u64]) -> ControlRequest {
 
 fn control(line: Line, listed: &[u64], array: &mut [u32]) -> Verdict {
     fill(array, 0xa5a5_a5a5);
-    let done = plan::build_control_plan(control_request(listed), array);
-    controlled(line, listed, done, of_words(array))
+    match plan::build_control_plan(control_request(listed), array) {
+        Ok(made) => controlled(line, listed, made, of_words(array)),
+        Err(refusal) => {
+            let none = of_none();
+            judge(
+                line,
+                listed,
+                &[number_of(refusal), 0, none, none, none, of_words(array)],
+            )
+        }
+    }
 }
 
-fn controlled(line: Line, listed: &[u64], done: Dwc2ControlPlan, array: u64) -> Verdict {
-    let answer = done.answer;
-    let setup = done.setup;
-    let data = done.data;
-    let status = done.status;
+fn controlled(line: Line, listed: &[u64], made: Dwc2ControlPlan, array: u64) -> Verdict {
     judge(
         line,
         listed,
         &[
-            refusal(answer),
-            flag(done.has_data),
-            of_stage(setup),
-            of_stage(data),
-            of_stage(status),
+            0,
+            u64::from(made.data.is_some()),
+            of_stage(made.setup),
+            made.data.map_or(of_none(), of_stage),
+            of_stage(made.status),
             array,
         ],
     )
@@ -186,37 +183,28 @@ fn moved(line: Line, listed: &[u64], array: &[u32]) -> Verdict {
         descs: word_at(listed, 6),
         len: word_at(listed, 7),
     };
-    let length = plan::stage_actual_length(stage, array);
-    match length {
-        StageLength::Moved(bytes) => judge(line, listed, &[0, bytes as u64]),
-        StageLength::Refused(answer) => judge(line, listed, &[refusal(answer), 0]),
+    match plan::stage_actual_length(stage, array) {
+        Ok(bytes) => judge(line, listed, &[0, bytes as u64]),
+        Err(refusal) => judge(line, listed, &[number_of(refusal), 0]),
     }
 }
 
 fn request_type_of(n: u64) -> RequestType {
-    if n == 0 {
-        return RequestType::Standard;
+    match n {
+        0 => RequestType::Standard,
+        1 => RequestType::Class,
+        2 => RequestType::Vendor,
+        _ => RequestType::Reserved,
     }
-    if n == 1 {
-        return RequestType::Class;
-    }
-    if n == 2 {
-        return RequestType::Vendor;
-    }
-    RequestType::Reserved
 }
 
 fn recipient_of(n: u64) -> Recipient {
-    if n == 0 {
-        return Recipient::Device;
+    match n {
+        0 => Recipient::Device,
+        1 => Recipient::Interface,
+        2 => Recipient::Endpoint,
+        _ => Recipient::Other,
     }
-    if n == 1 {
-        return Recipient::Interface;
-    }
-    if n == 2 {
-        return Recipient::Endpoint;
-    }
-    Recipient::Other
 }
 
 fn setup_of(listed: &[u64]) -> ControlSetup {
@@ -229,25 +217,11 @@ fn setup_of(listed: &[u64]) -> ControlSetup {
     }
 }
 
+// The bytes are listed as one number, the first byte its lowest.
 fn setup(line: Line, listed: &[u64]) -> Verdict {
     let direction = direction_of(nth(listed, 3));
-    let packet = plan::setup_packet_bytes(setup_of(listed), direction, nth(listed, 7));
-    let answer = packet.answer;
-    let bytes = packet.bytes;
-    judge(line, listed, &[refusal(answer), number_of(&bytes)])
-}
-
-// Eight bytes as one number, the first byte its lowest.
-fn number_of(bytes: &[u8; 8]) -> u64 {
-    let mut number: u64 = 0;
-    let mut left: usize = 8;
-    while left > 0 {
-        left -= 1;
-        number = longer(number, bytes[left]);
+    match plan::setup_packet_bytes(setup_of(listed), direction, nth(listed, 7)) {
+        Ok(bytes) => judge(line, listed, &[0, u64::from_le_bytes(bytes)]),
+        Err(refusal) => judge(line, listed, &[number_of(refusal), 0]),
     }
-    number
-}
-
-fn longer(number: u64, byte: u8) -> u64 {
-    number % 72_057_594_037_927_936 * 256 + byte as u64
 }

@@ -75,8 +75,8 @@ pub struct IsoHead {
     pub count: u16,
 }
 
-// `fatal` is None while the session runs. Requests stand in the order of submission, and the plans of all of them behind one another in the same order. What stands past
-// the counts is not read.
+// `fatal` is None while the session runs. Requests stand in the order of submission, and the plans of all of them behind one another
+// in the same order. What stands past the counts is not read.
 #[derive(Clone, Copy)]
 pub struct IsoChannelState {
     pub cfg: IsoConfig,

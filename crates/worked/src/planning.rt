@@ -82,6 +82,8 @@ fn stages(len: u64) -> u64 {
         base: 0,
         len,
     };
-    let made = plan::data_stages(request, &mut array);
-    made.count as u64
+    match plan::data_stages(request, &mut array) {
+        Ok(made) => made.count as u64,
+        Err(_) => 0,
+    }
 }
