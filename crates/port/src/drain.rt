@@ -32,10 +32,8 @@ pub(crate) fn packets_before(bytes: &[u8], end: u16) -> usize
     ensures { result ≡ packets_of (slice 0 end (requests_of bytes.now)) }
 {
     let mut sum: usize = 0;
-    let mut i: usize = 0;
-    while i < end as usize {
+    for i in 0..end as usize {
         sum += packets_at(bytes, i);
-        i += 1;
     }
     sum
 }
@@ -88,11 +86,9 @@ fn settle_plans_at(
         (sets (plans_of bytes.old) from (map (settled_plan direction ring.now) (slice from to (plans_of bytes.old)))))) }
 {
     let mut sum: u32 = 0;
-    let mut i = from;
-    while i < to {
+    for i in from..to {
         let status = ring[2 * slot_at(bytes, i) as usize];
         sum += settle_plan_at(bytes, 1_320 + 7 * i, direction, status);
-        i += 1;
     }
     sum
 }
@@ -104,12 +100,10 @@ pub(crate) fn clear_slots_at(bytes: &[u8], from: usize, to: usize, ring: &mut [u
         × ((k : ℕ) → from ≤ k → k < to → 2 * (slice_index_or (plans_of bytes.now) k blank_plan).desc_index + 1 < length ring.old) }
     ensures { ring.new ≡ slots_cleared (slice from to (plans_of bytes.now)) ring.old }
 {
-    let mut i = from;
-    while i < to {
+    for i in from..to {
         let at = 2 * slot_at(bytes, i) as usize;
         ring[at] = 0;
         ring[at + 1] = 0;
-        i += 1;
     }
 }
 
@@ -131,10 +125,9 @@ fn settle_at(bytes: &mut [u8], from: usize, to: usize, ring: &mut [u32])
     let place = 40 + 20 * head.done as usize;
     let request = request_at(bytes, place);
     let settled = IsoRequest {
-        id: request.id,
-        packets: request.packets,
         actual_length: total,
         outcome: IsoOutcome::Done,
+        ..request
     };
     put_request(bytes, place, settled);
     put_head(bytes, one_more(head));
@@ -145,12 +138,8 @@ fn one_more(head: IsoHead) -> IsoHead
     ensures { result ≡ one_more head }
 {
     IsoHead {
-        next_request_id: head.next_request_id,
-        live: head.live,
-        td_last: head.td_last,
-        start_full_frame: head.start_full_frame,
         done: head.done + 1,
-        count: head.count,
+        ..head
     }
 }
 
@@ -172,11 +161,9 @@ pub(crate) fn drain_at(bytes: &mut [u8], bit: bool, ring: &mut [u32])
         × (ring.new ≡ (drained bit (session_of bytes.old) ring.old).ring) }
 {
     let head = head_at(bytes);
-    let count = head.count;
-    let mut done = head.done;
-    let mut from = packets_before(bytes, done);
+    let mut from = packets_before(bytes, head.done);
     let mut at_once = bit;
-    while done < count {
+    for done in head.done..head.count {
         let to = from + packets_at(bytes, done as usize);
         if !(at_once | is_served_at(bytes, to, ring)) {
             return;
@@ -184,6 +171,5 @@ pub(crate) fn drain_at(bytes: &mut [u8], bit: bool, ring: &mut [u32])
         settle_at(bytes, from, to, ring);
         at_once = false;
         from = to;
-        done += 1;
     }
 }

@@ -1,6 +1,7 @@
 // The first request settled and handed out in one: document 01, "Poll" and "Reclaim". So a camera's driver takes its frames, the oldest
 // at a time with others behind it. What settling writes into its entries is then moved over by the others, and is not written at all.
-ghost use Rattle.std.specs.Prelude.{◌≡◌, ℕ, ◌+◌, ◌-◌, ◌*◌, ◌<◌, ◌≤◌, true, false, not, ◌||◌, map, length, get_or, ◌≢◌, slice_index, slice_index_or};
+ghost use Rattle.std.specs.Prelude.{◌≡◌, ℕ, ◌+◌, ◌-◌, ◌*◌, ◌<◌, ◌≤◌, true, false, not, ◌||◌, ◌==◌, map, length, get_or, slice_index, slice_index_or};
+ghost use Rattle.std.specs.List.{list_any, range_with_len};
 ghost use Rattle.std.proofs.Math.Seq.{slice};
 ghost use Rattle.std.proofs.lemmas.List.Edits.{sets};
 ghost use Rattle.words.specs.Words.{is_set, active, complete, halted, hcint_fault, is_packet_error, moved_length};
@@ -42,19 +43,13 @@ fn is_settling_way(bytes: &[u8], event: IsoEvent) -> bool
     (head.live & (event.reported & !event.unplugged)) & (is_calm(hcint) & (byte_at(bytes, 34) == 0))
 }
 
-// None of the first plans, `n` of them, has the slot.
-fn is_apart(bytes: &[u8], n: usize, slot: u16) -> bool
+// Whether one of the first plans, `n` of them, has the slot.
+fn has_slot(bytes: &[u8], n: usize, slot: u16) -> bool
     requires { (8488 ≤ length bytes.now) × (n ≤ 1024) }
-    ensures { result ≡ true → (k : ℕ) → k < n → (get_or (plans_of bytes.now) k blank_plan).desc_index ≢ slot }
+    ensures { result
+        ≡ list_any (λ i. (get_or (plans_of bytes.now) i blank_plan).desc_index == slot) (range_with_len 0 n) }
 {
-    let mut i: usize = 0;
-    while i < n {
-        if slot_at(bytes, i) == slot {
-            return false;
-        }
-        i += 1;
-    }
-    true
+    (0..n).any(|i| slot_at(bytes, i) == slot)
 }
 
 // The bit settles the first request whatever its descriptors say, so that none of them is read.
@@ -92,7 +87,8 @@ fn is_alone(bytes: &[u8], n: usize, to: usize, bit: bool, ring: &[u32]) -> bool
     if is_served_at(bytes, to, ring) {
         return false;
     }
-    is_apart(bytes, n, slot_at(bytes, to - 1))
+    let slot = slot_at(bytes, to - 1);
+    !has_slot(bytes, n, slot)
 }
 
 // The place is that of the first of several requests, a poll with the event settles it and no other, and those behind it have as many packets
@@ -148,13 +144,11 @@ fn settle_results(
         (map result_word (map (settled_plan direction ring.now) (slice 0 n (plans_of bytes.now))))) }
 {
     let mut sum: u32 = 0;
-    let mut i: usize = 0;
-    while i < n {
+    for i in 0..n {
         let status = ring[2 * slot_at(bytes, i) as usize];
         let planned = u16_at(bytes, 1_320 + 7 * i);
         results[i] = settled_word(direction, planned, status);
         sum += moved_length(direction, planned, status) as u32;
-        i += 1;
     }
     sum
 }

@@ -48,12 +48,9 @@ fn one_less(head: IsoHead) -> IsoHead
     ensures { result ≡ one_less head }
 {
     IsoHead {
-        next_request_id: head.next_request_id,
-        live: head.live,
-        td_last: head.td_last,
-        start_full_frame: head.start_full_frame,
         done: head.done - 1,
         count: head.count - 1,
+        ..head
     }
 }
 
@@ -98,11 +95,8 @@ fn hand_results_at(bytes: &[u8], done: bool, from: usize, to: usize, results: &m
     if !done {
         return;
     }
-    let n = to - from;
-    let mut at: usize = 0;
-    while at < n {
+    for at in 0..to - from {
         results[at] = result_at(bytes, 1_320 + 7 * (from + at));
-        at += 1;
     }
 }
 

@@ -1,39 +1,28 @@
 -- Which way a poll goes in the common cases, and when nothing is settled; what it answers and leaves, and the same by bytes.
 use Rattle.std.specs.Prelude.{Result, Ok, Err, ⊤}
-use Rattle.std.proofs.Common.{cond, ◌<◌, ◌≤◌, lt-ltb, le-ltb, ◌≡◌, ℕ, ◌+◌, ◌-◌, ◌*◌, ◌/◌, ◌%◌, Bool, true, false, not, ◌&&◌, ◌||◌, eqb, ltb, List, length, get_or, sym, refl, ap, ◌∙◌, subst, ap₂, arith, ne_eqb}
-use mathlib.Core.Bool.{or-true}
-use Rattle.words.specs.Words.{is_set, active, complete, halted, hcint_fault}
+use Rattle.std.proofs.Common.{cond, ◌<◌, ◌≤◌, lt-ltb, le-ltb, ◌≡◌, ℕ, ◌/◌, ◌%◌, Bool, true, false, not, ◌||◌, eqb, ltb, List, length, sym, refl, ap, ◌∙◌, ap₂, arith, ne_eqb}
+use Rattle.words.specs.Words.{is_set, complete, halted, hcint_fault}
 use Rattle.words.specs.declared.types.HcintFault.{HcintFault}
 use Rattle.words.specs.declared.types.HcintFault.TheVariants as fault
-use Rattle.session.specs.declared.reply.IsoAnswer.TheVariants.{Done}
 use Rattle.session.specs.declared.reply.IsoEvent.{IsoEvent}
-use Rattle.session.specs.declared.reply.IsoReply.{IsoReply}
 use Rattle.session.specs.declared.reply.PollWay.{PollWay}
 use Rattle.session.specs.declared.reply.PollWay.TheVariants as way
 use Rattle.session.specs.declared.types.IsoFatal.{IsoFatal}
 use Rattle.session.specs.declared.types.IsoFatal.TheVariants as fatal
 use Rattle.session.specs.declared.types.IsoOutcome.TheVariants as outcome
 use Rattle.session.specs.declared.types.IsoChannelState.{IsoChannelState}
-use Rattle.session.specs.Session.{blank_request, blank_plan, ring_words, all_packets, pending_packets}
+use Rattle.session.specs.Session.{ring_words}
 use Rattle.session.specs.Record.{is_bad_record}
-use Rattle.session.specs.Poll.{way_by_reason, way_by_fault, poll_way, reply, polled_by, polled_ring_by, polled, polled_ring}
-use Rattle.session.specs.Settle.{oldest_from, oldest_to, is_served, Drained, drained}
-use Rattle.session.proofs.Laws.Record.{Sound}
+use Rattle.session.specs.Poll.{way_by_reason, way_by_fault, poll_way, polled_by, polled_ring_by, polled, polled_ring}
 use Rattle.session.proofs.Laws.Replies.{lent_done}
-use Rattle.session.proofs.Laws.Settled.{drained_stop}
-use Rattle.session.proofs.Laws.Sums.{packets_split, packets_past}
 use Rattle.session.proofs.Laws.Tests.{first, second}
 use Rattle.port.specs.declared.answers.PortReply.{PortReply}
-use Rattle.port.specs.Tags.{flag_tag, flag_of}
-use Rattle.port.specs.Layout.{layout_number, session_of}
-use Rattle.port.specs.Calls.{port_reply, reply_refused, reply_port, reply_by, bytes_by, words_by}
+use Rattle.port.specs.Tags.{flag_tag}
+use Rattle.port.specs.Layout.{session_of}
+use Rattle.port.specs.Calls.{port_reply, reply_port}
 use Rattle.port.specs.Parts.{lent}
 use Rattle.port.specs.Places.{Left}
-use Rattle.port.proofs.Laws.Calls.{refused, done, reply_refused_lem, reply_done}
-use Rattle.port.proofs.Laws.Kept.{Octets}
-use Rattle.port.proofs.Laws.Left.{left_is}
-use Rattle.port.proofs.Laws.Settling.{oldest_ends}
-use Rattle.port.proofs.Laws.Steps.{same_bytes, becomes, acted, reply_said}
+use Rattle.port.proofs.Laws.Steps.{becomes, acted, reply_said}
 
 -- the bits 1 to 3 and 7 to 10 of an event, each of which is clear where both numbers of them are 0
 pub calm_bits : (w : ℕ) → w / 2 % 8 ≡ 0 → w / 128 % 16 ≡ 0 → (hcint_fault w ≡ fault.Nothing) × (is_set halted w ≡ false)

@@ -1,6 +1,6 @@
 -- Work on a session's bytes where they stand, step by step: bytes that hold a session hold the next one after each store, and what stands behind
 -- the session stays.
-use Rattle.std.proofs.Common.{◌≡◌, ℕ, ◌+◌, ◌*◌, ◌<◌, ◌≤◌, Bool, true, false, cond, ltb, List, map, length, get_or, drop, set, sym, refl, ap, ◌∙◌, ap₂, le_trans, lt_of_lt_of_le, arith}
+use Rattle.std.proofs.Common.{◌≡◌, ℕ, ◌+◌, ◌*◌, ◌<◌, ◌≤◌, Bool, List, map, length, get_or, drop, set, sym, refl, ap, ◌∙◌, ap₂, le_trans, lt_of_lt_of_le, arith}
 use native.Mathlib.Nat.{min-le_right}
 use lib.Seq.{slice, sets}
 use Rattle.session.specs.declared.reply.IsoReply.{IsoReply}
@@ -10,8 +10,7 @@ use Rattle.session.specs.declared.types.IsoHead.{IsoHead}
 use Rattle.session.specs.declared.types.IsoOutcome.{IsoOutcome}
 use Rattle.session.specs.declared.types.IsoRequest.{IsoRequest}
 use Rattle.session.specs.declared.types.IsoChannelState.{IsoChannelState}
-use Rattle.session.specs.Session.{blank_request, ring_words}
-use Rattle.session.specs.Record.{is_bad_record}
+use Rattle.session.specs.Session.{blank_request}
 use Rattle.session.specs.declared.reply.IsoAnswer.{IsoAnswer}
 use Rattle.session.specs.declared.reply.IsoAnswer.TheVariants.{Done}
 use Rattle.session.specs.declared.reply.PollWay.{PollWay}

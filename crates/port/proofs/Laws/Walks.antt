@@ -1,12 +1,14 @@
 -- A session in its bytes, worked on in place: single fields read where they stand, one turn of a walk that writes a table's entries, and how many
 -- entries are in use.
-use Rattle.std.proofs.Common.{◌≡◌, ℕ, ◌+◌, ◌*◌, ◌<◌, ◌≤◌, min, List, get_or, drop, set, sym, refl, ap, ◌∙◌, lt_of_lt_of_le, arith}
+use Rattle.std.proofs.Common.{◌≡◌, ℕ, ◌+◌, ◌*◌, ◌<◌, ◌≤◌, min, false, List, get_or, drop, set, sym, refl, ap, ◌∙◌, lt_of_lt_of_le, arith}
 use native.Mathlib.Nat.{min-le_right, min-eq_left}
 use lib.Seq.{slice, sets}
 use Rattle.session.specs.declared.types.IsoRequest.{IsoRequest}
 use Rattle.session.specs.declared.types.IsoPacketPlan.{IsoPacketPlan}
 use Rattle.session.specs.declared.types.IsoChannelState.{IsoChannelState}
 use Rattle.session.specs.Session.{blank_request, blank_plan, packets_of, all_packets}
+use Rattle.session.specs.Record.{is_bad_record}
+use Rattle.session.proofs.Laws.Record.{Sound, sound}
 use Rattle.session.proofs.Laws.Sums.{packets_next}
 use Rattle.port.specs.Bytes.{byte_of, u16_of, u64_of}
 use Rattle.port.specs.Tags.{speed_of, direction_of, flag_of}
@@ -16,7 +18,7 @@ use Rattle.port.proofs.Canonical.{request_clear, plan_clear}
 use Rattle.port.proofs.Laws.Calls.{long_enough}
 use Rattle.port.proofs.Laws.Entries.{field}
 use Rattle.port.proofs.Laws.Left.{left_is, left_request, left_plan}
-use Rattle.port.proofs.Laws.Placed.{plan_there, request_there, requests_many}
+use Rattle.port.proofs.Laws.Placed.{plan_there, request_there, requests_many, plans_many}
 
 -- ---- single fields, read where they stand
 
@@ -101,6 +103,10 @@ module _ (xs : List ℕ) (z : layout_number xs ≡ 0) (s : IsoChannelState) {now
       let put = left_request (long_enough xs refl z) k i r small (request_clear xs z i h) n in
       let held : requests_of next ≡ set (requests_of now) i r = ap (λ (t : IsoChannelState). t.requests) put.holds in
       (held, left_is put (ap (with_requests s) (sym held)))
+
+-- a good record, read from bytes: its tables are as long as the layout says
+pub sound_there : (xs : List ℕ) → is_bad_record (session_of xs) ≡ false → Sound (session_of xs)
+sound_there xs good = sound (session_of xs) (requests_many xs) (plans_many xs) good
 
 -- ---- the entries in use of a good record are those that its numbers name
 
