@@ -4,11 +4,10 @@ ghost use Rattle.std.proofs.Math.Seq.{slice};
 ghost use Rattle.std.proofs.lemmas.List.Edits.{sets};
 ghost use Rattle.words.specs.Words.{is_set, active, is_packet_error};
 ghost use Rattle.session.specs.Session.{blank_request, blank_plan, packets_of, ring_words};
-ghost use Rattle.session.specs.Record.{is_bad_record};
 ghost use Rattle.session.specs.Settle.{status_of, settled_by, settled_plan, oldest_from, oldest_to, moved_total, one_more, slots_cleared, settled_session, settled_ring, drained};
 ghost use Rattle.port.specs.Tags.{status_tag};
 ghost use Rattle.port.specs.Layout.{plan_of, plan_bytes, layout_number, session_of, plans_in};
-ghost use Rattle.port.specs.Places.{requests_of, plans_of, with_plans, Left};
+ghost use Rattle.port.specs.Places.{Good, requests_of, plans_of, with_plans, Left};
 
 use crate::entries::{put_request, request_at};
 use crate::load::head_at;
@@ -109,8 +108,7 @@ pub(crate) fn clear_slots_at(bytes: &[u8], from: usize, to: usize, ring: &mut [u
 
 // Completes the oldest pending request, whose plans are those from `from` to `to`; its slots become zero after all of them were read.
 fn settle_at(bytes: &mut [u8], from: usize, to: usize, ring: &mut [u32])
-    requires { (layout_number bytes.old ≡ 0)
-        × (is_bad_record (session_of bytes.old) ≡ false)
+    requires { Good bytes.old
         × ((session_of bytes.old).head.done < (session_of bytes.old).head.count)
         × (from ≡ oldest_from (session_of bytes.old))
         × (to ≡ oldest_to (session_of bytes.old))
@@ -153,8 +151,7 @@ pub(crate) fn is_served_at(bytes: &[u8], to: usize, ring: &[u32]) -> bool
 
 // Settles the oldest request at once where the bit is set, then each oldest one that is served.
 pub(crate) fn drain_at(bytes: &mut [u8], bit: bool, ring: &mut [u32])
-    requires { (layout_number bytes.old ≡ 0)
-        × (is_bad_record (session_of bytes.old) ≡ false)
+    requires { Good bytes.old
         × (ring_words (session_of bytes.old).cfg ≤ length ring.old) }
     ensures { (Left bytes.old bytes.new
         (drained bit (session_of bytes.old) ring.old).session)

@@ -8,13 +8,12 @@ ghost use Rattle.words.specs.Words.{is_set, active, complete, halted, hcint_faul
 ghost use Rattle.words.specs.declared.types.HcintFault.TheVariants.{Nothing};
 ghost use Rattle.session.specs.declared.reply.PollWay.TheVariants.{Settle};
 ghost use Rattle.session.specs.Session.{blank_request, blank_plan, all_packets, ring_words};
-ghost use Rattle.session.specs.Record.{is_bad_record};
 ghost use Rattle.session.specs.Settle.{status_of, settled_plan, settled_plans, moved_total, settled_session, settled_ring, drained};
 ghost use Rattle.session.specs.Poll.{poll_way};
 ghost use Rattle.session.specs.Reclaim.{error_bit, result_word, removed, handed_answer, handed_results};
-ghost use Rattle.port.specs.Layout.{layout_number, session_of};
+ghost use Rattle.port.specs.Layout.{session_of};
 ghost use Rattle.port.specs.Calls.{reclaim_port};
-ghost use Rattle.port.specs.Places.{requests_of, plans_of, Left};
+ghost use Rattle.port.specs.Places.{Good, requests_of, plans_of, Left};
 ghost use Rattle.port.specs.First.{FirstOnly};
 
 use crate::answers::{PortReclaimed, reclaim_port};
@@ -68,8 +67,7 @@ fn is_settled(bytes: &[u8], n: usize, bit: bool, ring: &[u32]) -> bool
 // The first request, whose plans end at `n`, is settled by the event, and the second, whose plans end at `to`, is not: its last slot is none of
 // those that are cleared.
 fn is_alone(bytes: &[u8], n: usize, to: usize, bit: bool, ring: &[u32]) -> bool
-    requires { (layout_number bytes.now ≡ 0)
-        × (is_bad_record (session_of bytes.now) ≡ false)
+    requires { Good bytes.now
         × ((session_of bytes.now).head.done ≡ 0)
         × (1 < (session_of bytes.now).head.count)
         × (n ≡ (get_or (requests_of bytes.now) 0 blank_request).packets)
@@ -100,8 +98,7 @@ pub(crate) fn is_first_only(
     event: IsoEvent,
     ring: &[u32],
 ) -> bool
-    requires { (layout_number bytes.now ≡ 0)
-        × (is_bad_record (session_of bytes.now) ≡ false)
+    requires { Good bytes.now
         × (all ≡ all_packets (session_of bytes.now)) }
     ensures { result ≡ true → (at ≡ 0) × FirstOnly (session_of bytes.now) event ring.now }
 {
@@ -156,8 +153,7 @@ fn settle_results(
 // Takes out the first request, which has `n` of all the packets: its results first, then its slots, then its entries, which the others are moved
 // over. Answers the bytes that it moved.
 fn take_first(bytes: &mut [u8], n: usize, all: usize, ring: &mut [u32], results: &mut [u64]) -> u32
-    requires { (layout_number bytes.old ≡ 0)
-        × (is_bad_record (session_of bytes.old) ≡ false)
+    requires { Good bytes.old
         × ((session_of bytes.old).head.done ≡ 0)
         × (1 < (session_of bytes.old).head.count)
         × (n ≡ (get_or (requests_of bytes.old) 0 blank_request).packets)
@@ -187,8 +183,7 @@ pub(crate) fn reclaim_first(
     ring: &mut [u32],
     results: &mut [u64],
 ) -> PortReclaimed
-    requires { (layout_number bytes.old ≡ 0)
-        × (is_bad_record (session_of bytes.old) ≡ false)
+    requires { Good bytes.old
         × ((session_of bytes.old).head.done ≡ 0)
         × (1 < (session_of bytes.old).head.count)
         × (all ≡ all_packets (session_of bytes.old))

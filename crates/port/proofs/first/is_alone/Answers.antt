@@ -16,35 +16,35 @@ pub is_settled-requires : goal.is_settled-requires
 is_settled-requires c =
     let xs = c.args.bytes.now in
     let r = c.requires in
-    let ends = ends_in (session_of xs) c.args.ring.now (sound_there xs r.1) r.2 r.3 r.4 r.5 in
-    (long_enough xs refl r.0, ends.0, omega (arith, ends))
+    let ends = ends_in (session_of xs) c.args.ring.now (sound_there xs r.0.1) r.1 r.2 r.3 r.4 in
+    (long_enough xs refl r.0.0, ends.0, omega (arith, ends))
 
 pub is_served_at-requires : goal.is_served_at-requires
 is_served_at-requires c =
     let xs = c.args.bytes.now in
     let r = c.requires in
-    let ends = ends_in (session_of xs) c.args.ring.now (sound_there xs r.1) r.2 r.3 r.4 r.5 in
-    (long_enough xs refl r.0, omega (arith, ends), ends.2)
+    let ends = ends_in (session_of xs) c.args.ring.now (sound_there xs r.0.1) r.1 r.2 r.3 r.4 in
+    (long_enough xs refl r.0.0, omega (arith, ends), ends.2)
 
 pub overflow_sub-to : goal.overflow_sub-to
 overflow_sub-to c =
     let r = c.requires in
-    let ends = ends_in (session_of c.args.bytes.now) c.args.ring.now (sound_there c.args.bytes.now r.1) r.2 r.3 r.4 r.5 in
+    let ends = ends_in (session_of c.args.bytes.now) c.args.ring.now (sound_there c.args.bytes.now r.0.1) r.1 r.2 r.3 r.4 in
     omega (arith, ends)
 
 pub slot_at-slot-requires : goal.slot_at-slot-requires
 slot_at-slot-requires c =
     let xs = c.args.bytes.now in
     let r = c.requires in
-    let ends = ends_in (session_of xs) c.args.ring.now (sound_there xs r.1) r.2 r.3 r.4 r.5 in
-    (long_enough xs refl r.0, omega (arith, ends))
+    let ends = ends_in (session_of xs) c.args.ring.now (sound_there xs r.0.1) r.1 r.2 r.3 r.4 in
+    (long_enough xs refl r.0.0, omega (arith, ends))
 
 pub has_slot-requires : goal.has_slot-requires
 has_slot-requires c =
     let xs = c.args.bytes.now in
     let r = c.requires in
-    let ends = ends_in (session_of xs) c.args.ring.now (sound_there xs r.1) r.2 r.3 r.4 r.5 in
-    (long_enough xs refl r.0, omega (arith, ends))
+    let ends = ends_in (session_of xs) c.args.ring.now (sound_there xs r.0.1) r.1 r.2 r.3 r.4 in
+    (long_enough xs refl r.0.0, omega (arith, ends))
 
 pub returns : goal.returns
 returns c =
@@ -53,13 +53,13 @@ returns c =
     let s = session_of xs in
     let ring = a.ring.now in
     let r = c.requires in
-    let good = sound_there xs r.1 in
+    let good = sound_there xs r.0.1 in
     let settled : c.is_settled.result ≡ (a.bit || is_served s ring) =
     c.is_settled.ensures
     ∙ ap (λ (n : ℕ). a.bit || not (is_set active (get_or ring (2 * (get_or (plans_of xs) (n - 1) blank_plan).desc_index) 0)))
-    (sym (first_to s ring good r.2 r.3 r.4)) in
+    (sym (first_to s ring good r.1 r.2 r.3)) in
     λ e.
-    first_alone s ring good r.2 r.3 r.4 r.5 a.bit (sym settled ∙ c.if-not-is_settled.false) (sym c.is_served_at.ensures ∙ c.if-is_served_at.false)
+    first_alone s ring good r.1 r.2 r.3 r.4 a.bit (sym settled ∙ c.if-not-is_settled.false) (sym c.is_served_at.ensures ∙ c.if-is_served_at.false)
     (apart a.n (get_or (plans_of xs) (a.to - 1) blank_plan).desc_index (plans_of xs)
     (sym
     (c.has_slot.ensures
