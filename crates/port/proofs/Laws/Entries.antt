@@ -139,12 +139,6 @@ pub pair : (ys : List ℕ) → u16_of ys ≡ byte_of ys + 256 * byte_of (drop 1 
 unfolding u16_of byte_of
 pair ys = ap (λ (n : ℕ). get_or ys 0 0 + 256 * n) (sym (get_or-drop 1 ys 0 0))
 
--- the number of four bytes, and of eight, byte by byte
-pub four_bytes :
-    (ys : List ℕ) → u32_of ys ≡ byte_of ys + 256 * byte_of (drop 1 ys) + 65536 * byte_of (drop 2 ys) + 16777216 * byte_of (drop 3 ys)
-unfolding u32_of
-four_bytes ys = omega (arith, pair ys, pair (drop 2 ys), ap byte_of (drop-drop 1 2 ys))
-
 pub by_bytes_lem :
     (ys : List ℕ)
     → u64_of ys
@@ -163,19 +157,6 @@ by_bytes_lem ys =
     let low = ap (λ (l : List ℕ). get_or l 0 0) six in
     let high = ap (λ (l : List ℕ). get_or l 1 0) six in
     omega (arith, low, high, at 1 0, at 2 0, at 2 1, at 3 0, at 4 0, at 4 1, at 5 0, at 6 0, at 6 1, at 7 0)
-
--- the same by the fields of a plan, which are the last seven of them
-pub by_plan :
-    (ys : List ℕ)
-    → u64_of ys
-    ≡ byte_of ys
-    + 256 * u16_of (drop 1 ys)
-    + 16777216 * u16_of (drop 3 ys)
-    + 1099511627776 * u16_of (drop 5 ys)
-    + 72057594037927936 * byte_of (drop 7 ys)
-by_plan ys =
-    let on : (k : ℕ) → byte_of (drop 1 (drop k ys)) ≡ byte_of (drop (k + 1) ys) = λ k. ap byte_of (drop-drop 1 k ys) in
-    omega (arith, by_bytes_lem ys, pair (drop 1 ys), on 1, pair (drop 3 ys), on 3, pair (drop 5 ys), on 5)
 
 -- where the number ends with its first two bytes, the six behind them are the tag 0 without fault and word
 module _ (ys : List ℕ) (h : u64_of ys < 65536) where

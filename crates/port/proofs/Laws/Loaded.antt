@@ -1,5 +1,5 @@
 -- The whole of a session's bytes: whether they are refused, and the session.
-use Rattle.std.proofs.Common.{◌≡◌, ℕ, ◌<◌, ◌≤◌, Bool, true, false, cond, ◌||◌, List, length, drop, sym, ap, ◌∙◌, arith, le-ltb, lt-ltb}
+use Rattle.std.proofs.Common.{◌≡◌, ℕ, ◌≤◌, Bool, true, false, cond, ◌||◌, List, length, drop, sym, ap, ◌∙◌, arith, le-ltb}
 use Rattle.words.proofs.Laws.Tests.{neither}
 use Rattle.session.specs.declared.types.IsoConfig.{IsoConfig}
 use Rattle.session.specs.declared.types.IsoHead.{IsoHead}
@@ -23,9 +23,6 @@ pub session_at :
     → whole cfg head fatal requests plans ≡ session_of xs
 unfolding session_of
 session_at xs ec eh et ef er ep = rw (ec, eh, ef, et, er, ep)
-
-pub short_layout : (xs : List ℕ) → length xs < 8488 → 17 ≡ layout_number xs
-short_layout xs h = sym (ap (λ (b : Bool). cond b 17 (cond (is_bad_layout xs) 18 0)) (lt-ltb (length xs) 8488 h))
 
 number_by : {short bad b : Bool} → short ≡ false → bad ≡ b → ◌≡◌ {A = ℕ} (cond b 18 0) (cond short 17 (cond bad 18 0))
 number_by {bad = bad} p q = sym (ap (λ (x : Bool). cond x 17 (cond bad 18 0)) p ∙ ap (λ (x : Bool). cond x 18 0) q)

@@ -15,7 +15,7 @@ use Rattle.session.specs.Session.{ring_words}
 use Rattle.session.specs.Record.{is_bad_record}
 use Rattle.session.specs.Poll.{way_by_reason, way_by_fault, poll_way, polled_by, polled_ring_by, polled, polled_ring}
 use Rattle.session.proofs.Laws.Replies.{lent_done}
-use Rattle.session.proofs.Laws.Tests.{first, second}
+use Rattle.session.proofs.Laws.Tests.{second}
 use Rattle.port.specs.declared.answers.PortReply.{PortReply}
 use Rattle.port.specs.Tags.{flag_tag}
 use Rattle.port.specs.Layout.{session_of}
@@ -44,9 +44,6 @@ pub taken_is : (live reported : Bool) → live ≡ true → reported ≡ true �
 taken_is live reported l r = ap₂ (λ (a b : Bool). not a || not b) l r
 
 module _ (s : IsoChannelState) (e : IsoEvent) where
-  pub quiet_way : (not s.head.live || not e.reported) ≡ true → way.Nothing ≡ poll_way s e
-  quiet_way q = sym (first (not s.head.live || not e.reported) way.Nothing _ q)
-
   pub calm_way :
       (not s.head.live || not e.reported) ≡ false → e.unplugged ≡ false → hcint_fault e.hcint ≡ fault.Nothing → is_set halted e.hcint ≡ false
       → s.fatal ≡ fatal.Nothing

@@ -11,7 +11,7 @@ use Rattle.session.specs.Record.{is_bad_record}
 use Rattle.session.proofs.Laws.Record.{Sound, sound}
 use Rattle.session.proofs.Laws.Sums.{packets_next}
 use Rattle.port.specs.Bytes.{byte_of, u16_of, u64_of}
-use Rattle.port.specs.Tags.{speed_of, direction_of, flag_of}
+use Rattle.port.specs.Tags.{direction_of}
 use Rattle.port.specs.Layout.{config_of, head_of, request_bytes, request_of, plan_bytes, plan_of, layout_number, session_of, requests_in, plans_in}
 use Rattle.port.specs.Places.{requests_of, plans_of, with_requests, with_plans, Left}
 use Rattle.port.proofs.Canonical.{request_clear, plan_clear}
@@ -34,18 +34,6 @@ pub direction_there : (xs : List ℕ) → direction_of (byte_of (drop 6 xs)) ≡
 unfolding session_of config_of
 direction_there xs = refl
 
-pub live_there : (xs : List ℕ) → flag_of (byte_of (drop 15 xs)) ≡ (session_of xs).head.live
-unfolding session_of head_of
-live_there xs = refl
-
-pub interval_there : (xs : List ℕ) → u16_of (drop 8 xs) ≡ (session_of xs).cfg.interval
-unfolding session_of config_of
-interval_there xs = refl
-
-pub speed_there : (xs : List ℕ) → speed_of (byte_of (drop 5 xs)) ≡ (session_of xs).cfg.speed
-unfolding session_of config_of
-speed_there xs = refl
-
 pub packets_there : (xs : List ℕ) (i : ℕ) → i < 64 → u16_of (drop (52 + 20 * i) xs) ≡ (get_or (requests_of xs) i blank_request).packets
 unfolding request_of
 packets_there xs i h =
@@ -65,16 +53,6 @@ unfolding plan_of
 slot_there xs i h =
     let on : 1322 + 7 * i ≡ 1320 + 7 * i + 2 = omega arith in
     ap (λ (n : ℕ). u16_of (drop n xs)) on ∙ field u16_of 2 (1320 + 7 * i) xs ∙ ap (λ (p : IsoPacketPlan). p.desc_index) (plan_there xs i blank_plan h)
-
--- the sum of the packets so far and those of the requests still to come, after one request more
-pub packets_more :
-    (xs : List ℕ) (n i sum all : ℕ) {at packets : ℕ} → i < n → n ≤ 64 → at ≡ 52 + 20 * i → packets ≡ u16_of (drop at xs)
-    → sum + packets_of (slice i n (requests_of xs)) ≡ all
-    → sum + packets + packets_of (slice (i + 1) n (requests_of xs)) ≡ all
-packets_more xs n i sum all {packets = packets} h few place e so_far =
-    let here : packets ≡ (get_or (requests_of xs) i blank_request).packets =
-    e ∙ ap (λ (k : ℕ). u16_of (drop k xs)) place ∙ packets_there xs i (omega arith) in
-    omega (arith, packets_next i n (requests_of xs) h (omega (arith, requests_many xs)), here, so_far)
 
 pub packets_step :
     (xs : List ℕ) (n i sum all : ℕ) {packets : ℕ} → i < n → n ≤ 64 → packets ≡ (get_or (requests_of xs) i blank_request).packets

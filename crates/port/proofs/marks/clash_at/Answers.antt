@@ -6,10 +6,9 @@ use Rattle.session.specs.declared.types.IsoPacketPlan.{IsoPacketPlan}
 use Rattle.session.specs.Session.{blank_plan}
 use Rattle.session.specs.Way.{is_held, pending_plans}
 use Rattle.session.proofs.Laws.Sums.{ring_few, packets_split}
-use Rattle.session.proofs.Laws.Record.{Sound, sound}
 use Rattle.session.proofs.Laws.Held.{clash_marked, marks_first, marks_all, mark_set, mark_pending}
 use Rattle.port.specs.Layout.{session_of}
-use Rattle.port.proofs.Laws.Placed.{plan_there, plans_many, requests_many}
+use Rattle.port.proofs.Laws.Placed.{plan_there, plans_many}
 use Rattle.port.proofs.Laws.Walks.{sound_there}
 use Rattle.port.proofs.marks.clash_at.Goals as goal
 
