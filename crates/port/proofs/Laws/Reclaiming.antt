@@ -24,7 +24,7 @@ use Rattle.port.specs.declared.answers.PortReclaimed.{PortReclaimed}
 use Rattle.port.specs.declared.poll.PollSaid.{PollSaid}
 use Rattle.port.specs.Tags.{flag_tag}
 use Rattle.port.specs.Layout.{config_of, head_of, layout_number, session_of}
-use Rattle.port.specs.Calls.{bytes_by, words_by, reclaim_port, reclaim_refused, reclaimed_port, reclaim_by}
+use Rattle.port.specs.Calls.{reclaim_port, reclaim_refused, reclaimed_port}
 use Rattle.port.specs.Places.{Acted, Left}
 use Rattle.port.specs.First.{FirstOnly}
 use Rattle.port.proofs.Laws.Calls.{long_enough}
@@ -156,16 +156,3 @@ module _ (xs ring results : List ℕ) (id : ℕ) (e : IsoEvent) where
       sym (ap (λ (b : Bool). cond b (handed_results 0 t results) results) on) ∙ ap (λ (n : ℕ). looked_results_at n t results) still in
       let told = reclaim_done s id e ring results {first-look = x} h k look again (ew ∙ words_looked) (ea ∙ handed) in
       (ep ∙ ap reclaimed_port told.0, left_is ec (ap (λ (y : Reclaimed). y.session) told.0), told.1, told.2)
-
--- ---- the call by bytes
-
-module _ (xs ring results : List ℕ) (id : ℕ) (e : IsoEvent) where
-  abbrev call : IsoChannelState → Reclaimed
-  call s = reclaimed s id e ring (length results)
-
-  abbrev pub Promised : PortReclaimed → List ℕ → List ℕ → List ℕ → Type 0
-  Promised p ys words after =
-      (p ≡ reclaim_by xs call)
-      × (ys ≡ bytes_by xs (λ (s : IsoChannelState). (call s).session))
-      × (words ≡ words_by xs ring (λ (s : IsoChannelState). reclaimed_ring s id e ring (length results)))
-      × (after ≡ words_by xs results (λ (s : IsoChannelState). reclaimed_results s id e ring results))
