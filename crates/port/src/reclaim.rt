@@ -22,6 +22,7 @@ use crate::scan::RequestSums;
 use session::{IsoEvent, IsoHead, ReclaimAnswer, handed_answer, is_done, ring_words};
 
 // The entries from `from` to `to` move down to `into`, as plain bytes: an entry in use is written as it was read. So for requests and for plans.
+// Two functions: what moves the bytes is one, and each says what becomes of its own table, which is a field of the session.
 pub(crate) fn close_requests_at(bytes: &mut [u8], into: usize, from: usize, to: usize)
     requires { (layout_number bytes.old ≡ 0) × (into ≤ from) × (to ≤ requests_in (session_of bytes.old)) }
     ensures { Left bytes.old bytes.new
