@@ -1,18 +1,18 @@
 // The first request settled and handed out in one: document 01, "Poll" and "Reclaim". So a camera's driver takes its frames, the oldest
 // at a time with others behind it. What settling writes into its entries is then moved over by the others, and is not written at all.
-ghost use Rattle.std.specs.Prelude.{None, Some, Ok, ◌≡◌, ℕ, ◌+◌, ◌-◌, ◌*◌, ◌<◌, ◌≤◌, true, false, not, ◌||◌, map, length, get_or, ◌≢◌, slice_index, slice_index_or};
+ghost use Rattle.std.specs.Prelude.{None, Some, Ok, ◌≡◌, ℕ, ◌+◌, ◌-◌, ◌*◌, ◌<◌, ◌≤◌, true, false, not, ◌||◌, ◌==◌, map, length, get_or, slice_index, slice_index_or};
+ghost use Rattle.std.specs.List.{list_any, range_with_len};
 ghost use Rattle.std.proofs.Math.Seq.{slice};
 ghost use Rattle.std.proofs.lemmas.List.Edits.{sets};
 ghost use Rattle.words.specs.Words.{is_set, active, complete, halted, hcint_fault, is_packet_error, moved_length};
 ghost use Rattle.session.specs.declared.reply.PollWay.TheVariants.{Settle};
 ghost use Rattle.session.specs.Session.{blank_request, blank_plan, all_packets, ring_words};
-ghost use Rattle.session.specs.Record.{is_bad_record};
 ghost use Rattle.session.specs.Settle.{status_of, settled_plan, settled_plans, moved_total, settled_session, settled_ring, drained};
 ghost use Rattle.session.specs.Poll.{poll_way};
 ghost use Rattle.session.specs.Reclaim.{error_bit, result_word, removed, handed_answer, handed_results};
-ghost use Rattle.port.specs.Layout.{layout_number, session_of};
+ghost use Rattle.port.specs.Layout.{session_of};
 ghost use Rattle.port.specs.Calls.{reclaim_port};
-ghost use Rattle.port.specs.Places.{requests_of, plans_of, Left};
+ghost use Rattle.port.specs.Places.{Good, requests_of, plans_of, Left};
 ghost use Rattle.port.specs.First.{FirstOnly};
 
 use crate::answers::{PortReclaimed, reclaim_port};
@@ -41,19 +41,13 @@ fn is_settling_way(bytes: &[u8], event: IsoEvent) -> bool
     (head.live & !event.unplugged) & (is_calm(hcint) & (byte_at(bytes, 34) == 0))
 }
 
-// None of the first plans, `n` of them, has the slot.
-fn is_apart(bytes: &[u8], n: usize, slot: u16) -> bool
+// Whether one of the first plans, `n` of them, has the slot.
+fn has_slot(bytes: &[u8], n: usize, slot: u16) -> bool
     requires { (8488 ≤ length bytes.now) × (n ≤ 1024) }
-    ensures { result ≡ true → (k : ℕ) → k < n → (get_or (plans_of bytes.now) k blank_plan).desc_index ≢ slot }
+    ensures { result
+        ≡ list_any (λ i. (get_or (plans_of bytes.now) i blank_plan).desc_index == slot) (range_with_len 0 n) }
 {
-    let mut i: usize = 0;
-    while i < n {
-        if slot_at(bytes, i) == slot {
-            return false;
-        }
-        i += 1;
-    }
-    true
+    (0..n).any(|i| slot_at(bytes, i) == slot)
 }
 
 // The bit settles the first request whatever its descriptors say, so that none of them is read.
@@ -72,8 +66,7 @@ fn is_settled(bytes: &[u8], n: usize, bit: bool, ring: &[u32]) -> bool
 // The first request, whose plans end at `n`, is settled by the event, and the second, whose plans end at `to`, is not: its last slot is none of
 // those that are cleared.
 fn is_alone(bytes: &[u8], n: usize, to: usize, bit: bool, ring: &[u32]) -> bool
-    requires { (layout_number bytes.now ≡ 0)
-        × (is_bad_record (session_of bytes.now) ≡ false)
+    requires { Good bytes.now
         × ((session_of bytes.now).head.done ≡ 0)
         × (1 < (session_of bytes.now).head.count)
         × (n ≡ (get_or (requests_of bytes.now) 0 blank_request).packets)
@@ -91,7 +84,8 @@ fn is_alone(bytes: &[u8], n: usize, to: usize, bit: bool, ring: &[u32]) -> bool
     if is_served_at(bytes, to, ring) {
         return false;
     }
-    is_apart(bytes, n, slot_at(bytes, to - 1))
+    let slot = slot_at(bytes, to - 1);
+    !has_slot(bytes, n, slot)
 }
 
 // The place is that of the first of several requests, a poll with the event settles it and no other, and those behind it have as many packets
@@ -103,8 +97,7 @@ pub(crate) fn is_first_only(
     event: Option<IsoEvent>,
     ring: &[u32],
 ) -> bool
-    requires { (layout_number bytes.now ≡ 0)
-        × (is_bad_record (session_of bytes.now) ≡ false)
+    requires { Good bytes.now
         × (all ≡ all_packets (session_of bytes.now)) }
     ensures { result ≡ true → (at ≡ 0) × FirstOnly (session_of bytes.now) event ring.now }
 {
@@ -150,13 +143,11 @@ fn settle_results(
         (map result_word (map (settled_plan direction ring.now) (slice 0 n (plans_of bytes.now))))) }
 {
     let mut sum: u32 = 0;
-    let mut i: usize = 0;
-    while i < n {
+    for i in 0..n {
         let status = ring[2 * slot_at(bytes, i) as usize];
         let planned = u16_at(bytes, 1_320 + 7 * i);
         results[i] = settled_word(direction, planned, status);
         sum += moved_length(direction, planned, status) as u32;
-        i += 1;
     }
     sum
 }
@@ -164,8 +155,7 @@ fn settle_results(
 // Takes out the first request, which has `n` of all the packets: its results first, then its slots, then its entries, which the others are moved
 // over. Answers the bytes that it moved.
 fn take_first(bytes: &mut [u8], n: usize, all: usize, ring: &mut [u32], results: &mut [u64]) -> u32
-    requires { (layout_number bytes.old ≡ 0)
-        × (is_bad_record (session_of bytes.old) ≡ false)
+    requires { Good bytes.old
         × ((session_of bytes.old).head.done ≡ 0)
         × (1 < (session_of bytes.old).head.count)
         × (n ≡ (get_or (requests_of bytes.old) 0 blank_request).packets)
@@ -195,8 +185,7 @@ pub(crate) fn reclaim_first(
     ring: &mut [u32],
     results: &mut [u64],
 ) -> PortReclaimed
-    requires { (layout_number bytes.old ≡ 0)
-        × (is_bad_record (session_of bytes.old) ≡ false)
+    requires { Good bytes.old
         × ((session_of bytes.old).head.done ≡ 0)
         × (1 < (session_of bytes.old).head.count)
         × (all ≡ all_packets (session_of bytes.old))

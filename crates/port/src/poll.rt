@@ -5,7 +5,7 @@ ghost use Rattle.session.specs.Record.{is_bad_record};
 ghost use Rattle.session.specs.Poll.{poll_way, with_reason, polled_by, polled_ring_by, polled, polled_ring, recovered, recovered_ring};
 ghost use Rattle.port.specs.Layout.{layout_number, session_of};
 ghost use Rattle.port.specs.Calls.{reply_port};
-ghost use Rattle.port.specs.Places.{Left};
+ghost use Rattle.port.specs.Places.{Good, Left};
 ghost use Rattle.port.specs.Parts.{lent};
 
 use crate::answers::{PortReply, reply_port, reply_refused};
@@ -62,8 +62,7 @@ pub(crate) fn halt_at(bytes: &mut [u8], reason: IsoHaltReason)
 
 // Takes the event and acts by its way, on a good record and with a ring that is long enough.
 pub(crate) fn poll_at(bytes: &mut [u8], event: Option<IsoEvent>, ring: &mut [u32]) -> PollSaid
-    requires { (layout_number bytes.old ≡ 0)
-        × (is_bad_record (session_of bytes.old) ≡ false)
+    requires { Good bytes.old
         × (ring_words (session_of bytes.old).cfg ≤ length ring.old) }
     ensures { (result.taken ≡ (polled_by (poll_way (session_of bytes.old) event) (session_of bytes.old) ring.old).taken)
         × (result.halt ≡ (polled_by (poll_way (session_of bytes.old) event) (session_of bytes.old) ring.old).halt)

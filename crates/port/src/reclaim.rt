@@ -3,12 +3,11 @@ ghost use Rattle.std.specs.Prelude.{◌≡◌, ℕ, ◌+◌, ◌*◌, ◌<◌, �
 ghost use Rattle.std.proofs.Math.Seq.{slice};
 ghost use Rattle.std.proofs.lemmas.List.Edits.{sets};
 ghost use Rattle.session.specs.Session.{blank_request, ring_words, all_packets};
-ghost use Rattle.session.specs.Record.{is_bad_record};
 ghost use Rattle.session.specs.Reclaim.{is_done, result_word, looked_at, looked_ring_at, plans_begin, plans_end, closed_up, one_less, removed, handed_answer, handed_results, reclaim_reply, looked_again_at, looked_results_at, is_short, reclaimed, reclaimed_ring, reclaimed_results};
 ghost use Rattle.port.specs.Layout.{plan_of, is_bad_plan_bytes, layout_number, session_of, requests_in, plans_in};
 ghost use Rattle.port.specs.Calls.{reclaimed_port};
 ghost use Rattle.port.specs.Scan.{record_sums};
-ghost use Rattle.port.specs.Places.{requests_of, plans_of, with_requests, with_plans, Left, Acted};
+ghost use Rattle.port.specs.Places.{Good, requests_of, plans_of, with_requests, with_plans, Left, Acted};
 
 use crate::answers::{PortReclaimed, reclaim_port, reclaim_refused};
 use crate::cancel::place_at;
@@ -25,6 +24,7 @@ use session::{
 };
 
 // The entries from `from` to `to` move down to `into`, as plain bytes: an entry in use is written as it was read. So for requests and for plans.
+// Two functions: what moves the bytes is one, and each says what becomes of its own table, which is a field of the session.
 pub(crate) fn close_requests_at(bytes: &mut [u8], into: usize, from: usize, to: usize)
     requires { (layout_number bytes.old ≡ 0) × (into ≤ from) × (to ≤ requests_in (session_of bytes.old)) }
     ensures { Left bytes.old bytes.new
@@ -59,8 +59,7 @@ fn one_less(head: IsoHead) -> IsoHead
 // Takes out the request at `at` and its plans, which are those from `from` to `to` of `all`: plans first, while the requests still tell how
 // many are in use.
 fn remove_at(bytes: &mut [u8], at: u16, from: usize, to: usize, all: usize)
-    requires { (layout_number bytes.old ≡ 0)
-        × (is_bad_record (session_of bytes.old) ≡ false)
+    requires { Good bytes.old
         × (at < (session_of bytes.old).head.done)
         × (from ≡ plans_begin at (session_of bytes.old))
         × (to ≡ plans_end at (session_of bytes.old))
@@ -104,8 +103,7 @@ fn hand_results_at(bytes: &[u8], outcome: IsoOutcome, from: usize, to: usize, re
 
 // Hands out the completed request at `at`: what it answers, its results, and the session without it.
 fn hand_out_at(bytes: &mut [u8], at: u16, all: usize, results: &mut [u64]) -> IsoCompletion
-    requires { (layout_number bytes.old ≡ 0)
-        × (is_bad_record (session_of bytes.old) ≡ false)
+    requires { Good bytes.old
         × (at < (session_of bytes.old).head.done)
         × (255 ≤ length results.old)
         × (all ≡ all_packets (session_of bytes.old)) }
@@ -129,8 +127,7 @@ fn look_again_at(
     all: usize,
     results: &mut [u64],
 ) -> Result<Option<IsoCompletion>, IsoRefusal>
-    requires { (layout_number bytes.old ≡ 0)
-        × (is_bad_record (session_of bytes.old) ≡ false)
+    requires { Good bytes.old
         × (255 ≤ length results.old)
         × (all ≡ all_packets (session_of bytes.old)) }
     ensures { ((taken halt : Bool)
@@ -151,8 +148,7 @@ fn look_again_at(
 
 // Polls, unless the request at `at` is completed already.
 fn look_at(bytes: &mut [u8], at: u16, event: Option<IsoEvent>, ring: &mut [u32]) -> PollSaid
-    requires { (layout_number bytes.old ≡ 0)
-        × (is_bad_record (session_of bytes.old) ≡ false)
+    requires { Good bytes.old
         × (ring_words (session_of bytes.old).cfg ≤ length ring.old) }
     ensures { Acted bytes.old bytes.new result (looked_at at event (session_of bytes.old) ring.old)
         × (ring.new ≡ looked_ring_at at event (session_of bytes.old) ring.old) }
@@ -177,8 +173,7 @@ fn reclaim_good(
     ring: &mut [u32],
     results: &mut [u64],
 ) -> PortReclaimed
-    requires { (layout_number bytes.old ≡ 0)
-        × (is_bad_record (session_of bytes.old) ≡ false)
+    requires { Good bytes.old
         × (all ≡ all_packets (session_of bytes.old))
         × (is_short (session_of bytes.old) (length ring.old) (length results.old) ≡ false) }
     ensures { (result ≡ reclaimed_port (reclaimed (session_of bytes.old) id event ring.old (length results.old)))

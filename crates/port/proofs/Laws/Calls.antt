@@ -1,11 +1,8 @@
 -- A call by bytes, as the code runs: refused at its bytes, or loaded, called and saved.
 use Rattle.std.proofs.Common.{◌≡◌, ℕ, ◌≤◌, Bool, true, false, cond, eqb, ltb, List, length, sym, refl, ap, ◌∙◌, arith, ltb-false, eq-eqb, ne_eqb}
-use Rattle.session.specs.declared.reply.IsoReply.{IsoReply}
 use Rattle.session.specs.declared.types.IsoChannelState.{IsoChannelState}
-use Rattle.port.specs.declared.answers.PortReply.{PortReply}
-use Rattle.port.specs.Layout.{is_bad_layout, layout_number, session_of, left_bytes}
-use Rattle.port.specs.Places.{Left}
-use Rattle.port.specs.Calls.{by_bytes, bytes_by, reply_by, reply_port, reply_refused}
+use Rattle.port.specs.Layout.{is_bad_layout, layout_number, session_of}
+use Rattle.port.specs.Calls.{by_bytes}
 
 -- bytes that are not refused are long enough
 pub long_enough : (xs : List ℕ) {n : ℕ} → n ≡ layout_number xs → n ≡ 0 → 8488 ≤ length xs
@@ -29,22 +26,3 @@ module _ {A : Type 0} (xs : List ℕ) (refuse : ℕ → A) where
   done call out {n} e z l g =
       let test : eqb (layout_number xs) 0 ≡ true = ap (λ (k : ℕ). eqb k 0) (sym e) ∙ eq-eqb n 0 z in
       ap out (g ∙ ap call l) ∙ sym (ap (λ (b : Bool). cond b (out (call (session_of xs))) (refuse (layout_number xs))) test)
-
--- the answer and the bytes of poll, cancel, reset and recover
-module _ (xs : List ℕ) (call : IsoChannelState → IsoReply) where
-  pub reply_refused_lem :
-      {n : ℕ} {r : PortReply} → n ≡ layout_number xs → (n ≡ 0 → ⊥) → r ≡ reply_refused n
-      → (r ≡ reply_by xs call) × (xs ≡ bytes_by xs (λ (s : IsoChannelState). (call s).session))
-  reply_refused_lem e z g = (
-    g ∙ refused xs reply_refused (λ (s : IsoChannelState). reply_port (call s)) e z,
-    refused xs (λ (n : ℕ). xs) (λ (s : IsoChannelState). left_bytes xs (call s).session) e z,
-  )
-
-  -- the call worked on good bytes where they stand
-  pub reply_done :
-      {n : ℕ} {p : PortReply} {after : List ℕ} → n ≡ layout_number xs → n ≡ 0 → p ≡ reply_port (call (session_of xs)) → Left xs after (call (session_of xs)).session
-      → (p ≡ reply_by xs call) × (after ≡ bytes_by xs (λ (t : IsoChannelState). (call t).session))
-  reply_done e z p left = (
-    p ∙ done xs reply_refused call reply_port e z refl refl,
-    left.bytes ∙ done xs (λ (n : ℕ). xs) call (λ (r : IsoReply). left_bytes xs r.session) e z refl refl,
-  )

@@ -1,6 +1,6 @@
 -- The whole of a session's bytes: whether they are refused, and the session.
 use Rattle.std.specs.Prelude.{⊤}
-use Rattle.std.proofs.Common.{◌≡◌, ℕ, ◌<◌, ◌≤◌, Bool, true, false, cond, ◌||◌, ltb, min, Option, Some, None, Result, Ok, Err, List, length, drop, sym, refl, ap, ◌∙◌, arith, le-ltb, lt-ltb}
+use Rattle.std.proofs.Common.{◌≡◌, ℕ, ◌≤◌, Bool, true, false, cond, ◌||◌, ltb, min, Option, Some, None, Result, Ok, Err, List, length, drop, sym, refl, ap, ◌∙◌, arith, le-ltb}
 use Rattle.words.proofs.Laws.Tests.{neither}
 use Rattle.session.specs.declared.refusal.IsoRefusal.{IsoRefusal}
 use Rattle.session.specs.declared.refusal.IsoRefusal.TheVariants.{ShortBuffer, BadRecord}
@@ -31,9 +31,6 @@ session_at xs ec eh et ef er ep = rw (ec, eh, ef, et, er, ep)
 
 abbrev bad_by : Bool → Result ⊤ IsoRefusal
 bad_by b = cond b (Err BadRecord) (Ok tt)
-
-pub short_layout : (xs : List ℕ) → length xs < 8488 → Err ShortBuffer ≡ layout_refusal xs
-short_layout xs h = sym (ap (λ (b : Bool). cond b (Err ShortBuffer) (bad_by (is_bad_layout xs))) (lt-ltb (length xs) 8488 h))
 
 refusal_by : {short bad b : Bool} → short ≡ false → bad ≡ b → bad_by b ≡ cond short (Err ShortBuffer) (bad_by bad)
 refusal_by {bad = bad} p q = sym (ap (λ (x : Bool). cond x (Err ShortBuffer) (bad_by bad)) p ∙ ap bad_by q)

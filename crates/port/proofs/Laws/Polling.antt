@@ -1,6 +1,6 @@
 -- Which way a poll goes in the common cases, and when nothing is settled; what it answers and leaves, and the same by bytes.
 use Rattle.std.specs.Prelude.{Result, Ok, Err, ⊤}
-use Rattle.std.proofs.Common.{Option, Some, None, cond, ◌<◌, ◌≤◌, lt-ltb, le-ltb, ◌≡◌, ℕ, ◌/◌, ◌%◌, Bool, true, false, eqb, ltb, List, length, sym, refl, ap, ◌∙◌, ap₂, arith, ne_eqb}
+use Rattle.std.proofs.Common.{Option, Some, None, cond, ◌<◌, ◌≤◌, lt-ltb, le-ltb, ◌≡◌, ℕ, Bool, true, false, ltb, List, length, sym, refl, ap, ◌∙◌, ap₂, arith}
 use Rattle.words.specs.Words.{is_set, complete, halted, hcint_fault}
 use Rattle.words.specs.declared.types.Dwc2TransferFault.{Dwc2TransferFault}
 use Rattle.session.specs.declared.refusal.IsoRefusal.{IsoRefusal}
@@ -23,21 +23,6 @@ use Rattle.port.specs.Calls.{port_reply, reply_port}
 use Rattle.port.specs.Parts.{lent}
 use Rattle.port.specs.Places.{Left}
 use Rattle.port.proofs.Laws.Steps.{becomes, acted, reply_said}
-
--- the bits 1 to 3 and 7 to 10 of an event, each of which is clear where both numbers of them are 0
-pub calm_bits : (w : ℕ) → w / 2 % 8 ≡ 0 → w / 128 % 16 ≡ 0 → (hcint_fault w ≡ None) × (is_set halted w ≡ false)
-calm_bits w low high =
-    let clear : (n : ℕ) → n ≡ 0 → eqb n 1 ≡ false = λ n z. ne_eqb n 1 (λ one. omega arith) in (
-      rw (
-        clear (w / 4 % 2) (omega arith),
-        clear (w / 8 % 2) (omega arith),
-        clear (w / 256 % 2) (omega arith),
-        clear (w / 128 % 2) (omega arith),
-        clear (w / 512 % 2) (omega arith),
-        clear (w / 1024 % 2) (omega arith),
-      ),
-      clear (w / 2 % 2) (omega arith),
-    )
 
 module _ (s : IsoChannelState) (e : IsoEvent) where
   pub calm_way :

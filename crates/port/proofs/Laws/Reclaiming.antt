@@ -24,11 +24,11 @@ use Rattle.session.proofs.Laws.Reclaims.{reclaim_done, looked_sound}
 use Rattle.port.specs.declared.answers.PortReclaimed.{PortReclaimed}
 use Rattle.port.specs.declared.poll.PollSaid.{PollSaid}
 use Rattle.port.specs.Tags.{flag_tag}
-use Rattle.port.specs.Layout.{config_of, head_of, layout_number, session_of, left_bytes}
-use Rattle.port.specs.Calls.{bytes_by, words_by, reclaim_port, reclaim_refused, reclaimed_port, reclaim_by}
+use Rattle.port.specs.Layout.{config_of, head_of, layout_number, session_of}
+use Rattle.port.specs.Calls.{reclaim_port, reclaim_refused, reclaimed_port}
 use Rattle.port.specs.Places.{Acted, Left}
 use Rattle.port.specs.First.{FirstOnly}
-use Rattle.port.proofs.Laws.Calls.{long_enough, refused, done}
+use Rattle.port.proofs.Laws.Calls.{long_enough}
 use Rattle.port.proofs.Laws.InUse.{InUse, kept_layout, looked_in_use, same_place}
 use Rattle.port.proofs.Laws.Left.{left_is, left_over}
 use Rattle.port.proofs.Laws.Placed.{config_there, head_there}
@@ -157,40 +157,3 @@ module _ (xs ring results : List ℕ) (id : ℕ) (e : Option IsoEvent) where
       sym (ap (λ (b : Bool). cond b (handed_results 0 t results) results) on) ∙ ap (λ (n : ℕ). looked_results_at n t results) still in
       let told = reclaim_done s id e ring results {first-look = x} h k look again (ew ∙ words_looked) (ea ∙ handed) in
       (ep ∙ ap reclaimed_port told.0, left_is ec (ap (λ (y : Reclaimed). y.session) told.0), told.1, told.2)
-
--- ---- the call by bytes
-
-module _ (xs ring results : List ℕ) (id : ℕ) (e : Option IsoEvent) where
-  abbrev call : IsoChannelState → Reclaimed
-  call s = reclaimed s id e ring (length results)
-
-  abbrev pub Promised : PortReclaimed → List ℕ → List ℕ → List ℕ → Type 0
-  Promised p ys words after =
-      (p ≡ reclaim_by xs call)
-      × (ys ≡ bytes_by xs (λ (s : IsoChannelState). (call s).session))
-      × (words ≡ words_by xs ring (λ (s : IsoChannelState). reclaimed_ring s id e ring (length results)))
-      × (after ≡ words_by xs results (λ (s : IsoChannelState). reclaimed_results s id e ring results))
-
-  pub refused_by_bytes : {n : ℕ} {p : PortReclaimed} → n ≡ layout_number xs → (n ≡ 0 → ⊥) → p ≡ reclaim_refused n → Promised p xs ring results
-  refused_by_bytes l z ep = (
-    ep ∙ refused xs reclaim_refused (λ (s : IsoChannelState). reclaimed_port (call s)) l z,
-    refused xs (λ (n : ℕ). xs) (λ (s : IsoChannelState). left_bytes xs (call s).session) l z,
-    refused xs (λ (n : ℕ). ring) (λ (s : IsoChannelState). reclaimed_ring s id e ring (length results)) l z,
-    refused xs (λ (n : ℕ). results) (λ (s : IsoChannelState). reclaimed_results s id e ring results) l z,
-  )
-
-  pub done_by_bytes :
-      {n : ℕ} {p : PortReclaimed} {ys words after : List ℕ} → n ≡ layout_number xs → n ≡ 0 → Told xs ring results id e p ys words after
-      → Promised p ys words after
-  done_by_bytes l z told =
-      let s : IsoChannelState = session_of xs in
-      let same : List ℕ → List ℕ = λ (words : List ℕ). words in (
-        told.0 ∙ done xs reclaim_refused call reclaimed_port {s = s} {r = call s} l z refl refl,
-        told.1.bytes ∙ done xs (λ (n : ℕ). xs) call (λ (r : Reclaimed). left_bytes xs r.session) {s = s} {r = call s} l z refl refl,
-        told.2
-            ∙ done xs (λ (n : ℕ). ring) (λ (t : IsoChannelState). reclaimed_ring t id e ring (length results)) same {s = s}
-            {r = reclaimed_ring s id e ring (length results)} l z refl refl,
-        told.3
-            ∙ done xs (λ (n : ℕ). results) (λ (t : IsoChannelState). reclaimed_results t id e ring results) same {s = s}
-            {r = reclaimed_results s id e ring results} l z refl refl,
-      )

@@ -142,19 +142,11 @@ module _ (xs : List ℕ) where
       (any_bad_request (slice 0 s.head.count s.requests)) (is_bad_sums s)
       (any_bad_plan (packet_limit s.cfg.speed) (slots s.cfg) (slice 0 (all_packets s) s.plans)) (is_bad_state s)
 
-  pub bad_before : (is_bad_mark xs || is_bad_head xs) ≡ true → is_unsound xs ≡ true
-  bad_before e =
-      all_tests ∙ ap (λ (b : Bool). b || (is_bad_numbers (session_of xs) || (request_tests || (is_bad_sums (session_of xs) || plan_tests)))) e
-
   pub bad_start : ((is_bad_mark xs || is_bad_head xs) || is_bad_numbers (session_of xs)) ≡ true → is_unsound xs ≡ true
   bad_start e =
       all_tests
       ∙ sym (or_assoc (is_bad_mark xs || is_bad_head xs) (is_bad_numbers (session_of xs)) (request_tests || (is_bad_sums (session_of xs) || plan_tests)))
       ∙ ap (λ (b : Bool). b || (request_tests || (is_bad_sums (session_of xs) || plan_tests))) e
-
-  pub bad_numbers : is_bad_numbers (session_of xs) ≡ true → is_unsound xs ≡ true
-  bad_numbers e =
-      all_tests ∙ second_true (is_bad_mark xs || is_bad_head xs) (ap (λ (b : Bool). b || (request_tests || (is_bad_sums (session_of xs) || plan_tests))) e)
 
   pub bad_sums : is_bad_sums (session_of xs) ≡ true → is_unsound xs ≡ true
   bad_sums e =

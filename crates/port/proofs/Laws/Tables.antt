@@ -96,16 +96,6 @@ module _ (bad : List ℕ → Bool) (w : ℕ) where
       let clear = neither (bad xs) (any_of bad w n (drop w xs)) e in
       ap₂ (λ (x y : Bool). x || y) clear.0 (any_less n m (drop w xs) (omega arith) clear.1)
 
-  -- of the last `k` none is bad, and of those before them, or of more than those
-  pub any_over :
-      (n i k at : ℕ) (xs : List ℕ) → k ≤ n → n - k ≤ i → any_of bad w i (drop at xs) ≡ false → any_of bad w k (drop (at + w * (n - k)) xs) ≡ false
-      → any_of bad w n (drop at xs) ≡ false
-  any_over n i k at xs fits reach before last =
-      let all : n ≡ n - k + k = omega arith in
-      ap (λ (m : ℕ). any_of bad w m (drop at xs)) all
-      ∙ any_split (n - k) k at xs
-      ∙ ap₂ (λ (x y : Bool). x || y) (any_less i (n - k) (drop at xs) reach before) last
-
   pub any_clear : (n i : ℕ) (xs : List ℕ) → i < n → any_of bad w n xs ≡ false → bad (drop (w * i) xs) ≡ false
   unfolding any_of
   any_clear zero i xs h e = absurd (omega arith)

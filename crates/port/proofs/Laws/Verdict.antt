@@ -7,10 +7,14 @@ use Rattle.session.specs.Record.{is_bad_record}
 use Rattle.session.specs.declared.refusal.IsoRefusal.{IsoRefusal}
 use Rattle.session.specs.declared.refusal.IsoRefusal.TheVariants.{ShortBuffer, BadRecord}
 use Rattle.session.specs.Numbers.{refusal_number}
+use Rattle.session.specs.declared.reply.IsoReply.{IsoReply}
 use Rattle.session.specs.declared.types.IsoChannelState.{IsoChannelState}
+use Rattle.port.specs.declared.answers.PortReply.{PortReply}
 use Rattle.port.specs.declared.scan.RequestSums.{RequestSums}
-use Rattle.port.specs.Layout.{is_bad_layout, layout_number, session_of}
+use Rattle.port.specs.Layout.{is_bad_layout, layout_number, session_of, left_bytes}
+use Rattle.port.specs.Calls.{by_bytes, reply_by, bytes_by, reply_port, reply_refused}
 use Rattle.port.specs.Scan.{sums_of, record_sums, verdict_of}
+use Rattle.port.proofs.Laws.Calls.{refused}
 
 module _ (s : IsoChannelState) where
   abbrev told_by : Bool → Option RequestSums
@@ -58,3 +62,17 @@ module _ (xs : List ℕ) where
       go true bad m = grind arith
       go false true m = grind arith
       go false false m = refl
+
+  -- what a call by bytes gives where they are refused
+  pub refused_by :
+      {A : Type 0} (refuse : ℕ → A) (call : IsoChannelState → A) {r : IsoRefusal} → Err r ≡ verdict_of xs → refuse (refusal_number r) ≡ by_bytes xs refuse call
+  refused_by refuse call e = let told = verdict_refused e in refused xs refuse call told.0 told.1
+
+  -- and a call that answers no more than a reply
+  pub reply_refused_by :
+      (call : IsoChannelState → IsoReply) {r : IsoRefusal} {p : PortReply} → Err r ≡ verdict_of xs → p ≡ reply_refused (refusal_number r)
+      → (p ≡ reply_by xs call) × (xs ≡ bytes_by xs (λ (s : IsoChannelState). (call s).session))
+  reply_refused_by call e g = (
+    g ∙ refused_by reply_refused (λ (s : IsoChannelState). reply_port (call s)) e,
+    refused_by (λ (n : ℕ). xs) (λ (s : IsoChannelState). left_bytes xs (call s).session) e,
+  )

@@ -25,7 +25,6 @@ is_alone-requires c =
     ) in
     let first = told in (
       c.requires.0,
-      c.requires.1,
       first.0,
       first.1,
       c.packets_at-n.ensures.0,
@@ -57,7 +56,7 @@ returns c =
       record {
         none_done = first.0;
         others = first.1;
-        covered = omega (arith, c.packets_at-n.ensures.0, c.if-n-all.false, start.requires.2);
+        covered = omega (arith, c.packets_at-n.ensures.0, c.if-n-all.false, start.requires.1);
         polled =
             ap (λ (w : PollWay). polled_by w s ring) (sym way)
             ∙ ap (λ (d : Drained). reply (Ok tt) true false d.session) (c.is_alone.ensures e);

@@ -6,10 +6,10 @@ use Rattle.session.specs.declared.types.IsoPacketPlan.{IsoPacketPlan}
 use Rattle.session.specs.Session.{blank_plan}
 use Rattle.session.specs.Way.{is_held, pending_plans}
 use Rattle.session.proofs.Laws.Sums.{ring_few, packets_split}
-use Rattle.session.proofs.Laws.Record.{Sound, sound}
 use Rattle.session.proofs.Laws.Held.{clash_marked, marks_first, marks_all, mark_set, mark_pending}
 use Rattle.port.specs.Layout.{session_of}
-use Rattle.port.proofs.Laws.Placed.{plan_there, plans_many, requests_many}
+use Rattle.port.proofs.Laws.Placed.{plan_there, plans_many}
+use Rattle.port.proofs.Laws.Walks.{sound_there}
 use Rattle.port.proofs.marks.clash_at.Goals as goal
 
 pub loop-j-init : goal.loop-j-init
@@ -25,7 +25,7 @@ loop-j-init c =
 
 pub bounds-held-plan : goal.bounds-held-plan
 bounds-held-plan c =
-    let good : Sound (session_of c.args.bytes.now) = let xs = c.args.bytes.now in sound (session_of xs) (requests_many xs) (plans_many xs) c.requires.1 in
+    let good = sound_there c.args.bytes.now c.requires.1 in
     let within : c.args.all ≤ 1024 = omega (arith, good.all_few, c.requires.2) in
     let here : c.plan_at-plan.result ≡ get_or (session_of c.args.bytes.now).plans
     c.loop-j.j blank_plan = let start = c in
@@ -40,7 +40,7 @@ bounds-held-plan c =
 
 pub loop-j-preserved : goal.loop-j-preserved
 loop-j-preserved c =
-    let good : Sound (session_of c.args.bytes.now) = let xs = c.args.bytes.now in sound (session_of xs) (requests_many xs) (plans_many xs) c.requires.1 in
+    let good = sound_there c.args.bytes.now c.requires.1 in
     let within : c.args.all ≤ 1024 = omega (arith, good.all_few, c.requires.2) in
     let here : c.plan_at-plan.result ≡ get_or (session_of c.args.bytes.now).plans
     c.loop-j.j blank_plan = let start = c in
@@ -65,7 +65,7 @@ loop-j-preserved c =
 
 pub returns : goal.returns
 returns c =
-    let good : Sound (session_of c.args.bytes.now) = let xs = c.args.bytes.now in sound (session_of xs) (requests_many xs) (plans_many xs) c.requires.1 in
+    let good = sound_there c.args.bytes.now c.requires.1 in
     let pending_in : c.args.pending ≤ c.args.all = let s = session_of c.args.bytes.now in
     let g = good in
     omega (

@@ -25,7 +25,7 @@ returns-in-Nothing c =
     acted xs ring {w = poll_way (session_of xs) start.args.event}
     (sym c.in-Nothing.is ∙ way_is) c.said.ensures.0 c.said.ensures.1
     (same_bytes xs octets
-    start.requires.0) refl
+    start.requires.0.0) refl
 
 pub returns-in-End : goal.returns-in-End
 returns-in-End c =
@@ -81,7 +81,7 @@ returns-in-Wait c =
     acted xs ring {w = poll_way (session_of xs) start.args.event}
     (sym c.in-Wait.is ∙ way_is) c.said-in-Wait.ensures.0 c.said-in-Wait.ensures.1
     (same_bytes xs octets
-    start.requires.0) refl
+    start.requires.0.0) refl
 
 pub returns-in-Settle : goal.returns-in-Settle
 returns-in-Settle c =

@@ -24,7 +24,7 @@ pub poll_at-said-requires : goal.poll_at-said-requires
 poll_at-said-requires c =
     let s = session_of c.args.bytes.now in
     let past = lent_passed s (length c.args.ring.now) c.in-Ok.ensures in
-    (c.requires.0, past.1, ltb-false (length c.args.ring.now) (ring_words s.cfg) past.0)
+    ((c.requires.0, past.1), ltb-false (length c.args.ring.now) (ring_words s.cfg) past.0)
 
 pub returns-in-Ok : goal.returns-in-Ok
 returns-in-Ok c =

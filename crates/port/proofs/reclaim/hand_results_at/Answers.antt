@@ -17,10 +17,9 @@ loop-at-preserved c =
     let v = c.result_at.result in
     let word = c.result_at.ensures ∙ ap result_word (plan_there xs i blank_plan (omega arith)) in
     let on : a.from + (now.at + 1) ≡ i + 1 = omega arith in (
-      now.invariant.0,
-      length-set now.results now.at v ∙ now.invariant.1,
+      length-set now.results now.at v ∙ now.invariant.0,
       ap (λ (k : ℕ). sets (set now.results now.at v) (now.at + 1) (map result_word (slice k a.to (plans_of xs)))) on
           ∙ write_next (map result_word) now.at i a.to (plans_of xs) blank_plan now.results v (omega arith) (omega (arith, plans_many xs))
           (λ rest. ap (λ (x : ℕ). x ∷ map result_word rest) (sym word))
-          ∙ now.invariant.2,
+          ∙ now.invariant.1,
     )

@@ -7,5 +7,5 @@ use Rattle.port.proofs.reclaim.hand_results_at.Given as goal
 
 abbrev pub invariant-loop-at : goal.invariant-loop-at
 invariant-loop-at l =
-    (l.from + l.at-end ≡ l.to) × (length l.results ≡ length l.initial.results)
+    (length l.results ≡ length l.initial.results)
     × (sets l.results l.at (map result_word (slice (l.from + l.at) l.to (plans_of l.bytes))) ≡ sets l.initial.results 0 (map result_word (slice l.from l.to (plans_of l.bytes))))

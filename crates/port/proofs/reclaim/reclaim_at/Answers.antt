@@ -21,7 +21,7 @@ reclaim_good-requires c =
     let xs = a.bytes.now in
     let short = short_there xs a.ring.now a.results.now c.config_at.ensures c.ring_words-words.ensures.0 ∙ c.if-ring-words.false in
     let told = record_some (session_of xs) (sym c.in-Some.is ∙ c.requires.1) in
-    (c.requires.0, told.0, told.1, short)
+    ((c.requires.0, told.0), told.1, short)
 
 pub returns-in-None : goal.returns-in-None
 returns-in-None c =
