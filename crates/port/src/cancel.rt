@@ -13,7 +13,6 @@ use crate::load::{head_at, reason_at};
 use crate::numbers::u64_at;
 use crate::poll::halt_at;
 use session::{IsoHaltReason, IsoOutcome, IsoRefusal};
-use std::num::wrapping_sub_u64;
 
 // The place of the first request with the number, or `count`.
 pub(crate) fn place_at(bytes: &[u8], count: u16, id: u64) -> u16
@@ -37,7 +36,7 @@ fn found_at(bytes: &[u8], done: u16, count: u16, id: u64) -> u16
         × (result < done → result ≡ place_of id (slice 0 count (session_of bytes.now).requests)) }
 {
     if done == 0 {
-        let behind = wrapping_sub_u64(id, u64_at(bytes, 40));
+        let behind = id.wrapping_sub(u64_at(bytes, 40));
         if behind < u64::from(count) && u64_at(bytes, 40 + 20 * behind as usize) == id {
             return behind as u16;
         }
