@@ -108,19 +108,17 @@ fn blank_plan(toggle: DataToggle) -> Dwc2DataPlan
     }
 }
 
-// The plan with one stage more, and the toggle behind it.
-fn add_stage(plan: Dwc2DataPlan, stage: Dwc2TransferStage, m: u16) -> Dwc2DataPlan
-    requires { plan.count < 4 }
-    ensures { result ≡ with_stage m plan stage }
+// One stage more, and the toggle behind it.
+fn add_stage(plan: &mut Dwc2DataPlan, stage: Dwc2TransferStage, m: u16)
+    requires { plan.old.count < 4 }
+    ensures { plan.new ≡ with_stage m plan.old stage }
 {
-    let mut next = plan;
-    next.stages[plan.count as usize] = stage;
-    next.count = plan.count + 1;
-    next.toggle = plan.toggle.advance(packet_count(stage.len as u64, m));
-    next
+    plan.stages[plan.count as usize] = stage;
+    plan.count += 1;
+    plan.toggle = plan.toggle.advance(packet_count(stage.len as u64, m));
 }
 
-// Full stages first, each with its descriptors, address and toggle behind the one before; the last takes what is left.
+// Each stage takes 256 descriptors, or what is left, with its address and toggle behind the one before.
 fn plan_data(request: DataRequest, array: &mut [u32]) -> Dwc2DataPlan
     requires { data_answer request (length array.old) ≡ Ok tt }
     ensures { (result ≡ planned_data request) × (array.new ≡ laid_out (data_stages request) array.old) }
@@ -130,27 +128,19 @@ fn plan_data(request: DataRequest, array: &mut [u32]) -> Dwc2DataPlan
     let hcchar = data_hcchar(request);
     let count = split.count as u32;
     let most = split.chunk * DWC2_MAX_DMA_DESCS;
-    let full = (count - 1) / DWC2_MAX_DMA_DESCS;
     let mut plan = blank_plan(request.toggle);
-    for i in 0..full {
+    for i in 0..count.div_ceil(DWC2_MAX_DMA_DESCS) {
+        let base = i * DWC2_MAX_DMA_DESCS;
+        let before = i * most;
         let over = Stretch {
-            base: i * DWC2_MAX_DMA_DESCS,
-            descs: DWC2_MAX_DMA_DESCS,
-            addr: request.base as u32 + i * most,
-            len: most,
+            base,
+            descs: (count - base).min(DWC2_MAX_DMA_DESCS),
+            addr: request.base as u32 + before,
+            len: (request.len as u32 - before).min(most),
         };
         let stage = data_stage(hcchar, plan.toggle, over);
         build_stage_descs(stage, array);
-        plan = add_stage(plan, stage, m);
+        add_stage(&mut plan, stage, m);
     }
-    let before = full * most;
-    let rest = Stretch {
-        base: full * DWC2_MAX_DMA_DESCS,
-        descs: count - full * DWC2_MAX_DMA_DESCS,
-        addr: request.base as u32 + before,
-        len: request.len as u32 - before,
-    };
-    let stage = data_stage(hcchar, plan.toggle, rest);
-    build_stage_descs(stage, array);
-    add_stage(plan, stage, m)
+    plan
 }

@@ -67,15 +67,14 @@ fn fill_chain(stage: Dwc2TransferStage, words: &mut [u32])
     let mps = mps_of(stage.hcchar);
     let is_in = is_in_of(stage.hcchar);
     let chunk = chunk_of(mps);
-    let last = stage.descs - 1;
+    let last = stage.descs as usize - 1;
+    let mut buf = stage.dma_addr;
     for i in 0..last {
-        let buf = stage.dma_addr + i * chunk;
-        put_link(words, 2 * i as usize, link(buf, chunk, mps, is_in, false));
+        put_link(words, 2 * i, link(buf, chunk, mps, is_in, false));
+        buf += chunk;
     }
-    let before = last * chunk;
-    let buf = stage.dma_addr + before;
-    let rest = stage.len - before;
-    put_link(words, 2 * last as usize, link(buf, rest, mps, is_in, true));
+    let rest = stage.len - last as u32 * chunk;
+    put_link(words, 2 * last, link(buf, rest, mps, is_in, true));
 }
 
 fn link(paddr: u32, len: u32, mps: u16, is_in: bool, last: bool) -> DmaDescriptor

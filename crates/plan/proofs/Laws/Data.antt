@@ -1,5 +1,5 @@
 -- Laws of bulk and interrupt plans: what an accepted request says of its numbers, and how one stage follows another.
-use Rattle.std.proofs.Common.{◌≡◌, ℕ, zero, suc, ◌+◌, ◌-◌, ◌*◌, ◌<◌, ◌≤◌, max, Bool, true, false, cond, ◌||◌, ltb, leb, List, [], ◌∷◌, ◌++◌, length, drop, set, replicate, sym, ap, ◌∙◌, le_trans, add-zero, mod-eq_of_lt, add-mul, mul-le-mul, mul_assoc, one-mul, zero-add, zero-mul, div-mul-le_self, sub-le, add-one, arith, ltb-false, le-leb}
+use Rattle.std.proofs.Common.{◌≡◌, ℕ, zero, suc, ◌+◌, ◌-◌, ◌*◌, ◌<◌, ◌≤◌, min, max, Bool, true, false, cond, ◌||◌, ltb, leb, List, [], ◌∷◌, ◌++◌, length, drop, set, replicate, sym, ap, ◌∙◌, le_trans, add-zero, mod-eq_of_lt, add-mul, mul-le-mul, mul-le-mul_right, mul_assoc, one-mul, zero-add, zero-mul, div-mul-le_self, sub-le, add-one, arith, ltb-false, le-ltb, lt-ltb, le-leb}
 use Rattle.std.specs.Prelude.{Ok}
 use mathlib.Core.Path.{subst, subst⁻¹}
 use borrow.Author.Tests.{lt-leb}
@@ -19,8 +19,9 @@ use Rattle.plan.specs.DataStages.{is_in, ep_type_of, is_low, odd_of, size_of, da
 use Rattle.plan.specs.StageLength.{StageFits}
 use Rattle.plan.specs.Refusals.{◌⇒◌, is_short, is_bad}
 use Rattle.words.proofs.Laws.Tests.{neither}
+use Rattle.plan.proofs.Laws.Laid.{either}
 use Rattle.plan.proofs.Laws.Refusals.{none_holds}
-use Rattle.plan.proofs.Laws.Split.{last_within, packets_some, parts_within, rounded_more}
+use Rattle.plan.proofs.Laws.Split.{chunk_pos, last_within, packets_some, parts_within, rest_within, rounded_more}
 
 -- a chunk is at most the byte count's limit
 pub chunk_small : (m : ℕ) → chunk_of m ≤ 131_071
@@ -142,62 +143,83 @@ planned_is m toggle ss h =
 -- the stages from number i on of so many descriptors, where a full stage is so many bytes and the plan has the stages before
 abbrev pub ahead : ℕ → ℕ → ℕ → Dwc2DataPlan → ℕ → ℕ → ℕ → ℕ → List Dwc2TransferStage
 ahead hcchar m most plan descs len addr i =
-    stages_from hcchar m (4 - plan.count) (descs - i * 256) (len - i * most) (addr + i * most) (i * 256) plan.toggle.0
+    cond
+    (ltb (i * 256) descs)
+    (stages_from hcchar m (4 - plan.count) (descs - i * 256) (len - i * most) (addr + i * most) (i * 256) plan.toggle.0)
+    []
+
+ahead_some :
+    (hcchar m most descs len addr i : ℕ) (plan : Dwc2DataPlan) → i * 256 < descs
+    → ahead hcchar m most plan descs len addr i
+    ≡ stages_from hcchar m (4 - plan.count) (descs - i * 256) (len - i * most) (addr + i * most) (i * 256) plan.toggle.0
+ahead_some hcchar m most descs len addr i plan h =
+    ap
+    (λ (b : Bool). cond b (stages_from hcchar m (4 - plan.count) (descs - i * 256) (len - i * most) (addr + i * most) (i * 256) plan.toggle.0) [])
+    (lt-ltb (i * 256) descs h)
+
+pub ahead_none : (hcchar m most descs len addr i : ℕ) (plan : Dwc2DataPlan) → descs ≤ i * 256 → ahead hcchar m most plan descs len addr i ≡ []
+ahead_none hcchar m most descs len addr i plan h =
+    ap
+    (λ (b : Bool). cond b (stages_from hcchar m (4 - plan.count) (descs - i * 256) (len - i * most) (addr + i * most) (i * 256) plan.toggle.0) [])
+    (le-ltb (i * 256) descs h)
 
 -- with no stage yet all are still to come
 pub ahead_all :
-    (hcchar m most descs len addr : ℕ) (toggle : DataToggle)
+    (hcchar m most descs len addr : ℕ) (toggle : DataToggle) → 0 < descs
     → ahead hcchar m most (blank_plan toggle) descs len addr 0 ≡ stages_from hcchar m 4 descs len addr 0 toggle.0
-ahead_all hcchar m most descs len addr toggle =
+ahead_all hcchar m most descs len addr toggle some =
+    let n : descs - 0 * 256 ≡ descs = omega arith in
     let p : len - 0 * most ≡ len = omega (arith, zero-mul most) in
     let q : addr + 0 * most ≡ addr = omega (arith, zero-mul most) in
-    let n : descs - 0 * 256 ≡ descs = omega arith in
-    λ j. stages_from hcchar m 4 (n j) (p j) (q j) 0 toggle.0
+    ahead_some hcchar m most descs len addr 0 (blank_plan toggle) some ∙ (λ j. stages_from hcchar m 4 (n j) (p j) (q j) 0 toggle.0)
 
--- a full stage, and those behind it
+-- a stage, and those behind it
 ahead_more :
-    (hcchar m most descs len addr i : ℕ) (plan : Dwc2DataPlan) → plan.count ≡ i → i < 4 → (i + 1) * 256 < descs → most ≡ 256 * chunk_of m
-    → (s : Dwc2TransferStage) → s ≡ data_stage hcchar 256 most (addr + i * most) (i * 256) plan.toggle.0
+    (hcchar m most descs len addr i : ℕ) (plan : Dwc2DataPlan) → plan.count ≡ i → i < 4 → i * 256 < descs → most ≡ 256 * chunk_of m
+    → (256 < descs - i * 256 → most ≤ len - i * most)
+    → (descs - i * 256 ≤ 256 → len - i * most ≤ most)
+    → (s : Dwc2TransferStage) → s ≡ data_stage hcchar (min (descs - i * 256) 256) (min (len - i * most) most) (addr + i * most) (i * 256) plan.toggle.0
     → ahead hcchar m most plan descs len addr i ≡ s ∷ ahead hcchar m most (with_stage m plan s) descs len addr (i + 1)
-ahead_more hcchar m most descs len addr i plan e few more em s es =
-    let k = 256 * chunk_of m in
-    let t = plan.toggle.0 in
-    let full : k ≡ most = sym em in
-    let f : 4 - plan.count - 1 ≡ 4 - (plan.count + 1) = omega arith in
-    let d : descs - i * 256 - 256 ≡ descs - (i + 1) * 256 = omega arith in
-    let l : len - i * most - k ≡ len - (i + 1) * most = omega (arith, add-mul i 1 most, one-mul most) in
-    let a : addr + i * most + k ≡ addr + (i + 1) * most = omega (arith, add-mul i 1 most, one-mul most) in
-    let b : i * 256 + 256 ≡ (i + 1) * 256 = omega arith in
-    stages_more hcchar m (4 - plan.count) (descs - i * 256) (len - i * most) (addr + i * most) (i * 256) t (omega arith) (omega arith)
-    ∙ (λ j. data_stage hcchar 256 (full j) (addr + i * most) (i * 256) t ∷ stages_from hcchar m (f j) (d j) (l j) (a j) (b j) (advanced t (packets (full j) m)))
-    ∙ ap (λ (s : Dwc2TransferStage). s ∷ ahead hcchar m most (with_stage m plan s) descs len addr (i + 1)) (sym es)
+ahead_more hcchar m most descs len addr i plan e few some em full rest s es =
+    ahead_some hcchar m most descs len addr i plan some ∙ either 256 (descs - i * 256) more last
+  where
+    more :
+        256 < descs - i * 256
+        → stages_from hcchar m (4 - plan.count) (descs - i * 256) (len - i * most) (addr + i * most) (i * 256) plan.toggle.0
+        ≡ s ∷ ahead hcchar m most (with_stage m plan s) descs len addr (i + 1)
+    more h =
+        let k = 256 * chunk_of m in
+        let t = plan.toggle.0 in
+        let within : most ≤ len - i * most = full h in
+        let c : 256 ≡ min (descs - i * 256) 256 = omega arith in
+        let w : k ≡ min (len - i * most) most = omega arith in
+        let f : 4 - plan.count - 1 ≡ 4 - (plan.count + 1) = omega arith in
+        let d : descs - i * 256 - 256 ≡ descs - (i + 1) * 256 = omega arith in
+        let l : len - i * most - k ≡ len - (i + 1) * most = omega (arith, add-mul i 1 most, one-mul most) in
+        let a : addr + i * most + k ≡ addr + (i + 1) * most = omega (arith, add-mul i 1 most, one-mul most) in
+        let b : i * 256 + 256 ≡ (i + 1) * 256 = omega arith in
+        let on : (i + 1) * 256 < descs = omega arith in
+        stages_more hcchar m (4 - plan.count) (descs - i * 256) (len - i * most) (addr + i * most) (i * 256) t (omega arith) h
+        ∙ (λ j. data_stage hcchar (c j) (w j) (addr + i * most) (i * 256) t ∷ stages_from hcchar m (f j) (d j) (l j) (a j) (b j) (advanced t (packets (w j) m)))
+        ∙ ap
+        (λ (s : Dwc2TransferStage). s ∷ stages_from hcchar m (4 - (plan.count + 1)) (descs - (i + 1) * 256) (len - (i + 1) * most) (addr + (i + 1) * most)
+        ((i + 1) * 256) (advanced t (packets s.len m)))
+        (sym es)
+        ∙ ap (λ (ss : List Dwc2TransferStage). s ∷ ss) (sym (ahead_some hcchar m most descs len addr (i + 1) (with_stage m plan s) on))
 
--- a turn: a full stage is laid out and added, and what is still to do gives what was to do
-pub turn :
-    (hcchar m most descs len addr i : ℕ) (plan plan' : Dwc2DataPlan) (s : Dwc2TransferStage) (a a' : List ℕ)
-    → plan.count ≡ i → i < 4 → (i + 1) * 256 < descs → most ≡ 256 * chunk_of m
-    → s ≡ data_stage hcchar 256 most (addr + i * most) (i * 256) plan.toggle.0
-    → a' ≡ laid_stage s a
-    → plan' ≡ with_stage m plan s
-    → (laid_out (ahead hcchar m most plan' descs len addr (i + 1)) a' ≡ laid_out (ahead hcchar m most plan descs len addr i) a)
-    × (with_stages m plan' (ahead hcchar m most plan' descs len addr (i + 1)) ≡ with_stages m plan (ahead hcchar m most plan descs len addr i))
-turn hcchar m most descs len addr i plan plan' s a a' e few l em es ea ep =
-    let more = ahead_more hcchar m most descs len addr i plan e few l em s es in (
-      rw (ea, ep) (ap (λ (ss : List Dwc2TransferStage). laid_out ss a) (sym more)),
-      rw ep (ap (with_stages m plan) (sym more)),
-    )
-
--- the last stage takes what is left
-pub last_turn :
-    (hcchar m most descs len addr i : ℕ) (plan plan' : Dwc2DataPlan) (s : Dwc2TransferStage) (a a' : List ℕ)
-    → plan.count < 4 → descs - i * 256 ≤ 256
-    → s ≡ data_stage hcchar (descs - i * 256) (len - i * most) (addr + i * most) (i * 256) plan.toggle.0
-    → a' ≡ laid_stage s a
-    → plan' ≡ with_stage m plan s
-    → (a' ≡ laid_out (ahead hcchar m most plan descs len addr i) a) × (plan' ≡ with_stages m plan (ahead hcchar m most plan descs len addr i))
-last_turn hcchar m most descs len addr i plan plan' s a a' h l es ea ep =
-    let one = stages_last hcchar m (4 - plan.count) (descs - i * 256) (len - i * most) (addr + i * most) (i * 256) plan.toggle.0 (omega arith) l in
-    (rw (ea, es) (ap (λ (ss : List Dwc2TransferStage). laid_out ss a) (sym one)), rw (ep, es) (ap (with_stages m plan) (sym one)))
+    last :
+        descs - i * 256 ≤ 256
+        → stages_from hcchar m (4 - plan.count) (descs - i * 256) (len - i * most) (addr + i * most) (i * 256) plan.toggle.0
+        ≡ s ∷ ahead hcchar m most (with_stage m plan s) descs len addr (i + 1)
+    last h =
+        let within : len - i * most ≤ most = rest h in
+        let c : descs - i * 256 ≡ min (descs - i * 256) 256 = omega arith in
+        let w : len - i * most ≡ min (len - i * most) most = omega arith in
+        let none : descs ≤ (i + 1) * 256 = omega arith in
+        stages_last hcchar m (4 - plan.count) (descs - i * 256) (len - i * most) (addr + i * most) (i * 256) plan.toggle.0 (omega arith) h
+        ∙ (λ j. data_stage hcchar (c j) (w j) (addr + i * most) (i * 256) plan.toggle.0 ∷ [])
+        ∙ ap (λ (s : Dwc2TransferStage). s ∷ []) (sym es)
+        ∙ ap (λ (ss : List Dwc2TransferStage). s ∷ ss) (sym (ahead_none hcchar m most descs len addr (i + 1) (with_stage m plan s) none))
 
 -- 256 descriptors of full chunks are within what is left, and full chunks before the last are left of the rest
 pub full_left : (left k len : ℕ) → 256 < left → (left - 1) * k ≤ len → (256 * k ≤ len) × ((left - 256 - 1) * k ≤ len - 256 * k)
@@ -206,24 +228,6 @@ full_left left k len l h =
     let e : left - 1 ≡ left - 256 - 1 + 256 = omega arith in ap (λ (n : ℕ). n * k) e ∙ add-mul (left - 256 - 1) 256 k in
     omega arith
 
--- so many full stages are within the length, and full chunks before the last are left of the rest
-pub stages_within :
-    (i k most descs len : ℕ) → most ≡ 256 * k → i * 256 < descs → (descs - 1) * k ≤ len
-    → (i * most ≤ len) × ((descs - i * 256 - 1) * k ≤ len - i * most)
-stages_within i k most descs len em h f =
-    let e : descs - 1 ≡ descs - i * 256 - 1 + i * 256 = omega arith in
-    let parts : (descs - 1) * k ≡ (descs - i * 256 - 1) * k + i * 256 * k = ap (λ (n : ℕ). n * k) e ∙ add-mul (descs - i * 256 - 1) (i * 256) k in
-    let whole : i * 256 * k ≡ i * most = mul_assoc i 256 k ∙ ap (λ (n : ℕ). i * n) (sym em) in
-    omega arith
-
--- a stage that the plan makes fits the array and the address limit
-pub stage_fits :
-    (hcchar m words descs len addr base : ℕ) (t : Bool) → get packet_size hcchar ≡ m → 0 < descs → 2 * (base + descs) ≤ words → (descs - 1) * chunk_of m ≤ len
-    → addr + len ≤ 4_294_967_295
-    → StageFits (data_stage hcchar descs len addr base t) words
-stage_fits hcchar m words descs len addr base t e some room full reach =
-    record { some = some; room = room; full = subst⁻¹ (λ (p : ℕ). (descs - 1) * chunk_of p ≤ len) e full; reach = reach }
-
 -- what the numbers of an accepted request's plan keep to
 pub record Sized (r : DataRequest) (hcchar m count most words : ℕ) : Type 0 where
   pub size_is : get packet_size hcchar ≡ m
@@ -231,6 +235,7 @@ pub record Sized (r : DataRequest) (hcchar m count most words : ℕ) : Type 0 wh
   pub some : 0 < count
   pub few : count ≤ 1024
   pub full : (count - 1) * chunk_of m ≤ r.len
+  pub fit : r.len ≤ (count - 1) * chunk_of m + chunk_of m
   pub near : r.base + r.len ≤ 4_294_967_295
   pub long : 2048 ≤ words
 
@@ -242,12 +247,81 @@ sized r hcchar m split words e eh em es =
     let split_is : split ≡ split_of r.len (size_of r) = es ∙ ap (split_of r.len) em in
     let chunk_is : split.chunk ≡ chunk_of m = ap (λ (s : DmaSplit). s.chunk) es in
     let count_is : packets r.len (chunk_of m) ≡ split.count = sym (ap (λ (s : DmaSplit). s.count) es) in
+    let small : m ≤ 65_536 = omega (arith, facts.size) in
     record {
       size_is = ap (get packet_size) eh ∙ hcchar_size r facts.size ∙ sym em;
       most_is = omega (arith, chunk_is);
       some = subst (λ (n : ℕ). 0 < n) count_is (packets_some r.len (chunk_of m));
       few = subst⁻¹ (λ (s : DmaSplit). s.count ≤ 1024) split_is facts.few;
       full = subst (λ (n : ℕ). (n - 1) * chunk_of m ≤ r.len) count_is (parts_within r.len (chunk_of m));
+      fit = subst (λ (n : ℕ). r.len ≤ (n - 1) * chunk_of m + chunk_of m) count_is (omega (arith, rest_within r.len (chunk_of m) (chunk_pos m small)));
       near = omega (arith, facts.near, rounded_more r.len (size_of r) (is_in r.direction));
       long = facts.long;
     }
+
+-- what they say of stage i
+module _ (r : DataRequest) (hcchar m count most words i : ℕ) (s : Sized r hcchar m count most words) (h : i * 256 < count) where
+  parts : (count - 1) * chunk_of m ≡ (count - i * 256 - 1) * chunk_of m + i * most
+  parts =
+      let e : count - 1 ≡ count - i * 256 - 1 + i * 256 = omega arith in
+      let em : most ≡ 256 * chunk_of m = s.most_is in
+      ap (λ (n : ℕ). n * chunk_of m) e
+      ∙ add-mul (count - i * 256 - 1) (i * 256) (chunk_of m)
+      ∙ ap (λ (n : ℕ). (count - i * 256 - 1) * chunk_of m + n) (mul_assoc i 256 (chunk_of m) ∙ ap (λ (n : ℕ). i * n) (sym em))
+
+  -- the stages before it are within the length
+  pub stages_within : i * most ≤ r.len
+  stages_within = let f = s.full in omega (arith, parts)
+
+  -- it is full where others come behind it
+  pub takes_full : 256 < count - i * 256 → most ≤ r.len - i * most
+  takes_full l =
+      let f = s.full in
+      let e : count - i * 256 - 1 ≡ count - i * 256 - 1 - 256 + 256 = omega arith in
+      let e' : (count - i * 256 - 1) * chunk_of m ≡ (count - i * 256 - 1 - 256) * chunk_of m + 256 * chunk_of m =
+      ap (λ (n : ℕ). n * chunk_of m) e ∙ add-mul (count - i * 256 - 1 - 256) 256 (chunk_of m) in
+      omega (arith, parts, s.most_is)
+
+  -- and takes what is left where none does
+  pub takes_rest : count - i * 256 ≤ 256 → r.len - i * most ≤ most
+  takes_rest l =
+      let f = s.fit in
+      let last : count - i * 256 - 1 ≤ 255 = omega arith in
+      let e : (count - i * 256 - 1) * chunk_of m ≤ 255 * chunk_of m = mul-le-mul_right (chunk_of m) last in
+      omega (arith, parts, s.most_is)
+
+  -- it fits the array and the address limit
+  pub stage_fits :
+      (array : List ℕ) (t : Bool) → length array ≡ words
+      → StageFits (data_stage hcchar (min (count - i * 256) 256) (min (r.len - i * most) most) (r.base + i * most) (i * 256) t) (length array)
+  stage_fits array t e =
+      let few = s.few in
+      let long = s.long in
+      let near = s.near in
+      let within = stages_within in
+      let left : min (count - i * 256) 256 - 1 ≤ count - i * 256 - 1 = omega arith in
+      let most_left : min (count - i * 256) 256 - 1 ≤ 256 = omega arith in
+      let a : (min (count - i * 256) 256 - 1) * chunk_of m ≤ (count - i * 256 - 1) * chunk_of m = mul-le-mul_right (chunk_of m) left in
+      let b : (min (count - i * 256) 256 - 1) * chunk_of m ≤ 256 * chunk_of m = mul-le-mul_right (chunk_of m) most_left in
+      let full : (min (count - i * 256) 256 - 1) * chunk_of m ≤ min (r.len - i * most) most = omega (arith, parts, s.full, s.most_is) in
+      record {
+        some = omega arith;
+        room = omega arith;
+        full = subst⁻¹ (λ (p : ℕ). (min (count - i * 256) 256 - 1) * chunk_of p ≤ min (r.len - i * most) most) s.size_is full;
+        reach = omega arith;
+      }
+
+  -- A turn: it is laid out and added, and what is still to do gives what was to do.
+  pub turn :
+      (plan plan' : Dwc2DataPlan) (stage : Dwc2TransferStage) (a a' : List ℕ) → plan.count ≡ i
+      → stage ≡ data_stage hcchar (min (count - i * 256) 256) (min (r.len - i * most) most) (r.base + i * most) (i * 256) plan.toggle.0
+      → a' ≡ laid_stage stage a
+      → plan' ≡ with_stage m plan stage
+      → (laid_out (ahead hcchar m most plan' count r.len r.base (i + 1)) a' ≡ laid_out (ahead hcchar m most plan count r.len r.base i) a)
+      × (with_stages m plan' (ahead hcchar m most plan' count r.len r.base (i + 1)) ≡ with_stages m plan (ahead hcchar m most plan count r.len r.base i))
+  turn plan plan' stage a a' e es ea ep =
+      let few = s.few in
+      let more = ahead_more hcchar m most count r.len r.base i plan e (omega arith) h s.most_is takes_full takes_rest stage es in (
+        rw (ea, ep) (ap (λ (ss : List Dwc2TransferStage). laid_out ss a) (sym more)),
+        rw ep (ap (with_stages m plan) (sym more)),
+      )
