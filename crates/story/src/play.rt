@@ -75,19 +75,15 @@ pub(crate) type Acts = [Seen; ACTS];
 pub(crate) fn all() -> Acts {
     let mut ring = [0u32; 128];
     let mut session = open(&mut ring);
-    let said = Said::default();
-    let head = session.head;
-    let mut seen = [Seen { said, head, ring }; ACTS];
-    for (i, act) in SCRIPT.iter().enumerate() {
-        let Step {
-            session: next,
-            said,
-        } = play(session, *act, &mut ring);
-        session = next;
-        let head = session.head;
-        seen[i] = Seen { said, head, ring };
-    }
-    seen
+    SCRIPT.map(|act| {
+        let step = play(session, act, &mut ring);
+        session = step.session;
+        Seen {
+            said: step.said,
+            head: session.head,
+            ring,
+        }
+    })
 }
 
 fn play(session: IsoChannelState, act: Act, ring: &mut [u32]) -> Step {
