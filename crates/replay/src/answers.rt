@@ -19,7 +19,7 @@ pub(crate) fn put(numbers: &mut [u64], at: usize, value: u64) -> usize
     at
 }
 
-// Numbers of a line as a call takes them: their low bits, which `as` alone may not cut off.
+// Numbers of a line as a call takes them: their low bits. One generic function would want a trait with these three as its impls.
 pub(crate) fn byte_at(numbers: &[u64], at: usize) -> u8 {
     (nth(numbers, at) & 0xff) as u8
 }
