@@ -4,21 +4,13 @@ ghost use Rattle.session.specs.Numbers.{submit_number, submit_value, answer_numb
 
 use session::{IsoAnswer, IsoOutcome, ReclaimAnswer, SubmitAnswer};
 
-pub(crate) fn flag(yes: bool) -> u64 {
-    if yes {
-        return 1;
-    }
-    0
-}
-
 pub(crate) fn number_of(answer: SubmitAnswer) -> u64
     ensures { result ≡ submit_value answer }
 {
     match answer {
         SubmitAnswer::Accepted(id) => id,
-        SubmitAnswer::Cut => 0,
-        SubmitAnswer::Refused(_) => 0,
-        SubmitAnswer::PacketTooLong(index) => index as u64,
+        SubmitAnswer::Cut | SubmitAnswer::Refused(_) => 0,
+        SubmitAnswer::PacketTooLong(index) => u64::from(index),
     }
 }
 
@@ -26,20 +18,14 @@ pub(crate) fn refusal_of(answer: SubmitAnswer) -> u64
     ensures { result ≡ submit_number answer }
 {
     match answer {
-        SubmitAnswer::Accepted(_) => 0,
-        SubmitAnswer::Cut => 0,
-        SubmitAnswer::Refused(number) => number as u64,
+        SubmitAnswer::Accepted(_) | SubmitAnswer::Cut => 0,
+        SubmitAnswer::Refused(number) => u64::from(number),
         SubmitAnswer::PacketTooLong(_) => 9,
     }
 }
 
-pub(crate) fn is_cut(answer: SubmitAnswer) -> u64 {
-    match answer {
-        SubmitAnswer::Accepted(_) => 0,
-        SubmitAnswer::Cut => 1,
-        SubmitAnswer::Refused(_) => 0,
-        SubmitAnswer::PacketTooLong(_) => 0,
-    }
+pub(crate) fn is_cut(answer: SubmitAnswer) -> bool {
+    matches!(answer, SubmitAnswer::Cut)
 }
 
 pub(crate) fn answer_number(answer: IsoAnswer) -> u64
@@ -47,7 +33,7 @@ pub(crate) fn answer_number(answer: IsoAnswer) -> u64
 {
     match answer {
         IsoAnswer::Done => 0,
-        IsoAnswer::Refused(number) => number as u64,
+        IsoAnswer::Refused(number) => u64::from(number),
     }
 }
 
@@ -55,9 +41,8 @@ pub(crate) fn reclaim_number(answer: ReclaimAnswer) -> u64
     ensures { result ≡ reclaim_number answer }
 {
     match answer {
-        ReclaimAnswer::Completed(_, _, _) => 0,
-        ReclaimAnswer::NotYet => 0,
-        ReclaimAnswer::Refused(number) => number as u64,
+        ReclaimAnswer::Completed(_, _, _) | ReclaimAnswer::NotYet => 0,
+        ReclaimAnswer::Refused(number) => u64::from(number),
     }
 }
 
@@ -65,9 +50,8 @@ pub(crate) fn total_of(answer: ReclaimAnswer) -> u64
     ensures { result ≡ reclaim_length answer }
 {
     match answer {
-        ReclaimAnswer::Completed(_, total, _) => total as u64,
-        ReclaimAnswer::NotYet => 0,
-        ReclaimAnswer::Refused(_) => 0,
+        ReclaimAnswer::Completed(_, total, _) => u64::from(total),
+        ReclaimAnswer::NotYet | ReclaimAnswer::Refused(_) => 0,
     }
 }
 
@@ -75,9 +59,8 @@ pub(crate) fn packets_of(answer: ReclaimAnswer) -> u64
     ensures { result ≡ reclaim_packets answer }
 {
     match answer {
-        ReclaimAnswer::Completed(_, _, packets) => packets as u64,
-        ReclaimAnswer::NotYet => 0,
-        ReclaimAnswer::Refused(_) => 0,
+        ReclaimAnswer::Completed(_, _, packets) => u64::from(packets),
+        ReclaimAnswer::NotYet | ReclaimAnswer::Refused(_) => 0,
     }
 }
 
@@ -101,20 +84,16 @@ fn kind_of(outcome: IsoOutcome) -> u64 {
 }
 
 // The interrupt word of a fault or of an unexpected halt.
-pub(crate) fn word_of(answer: ReclaimAnswer) -> u64 {
+pub(crate) fn word_of(answer: ReclaimAnswer) -> u32 {
     match answer {
         ReclaimAnswer::Completed(outcome, _, _) => halt_word(outcome),
-        ReclaimAnswer::NotYet => 0,
-        ReclaimAnswer::Refused(_) => 0,
+        ReclaimAnswer::NotYet | ReclaimAnswer::Refused(_) => 0,
     }
 }
 
-fn halt_word(outcome: IsoOutcome) -> u64 {
+fn halt_word(outcome: IsoOutcome) -> u32 {
     match outcome {
-        IsoOutcome::Done => 0,
-        IsoOutcome::Disconnected => 0,
-        IsoOutcome::Cancelled => 0,
-        IsoOutcome::Fault(_, word) => word as u64,
-        IsoOutcome::UnexpectedHalt(word) => word as u64,
+        IsoOutcome::Done | IsoOutcome::Disconnected | IsoOutcome::Cancelled => 0,
+        IsoOutcome::Fault(_, word) | IsoOutcome::UnexpectedHalt(word) => word,
     }
 }
