@@ -1,13 +1,10 @@
 // The story's calls on the session. Each gives back the session beside what it said, so that rows are printed where no session is.
 // What a call promises is left out.
-use crate::answers::{
-    answer_number, is_cut, number_of, outcome_of, packets_of, reclaim_number, refusal_of, total_of,
-    word_of,
-};
+use crate::answers::{number_of, outcome_of, packets_of, refusal_of, total_of, word_of};
 use ring::Speed;
 use session::{
-    IsoChannelStart, IsoChannelState, IsoConfig, IsoEvent, IsoMode, IsoReply, IsoTransfer,
-    ReclaimAnswer, SubmitAnswer,
+    IsoChannelStart, IsoChannelState, IsoCompletion, IsoConfig, IsoEvent, IsoMode, IsoRefusal,
+    IsoReply, IsoSubmission, IsoTransfer,
 };
 use words::Direction;
 
@@ -100,18 +97,24 @@ fn submit(
     }
 }
 
-fn sent(answer: SubmitAnswer, start: IsoChannelStart) -> Said {
-    Said {
+fn sent(answer: Result<IsoSubmission, IsoRefusal>, start: Option<IsoChannelStart>) -> Said {
+    let said = Said {
         refusal: refusal_of(answer),
         number: number_of(answer),
-        cut: is_cut(answer),
-        starts: start.first,
+        cut: matches!(answer, Ok(IsoSubmission::Cut)),
+        ..Said::default()
+    };
+    let Some(start) = start else {
+        return said;
+    };
+    Said {
+        starts: true,
         hcchar: start.hcchar,
         hctsiz: start.hctsiz,
         hcintmsk: start.hcintmsk,
         entries: start.frames.count,
         frame: start.frames.frames[0],
-        ..Said::default()
+        ..said
     }
 }
 
@@ -128,11 +131,10 @@ pub(crate) fn serve(session: IsoChannelState, ring: &mut [u32], at: usize, word:
 
 pub(crate) fn poll(session: IsoChannelState, hcint: u32, ring: &mut [u32]) -> Step {
     let event = IsoEvent {
-        reported: true,
         unplugged: false,
         hcint,
     };
-    told(session.poll_channel(event, ring))
+    told(session.poll_channel(Some(event), ring))
 }
 
 pub(crate) fn cancel(session: IsoChannelState, id: u64) -> Step {
@@ -151,7 +153,7 @@ fn told(reply: IsoReply) -> Step {
     Step {
         session: reply.session,
         said: Said {
-            refusal: answer_number(reply.answer),
+            refusal: refusal_of(reply.answer),
             taken: reply.taken,
             halt: reply.halt,
             ..Said::default()
@@ -162,21 +164,16 @@ fn told(reply: IsoReply) -> Step {
 // With no event, and results that were all 7.
 pub(crate) fn reclaim(session: IsoChannelState, id: u64, ring: &mut [u32]) -> Step {
     let mut results = [7u64; 255];
-    let event = IsoEvent {
-        reported: false,
-        unplugged: false,
-        hcint: 0,
-    };
-    let done = session.reclaim(id, event, ring, &mut results);
+    let done = session.reclaim(id, None, ring, &mut results);
     Step {
         session: done.session,
         said: handed(done.answer, [results[0], results[1], results[2]]),
     }
 }
 
-fn handed(answer: ReclaimAnswer, results: [u64; 3]) -> Said {
+fn handed(answer: Result<Option<IsoCompletion>, IsoRefusal>, results: [u64; 3]) -> Said {
     Said {
-        refusal: reclaim_number(answer),
+        refusal: refusal_of(answer),
         outcome: outcome_of(answer),
         fault: word_of(answer),
         total: total_of(answer),
