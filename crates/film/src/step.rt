@@ -1,18 +1,19 @@
 // The acts on the session. Each gives back the session beside what the call said, so that nothing is printed where a session is.
 use crate::script::{Act, Run};
 use session::{
-    IsoChannelState, IsoConfig, IsoEvent, IsoOutcome, IsoTransfer, ReclaimAnswer, SubmitAnswer,
+    IsoChannelState, IsoCompletion, IsoConfig, IsoEvent, IsoOutcome, IsoRefusal, IsoSubmission,
+    IsoTransfer,
 };
 use std::fmt;
 use words::Direction;
 
-// What a call said: the number of the request or of the refusal, and the bytes handed out. Unfinished is what no scene comes to: a
+// What a call said: the number of the request, the bytes handed out, or why it is refused. Unfinished is what no scene comes to: a
 // request that is not settled yet, or ended another way.
 #[derive(Clone, Copy)]
 pub(crate) enum Said {
     Accepted(u64),
     Cut,
-    Refused(u16),
+    Refused(IsoRefusal),
     Done(u64, u32),
     Disconnected(u64),
     Unfinished(u64),
@@ -23,7 +24,7 @@ impl fmt::Display for Said {
         match self {
             Said::Accepted(id) => write!(f, "accepted as request {id}"),
             Said::Cut => f.write_str("cut"),
-            Said::Refused(number) => write!(f, "refused with {number}"),
+            Said::Refused(refusal) => write!(f, "refused with {}", u16::from(*refusal)),
             Said::Done(id, bytes) => write!(f, "request {id} done, {bytes} bytes"),
             Said::Disconnected(id) => write!(f, "request {id} disconnected"),
             Said::Unfinished(id) => write!(f, "request {id} not done"),
@@ -97,12 +98,11 @@ fn transfer(reading: u32, packets: u16, words: u32) -> IsoTransfer {
     }
 }
 
-fn submit_said(answer: SubmitAnswer) -> Said {
+fn submit_said(answer: Result<IsoSubmission, IsoRefusal>) -> Said {
     match answer {
-        SubmitAnswer::Accepted(id) => Said::Accepted(id),
-        SubmitAnswer::Cut => Said::Cut,
-        SubmitAnswer::Refused(number) => Said::Refused(number),
-        SubmitAnswer::PacketTooLong(_) => Said::Refused(9),
+        Ok(IsoSubmission::Accepted(id)) => Said::Accepted(id),
+        Ok(IsoSubmission::Cut) => Said::Cut,
+        Err(refusal) => Said::Refused(refusal),
     }
 }
 
@@ -121,22 +121,24 @@ fn served(session: IsoChannelState, slot: u16, status: u32, ring: &mut [u32]) ->
 fn collected(session: IsoChannelState, id: u64, ring: &mut [u32]) -> Step {
     let mut results = [0u64; 255];
     let event = IsoEvent {
-        reported: true,
         unplugged: false,
         hcint: 0,
     };
-    let done = session.reclaim(id, event, ring, &mut results);
+    let done = session.reclaim(id, Some(event), ring, &mut results);
     Step {
         session: done.session,
         said: Some(reclaim_said(id, done.answer)),
     }
 }
 
-fn reclaim_said(id: u64, answer: ReclaimAnswer) -> Said {
+fn reclaim_said(id: u64, answer: Result<Option<IsoCompletion>, IsoRefusal>) -> Said {
     match answer {
-        ReclaimAnswer::Completed(IsoOutcome::Done, total, _) => Said::Done(id, total),
-        ReclaimAnswer::Completed(IsoOutcome::Disconnected, _, _) => Said::Disconnected(id),
-        ReclaimAnswer::Completed(_, _, _) | ReclaimAnswer::NotYet => Said::Unfinished(id),
-        ReclaimAnswer::Refused(number) => Said::Refused(number),
+        Ok(Some(completion)) => match completion.outcome {
+            IsoOutcome::Done => Said::Done(id, completion.actual_length),
+            IsoOutcome::Disconnected => Said::Disconnected(id),
+            _ => Said::Unfinished(id),
+        },
+        Ok(None) => Said::Unfinished(id),
+        Err(refusal) => Said::Refused(refusal),
     }
 }
