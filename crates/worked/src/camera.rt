@@ -9,7 +9,7 @@ ghost use Rattle.worked.specs.Camera.{camera_config, camera_transfer, use_mark, 
 
 use crate::row::{Line, lines};
 use ring::Speed;
-use session::{IsoChannelState, IsoConfig, IsoMode, IsoTransfer, SubmitAnswer};
+use session::{IsoChannelState, IsoConfig, IsoMode, IsoRefusal, IsoSubmission, IsoTransfer};
 use std::io;
 use words::Direction;
 
@@ -30,7 +30,7 @@ fn compatible(rt: &impl Print) -> io::Result<usize>
     let second = nth_in_use(&ring, 1);
     ring[20] = 0;
     ring[22] = 0;
-    again(session, &mut ring);
+    let _ = again(session, &mut ring);
     lines(
         rt,
         &[
@@ -136,7 +136,7 @@ fn pending(mode: IsoMode, ring: &mut [u32]) -> IsoChannelState
     done.session
 }
 
-fn again(session: IsoChannelState, ring: &mut [u32]) -> SubmitAnswer
+fn again(session: IsoChannelState, ring: &mut [u32]) -> Result<IsoSubmission, IsoRefusal>
     ensures { (result ≡ (submitted session (camera_transfer 71 384) (192 ∷ 192 ∷ []) ring.old).answer)
         × (ring.new ≡ submitted_ring session (camera_transfer 71 384) (192 ∷ 192 ∷ []) ring.old) }
 {
@@ -144,13 +144,12 @@ fn again(session: IsoChannelState, ring: &mut [u32]) -> SubmitAnswer
     done.answer
 }
 
-fn refusal_of(answer: SubmitAnswer) -> u64
+fn refusal_of(answer: Result<IsoSubmission, IsoRefusal>) -> u64
     ensures { result ≡ submit_number answer }
 {
     match answer {
-        SubmitAnswer::Accepted(_) | SubmitAnswer::Cut => 0,
-        SubmitAnswer::Refused(number) => u64::from(number),
-        SubmitAnswer::PacketTooLong(_) => 9,
+        Ok(_) => 0,
+        Err(refusal) => u64::from(u16::from(refusal)),
     }
 }
 

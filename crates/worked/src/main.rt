@@ -10,9 +10,6 @@ mod row;
 use std::io;
 
 fn main(rt: HostRuntime) -> io::Result<()> {
-    let wrong = ring_sums::all(&rt)?
-        + planning::p7(&rt)? as usize
-        + camera::p6(&rt)?
-        + camera::p8(&rt)?;
+    let wrong = ring_sums::all(&rt)? + planning::p7(&rt)? + camera::p6(&rt)? + camera::p8(&rt)?;
     row::last(&rt, wrong)
 }

@@ -52,20 +52,6 @@ pub(crate) fn lines(rt: &impl Print, lines: &[Line]) -> io::Result<usize>
     Ok(wrong)
 }
 
-// A line of planning.rt; 1 where it differs.
-pub(crate) fn row(rt: &impl Print, what: &[u8], says: u64, answers: u64) -> io::Result<u32>
-    ensures { IfOk result (λ n. n ≤ 1) }
-{
-    rt.write_all(what)?;
-    print!(rt; ": document 01 says {says}, the code answers {answers}")?;
-    if says == answers {
-        println!(rt)?;
-        return Ok(0);
-    }
-    println!(rt; ": WRONG")?;
-    Ok(1)
-}
-
 // The last line: how many differ.
 pub(crate) fn last(rt: &impl Print, wrong: usize) -> io::Result<()> {
     println!(rt; "{wrong} differ from document 01")
