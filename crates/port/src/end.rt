@@ -13,8 +13,8 @@ ghost use Rattle.port.specs.Places.{requests_of, with_requests, Left};
 use crate::entries::{put_request, put_tagged, request_at};
 use crate::load::{config_at, head_at};
 use crate::save::put_head;
-use crate::tags::fatal_tagged;
-use session::{IsoFatal, IsoHead, IsoOutcome, clear_first, ring_words, with_outcome};
+use crate::tags::Tagged;
+use session::{IsoHead, IsoOutcome, clear_first, ring_words, with_outcome};
 
 // The outcome of the request at an offset.
 pub(crate) fn put_outcome(bytes: &mut [u8], at: usize, outcome: IsoOutcome)
@@ -35,10 +35,8 @@ fn fail_at(bytes: &mut [u8], from: u16, to: u16, outcome: IsoOutcome)
         (with_requests (session_of bytes.old)
         (sets (requests_of bytes.old) from (map (with_outcome outcome) (slice from to (requests_of bytes.old))))) }
 {
-    let mut i = from;
-    while i < to {
+    for i in from..to {
         put_outcome(bytes, 40 + 20 * i as usize, outcome);
-        i += 1;
     }
 }
 
@@ -46,12 +44,11 @@ fn ended_head(head: IsoHead) -> IsoHead
     ensures { result ≡ ended_head head }
 {
     IsoHead {
-        next_request_id: head.next_request_id,
         live: false,
         td_last: 0,
         start_full_frame: 0,
         done: head.count,
-        count: head.count,
+        ..head
     }
 }
 
@@ -66,6 +63,6 @@ pub(crate) fn end_at(bytes: &mut [u8], outcome: IsoOutcome, ring: &mut [u32])
     let head = head_at(bytes);
     fail_at(bytes, head.done, head.count, outcome);
     put_head(bytes, ended_head(head));
-    put_tagged(bytes, 34, fatal_tagged(IsoFatal::Nothing));
+    put_tagged(bytes, 34, Tagged::from(None));
     clear_first(ring, words);
 }

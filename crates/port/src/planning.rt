@@ -6,9 +6,8 @@ ghost use Rattle.plan.specs.Planning.{split_of};
 ghost use Rattle.port.specs.Planning.{split_numbers, kind_of, data_request_of, is_bad_data, data_numbers, refused_data, data_plan_numbers, data_array_after};
 ghost use Rattle.port.specs.Planning.{control_request_of, some_numbers, control_numbers, refused_control, control_plan_numbers, control_array_after};
 
-use crate::ring_sums::{is_bad_direction, is_bad_speed};
 use crate::stages::{PortStage, blank_stage, stage_numbers};
-use crate::tags::{direction_of, speed_of};
+use crate::tags::{direction_of, is_bad_direction, is_bad_speed, speed_of};
 use plan::{
     ControlRequest, DataKind, DataRequest, DataToggle, DmaSplit, Dwc2ControlPlan, Dwc2DataPlan,
     Dwc2TransferStage,

@@ -1,5 +1,6 @@
 -- Submitting and opening by bytes, at each way out.
-use Rattle.std.proofs.Common.{◌≡◌, ℕ, ◌<◌, ◌≤◌, Bool, true, false, cond, eqb, ltb, List, length, sym, refl, ap, ◌∙◌, ap₂, le-ltb, lt-ltb, eq-eqb}
+use Rattle.std.specs.Prelude.{⊤}
+use Rattle.std.proofs.Common.{Result, Ok, Err, ◌≡◌, ℕ, ◌<◌, ◌≤◌, Bool, true, false, cond, eqb, ltb, List, length, sym, refl, ap, ◌∙◌, ap₂, le-ltb, lt-ltb, eq-eqb}
 use lib.Seq.{sets}
 use Rattle.session.specs.Numbers.{open_number}
 use Rattle.session.specs.Open.{open_answer, opened, ring_after, opened_ring}
@@ -9,8 +10,8 @@ use Rattle.session.specs.Submit.{submitted, submitted_ring}
 use Rattle.session.specs.declared.transfer.IsoTransfer.{IsoTransfer}
 use Rattle.session.specs.declared.transfer.Submitted.{Submitted}
 use Rattle.session.specs.declared.types.IsoConfig.{IsoConfig}
-use Rattle.session.specs.declared.types.OpenAnswer.{OpenAnswer}
-use Rattle.session.specs.declared.types.OpenAnswer.TheVariants as answer
+use Rattle.session.specs.declared.refusal.IsoRefusal.{IsoRefusal}
+use Rattle.session.specs.declared.refusal.IsoRefusal.TheVariants.{ShortBuffer, BadRecord}
 use Rattle.session.specs.declared.types.IsoChannelState.{IsoChannelState}
 use Rattle.port.specs.declared.answers.PortSubmitted.{PortSubmitted}
 use Rattle.port.specs.declared.answers.PortTransfer.{PortTransfer}
@@ -125,7 +126,7 @@ module _ (xs : List ℕ) (bad : Bool) (cfg : IsoConfig) (ring : List ℕ) where
 
   -- with names that name something: the session is written whatever is answered, the ring by the answer
   open_as :
-      {c : IsoConfig} {after : List ℕ} (a : OpenAnswer) → 8488 ≤ length xs → bad ≡ false → c ≡ cfg
+      {c : IsoConfig} {after : List ℕ} (a : Result ⊤ IsoRefusal) → 8488 ≤ length xs → bad ≡ false → c ≡ cfg
       → open_answer c (length ring) ≡ a
       → after ≡ sets xs 0 (saved (idle_session c))
       → Opens (open_number a) after (ring_after a c ring)
@@ -133,7 +134,7 @@ module _ (xs : List ℕ) (bad : Bool) (cfg : IsoConfig) (ring : List ℕ) where
       let given : a ≡ open_answer cfg (length ring) = sym g ∙ ap (λ (x : IsoConfig). open_answer x (length ring)) k in (
         ap open_number given ∙ open_by_lem xs bad (λ (n : ℕ). n) number false h e,
         b ∙ ap (λ (x : IsoConfig). sets xs 0 (saved (idle_session x))) k ∙ open_by_lem xs bad (λ (n : ℕ). xs) bytes false h e,
-        ap₂ (λ (x : OpenAnswer) (y : IsoConfig). ring_after x y ring) given k ∙ open_by_lem xs bad (λ (n : ℕ). ring) (opened_ring cfg ring) false h e,
+        ap₂ (λ (x : Result ⊤ IsoRefusal) (y : IsoConfig). ring_after x y ring) given k ∙ open_by_lem xs bad (λ (n : ℕ). ring) (opened_ring cfg ring) false h e,
       )
 
   pub open_short_ring :
@@ -141,9 +142,9 @@ module _ (xs : List ℕ) (bad : Bool) (cfg : IsoConfig) (ring : List ℕ) where
       → n ≡ ring_words c
       → length ring < n
       → Opens 17 after ring
-  open_short_ring {c} {n} h e k b w short = open_as answer.ShortRing h e k told b
+  open_short_ring {c} {n} h e k b w short = open_as (Err ShortBuffer) h e k told b
     where
-      told : open_answer c (length ring) ≡ answer.ShortRing
+      told : open_answer c (length ring) ≡ (Err ShortBuffer)
       told = rw (sym (ap (ltb (length ring)) w) ∙ lt-ltb (length ring) n short)
 
   pub open_config :
@@ -153,9 +154,9 @@ module _ (xs : List ℕ) (bad : Bool) (cfg : IsoConfig) (ring : List ℕ) where
       → t ≡ is_bad_config c
       → t ≡ true
       → Opens 18 after ring
-  open_config {c} {n} h e k b w long f g = open_as answer.BadConfig h e k told b
+  open_config {c} {n} h e k b w long f g = open_as (Err BadRecord) h e k told b
     where
-      told : open_answer c (length ring) ≡ answer.BadConfig
+      told : open_answer c (length ring) ≡ (Err BadRecord)
       told = rw (sym (ap (ltb (length ring)) w) ∙ le-ltb (length ring) n long, sym f ∙ g)
 
   pub open_done :
@@ -167,8 +168,8 @@ module _ (xs : List ℕ) (bad : Bool) (cfg : IsoConfig) (ring : List ℕ) where
       → words ≡ cond (ltb (length ring) n) ring (cleared n ring)
       → Opens 0 after words
   open_done {c} {n} h e k b w long f g z =
-      let opens = open_as answer.Opened h e k told b in
+      let opens = open_as (Ok tt) h e k told b in
       (opens.0, opens.1, z ∙ ap (λ (t : Bool). cond t ring (cleared n ring)) (le-ltb (length ring) n long) ∙ ap (λ (m : ℕ). cleared m ring) w ∙ opens.2)
     where
-      told : open_answer c (length ring) ≡ answer.Opened
+      told : open_answer c (length ring) ≡ (Ok tt)
       told = rw (sym (ap (ltb (length ring)) w) ∙ le-ltb (length ring) n long, sym f ∙ g)

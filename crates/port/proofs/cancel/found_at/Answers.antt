@@ -16,10 +16,10 @@ returns-then-u64_at-id c =
     let a = c.args in
     let behind = c.wrapping_sub_u64-behind.result in
     let requests = (session_of xs).requests in
-    let in_use : behind < a.count = c.if-behind-count.true in
+    let in_use : behind < a.count = omega (arith, c.if-behind-from.true, c.from.ensures) in
     let few = c.requires.1 in
     let this : (get_or requests behind blank_request).id ≡ a.id =
-    sym (id_there xs behind (omega (arith, in_use, few))) ∙ sym c.u64_at-then-behind-count.ensures ∙ c.if-u64_at-id.true in
+    sym (id_there xs behind (omega (arith, in_use, few))) ∙ sym c.u64_at-then-behind-from.ensures ∙ c.if-u64_at-id.true in
     let reached = place_reached a.id behind a.count requests in_use (omega (arith, few, requests_many xs)) this in
     let place = place_of a.id (slice 0 a.count requests) in
     let none : a.done ≡ 0 = eqb-true a.done 0 (both a.many (eqb a.done 0) c.if-many-done.true).1 in (
