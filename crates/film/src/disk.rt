@@ -20,8 +20,5 @@ pub(crate) fn plan_of(len: u64, toggle: DataToggle, array: &mut [u32]) -> io::Re
         base: 268_435_456,
         len,
     };
-    match plan::data_stages(request, array) {
-        Ok(made) => Ok(made),
-        Err(_) => Err(io::Error::from(io::ErrorKind::InvalidInput)),
-    }
+    plan::data_stages(request, array).map_err(|_| io::Error::from(io::ErrorKind::InvalidInput))
 }

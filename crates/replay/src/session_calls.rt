@@ -1,51 +1,39 @@
 // The session's calls of the list, through the C interface: the session crosses as bytes, and the ring lent has 2,048 words.
-ghost use Rattle.std.specs.Prelude.{◌≤◌, length};
-
 use crate::answers::{Line, Verdict, byte_at, half_at, judge, nth, word_at};
-use crate::digest::{of_bytes, of_frames, of_longs, of_words};
+use crate::digest::digest_of;
 use port::{PortReclaimed, PortReply, PortSubmitted, PortTransfer};
 
-const SUBMIT: u8 = 1;
+#[derive(Clone, Copy)]
+pub(crate) enum SessionCall {
+    Open,
+    Submit,
+    Poll,
+    Reclaim,
+    Cancel,
+    Reset,
+}
 
-const POLL: u8 = 2;
-
-const RECLAIM: u8 = 3;
-
-const CANCEL: u8 = 4;
-
-const RESET: u8 = 5;
-
-pub(crate) fn call(
-    kind: u8,
+pub(crate) fn make(
+    call: SessionCall,
     line: Line,
     listed: &[u64],
     session: &mut [u8],
     ring: &mut [u32],
 ) -> Verdict {
-    if kind == SUBMIT {
-        return submit(line, listed, session, ring);
-    }
-    if kind == RECLAIM {
-        return reclaim(line, listed, session, ring);
-    }
-    let done = reply(kind, listed, session, ring);
-    replied(line, listed, session, ring, done)
+    let reply = match call {
+        SessionCall::Open => open(listed, session, ring),
+        SessionCall::Submit => return submit(line, listed, session, ring),
+        SessionCall::Poll => poll(listed, session, ring),
+        SessionCall::Reclaim => return reclaim(line, listed, session, ring),
+        SessionCall::Cancel => port::dwc2_iso_cancel(session, nth(listed, 1)),
+        SessionCall::Reset => port::dwc2_iso_reset(session),
+    };
+    replied(line, listed, session, ring, reply)
 }
 
-fn reply(kind: u8, listed: &[u64], session: &mut [u8], ring: &mut [u32]) -> PortReply {
-    if kind == POLL {
-        let hcint = word_at(listed, 3);
-        return port::dwc2_iso_poll(session, ring, word_at(listed, 1), word_at(listed, 2), hcint);
-    }
-    if kind == CANCEL {
-        return port::dwc2_iso_cancel(session, nth(listed, 1));
-    }
-    if kind == RESET {
-        return port::dwc2_iso_reset(session);
-    }
-    // the ring is not zero before, and stays so behind its words
-    fill(ring, 0xdead_beef);
-    open(listed, session, ring)
+fn poll(listed: &[u64], session: &mut [u8], ring: &mut [u32]) -> PortReply {
+    let hcint = word_at(listed, 3);
+    port::dwc2_iso_poll(session, ring, word_at(listed, 1), word_at(listed, 2), hcint)
 }
 
 fn replied(line: Line, listed: &[u64], session: &[u8], ring: &[u32], r: PortReply) -> Verdict {
@@ -53,32 +41,29 @@ fn replied(line: Line, listed: &[u64], session: &[u8], ring: &[u32], r: PortRepl
         line,
         listed,
         &[
-            r.refusal as u64,
-            r.taken as u64,
-            r.halt as u64,
-            of_words(ring),
-            of_bytes(session),
+            u64::from(r.refusal),
+            u64::from(r.taken),
+            u64::from(r.halt),
+            digest_of(ring),
+            digest_of(session),
         ],
     )
 }
 
 // The controller's word.
 pub(crate) fn store(words: &mut [u32], at: u16, word: u32) {
-    let place = at as usize;
-    if place < words.len() {
-        words[place] = word;
+    if let Some(place) = words.get_mut(usize::from(at)) {
+        *place = word;
     }
 }
 
 pub(crate) fn fill(words: &mut [u32], word: u32) {
-    let mut i: usize = 0;
-    while i < words.len() {
-        words[i] = word;
-        i += 1;
-    }
+    words.fill(word);
 }
 
+// The ring is not zero before, and stays so behind its words.
 fn open(listed: &[u64], session: &mut [u8], ring: &mut [u32]) -> PortReply {
+    ring.fill(0xdead_beef);
     let refusal = port::dwc2_iso_open(
         session,
         ring,
@@ -114,26 +99,14 @@ fn transfer_of(listed: &[u64]) -> PortTransfer {
 }
 
 // The lengths of the packets stand behind the ten other inputs.
-fn read_lengths(listed: &[u64], inputs: usize, lengths: &mut [u32]) -> usize
-    ensures { result ≤ length lengths.new }
-{
-    let mut at: usize = 11;
-    let mut i: usize = 0;
-    while i < lengths.len() {
-        if at >= inputs {
-            return i;
-        }
-        lengths[i] = word_at(listed, at);
-        at += 1;
-        i += 1;
-    }
-    i
-}
-
 fn submit(line: Line, listed: &[u64], session: &mut [u8], ring: &mut [u32]) -> Verdict {
+    let given = listed.get(11..line.inputs).unwrap_or(&[]);
     let mut lengths = [0u32; 512];
-    let n = read_lengths(listed, line.inputs, &mut lengths);
-    let done = port::dwc2_iso_submit(session, ring, &lengths[..n], transfer_of(listed));
+    for (length, number) in lengths.iter_mut().zip(given) {
+        *length = (number & 0xffff_ffff) as u32;
+    }
+    let lengths = &lengths[..given.len().min(512)];
+    let done = port::dwc2_iso_submit(session, ring, lengths, transfer_of(listed));
     submitted(line, listed, session, ring, done)
 }
 
@@ -144,22 +117,21 @@ fn submitted(
     ring: &[u32],
     s: PortSubmitted,
 ) -> Verdict {
-    let frames = s.frames;
     judge(
         line,
         listed,
         &[
             s.value,
-            s.refusal as u64,
-            s.cut as u64,
-            s.first as u64,
-            s.hcchar as u64,
-            s.hctsiz as u64,
-            s.hcintmsk as u64,
-            s.frame_count as u64,
-            of_frames(&frames),
-            of_words(ring),
-            of_bytes(session),
+            u64::from(s.refusal),
+            u64::from(s.cut),
+            u64::from(s.first),
+            u64::from(s.hcchar),
+            u64::from(s.hctsiz),
+            u64::from(s.hcintmsk),
+            u64::from(s.frame_count),
+            digest_of(&s.frames),
+            digest_of(ring),
+            digest_of(session),
         ],
     )
 }
@@ -176,7 +148,7 @@ fn reclaim(line: Line, listed: &[u64], session: &mut [u8], ring: &mut [u32]) -> 
         word_at(listed, 3),
         word_at(listed, 4),
     );
-    reclaimed(line, listed, session, ring, of_longs(&results), done)
+    reclaimed(line, listed, session, ring, digest_of(&results), done)
 }
 
 fn reclaimed(
@@ -191,18 +163,18 @@ fn reclaimed(
         line,
         listed,
         &[
-            r.refusal as u64,
-            r.completed as u64,
-            r.outcome as u64,
-            r.fault as u64,
-            r.word as u64,
-            r.length as u64,
-            r.packets as u64,
-            r.taken as u64,
-            r.halt as u64,
+            u64::from(r.refusal),
+            u64::from(r.completed),
+            u64::from(r.outcome),
+            u64::from(r.fault),
+            u64::from(r.word),
+            u64::from(r.length),
+            u64::from(r.packets),
+            u64::from(r.taken),
+            u64::from(r.halt),
             results,
-            of_words(ring),
-            of_bytes(session),
+            digest_of(ring),
+            digest_of(session),
         ],
     )
 }
