@@ -22,6 +22,7 @@ pub mod Settling
 pub mod Setup
 pub mod Sounds
 pub mod Steps
+pub mod Stood
 pub mod Submits
 pub mod Tables
 pub mod Verdict

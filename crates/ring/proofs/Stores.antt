@@ -66,6 +66,11 @@ status_fits len false = omega arith
 abbrev pub slot_words : ℕ → DmaDescriptor → List Store
 slot_words slot d = record { word = 2 * slot + 1; value = d.paddr } ∷ record { word = 2 * slot; value = d.status } ∷ []
 
+-- the first of them alone
+pub first_word : (slot : ℕ) (d : DmaDescriptor) (words : ℕ) (ring one : List ℕ) → words ≡ 1 → one ≡ set ring (2 * slot + 1) d.paddr
+    → one ≡ stored (take words (slot_words slot d)) ring
+first_word slot d words ring one e p = rw (p, e)
+
 module _ (R insert step i addr : ℕ) (lengths : List ℕ) where
   module _ (slot low : ℕ) (d : DmaDescriptor) (at : slot ≡ slot_at R insert step i) (wraps : low ≡ addr % 4_294_967_296) where
     -- packet i is not the last, and both its words may be stored: what is left of the plan after them
