@@ -67,7 +67,7 @@ fn long(rt: &impl Print) -> io::Result<u32>
     )
 }
 
-// The stages of a bulk OUT of so many bytes.
+// The stages of a bulk OUT of so many bytes, none where it is refused.
 fn stages(len: u64) -> u64 {
     let mut array = [0u32; 2048];
     let request = DataRequest {
