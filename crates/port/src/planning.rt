@@ -89,6 +89,7 @@ pub fn dwc2_packet_count(len: u64, max_packet_size: u16) -> u64
     plan::packet_count(len, max_packet_size)
 }
 
+// As C has it, by USB's number: one that names no kind is refused before it is read.
 fn kind_of(n: u8) -> DataKind
     ensures { result ≡ kind_of n }
 {

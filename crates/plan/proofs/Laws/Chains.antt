@@ -1,6 +1,6 @@
 -- The laws of a chain of descriptors: one descriptor and the rest of the chain, stored and counted back, and what a stage that a planner
 -- makes leans on. Assumes nothing.
-use Rattle.std.proofs.Common.{◌≡◌, ℕ, zero, suc, ◌+◌, ◌-◌, ◌*◌, ◌<◌, ◌≤◌, min, Bool, true, false, not, eqb, ltb, List, [], ◌∷◌, ◌++◌, length, get_or, take, drop, set, sym, refl, ap, ◌∙◌, ap₂, append_assoc, append-nil, add_assoc, add-mul, mul-le-mul_right, one-mul, zero-add, zero-mul, arith, length-drop, drop-drop, ltb-false, eqb-true}
+use Rattle.std.proofs.Common.{◌≡◌, ℕ, zero, suc, ◌+◌, ◌-◌, ◌*◌, ◌<◌, ◌≤◌, min, Bool, true, false, not, eqb, ltb, List, [], ◌∷◌, ◌++◌, length, get_or, take, drop, set, sym, refl, ap, ◌∙◌, ap₂, append_assoc, append-nil, add_assoc, add-mul, mul-le-mul_right, one-mul, zero-add, arith, length-drop, drop-drop, ltb-false, eqb-true}
 use Rattle.std.specs.Prelude.{Ok}
 use lib.Seq.{sets, sets-eq, take-length, drop-length}
 use borrow.Author.Tests.{not-false}
@@ -60,13 +60,6 @@ chunk_more i k = omega (arith, add-mul i 1 k, one-mul k)
 abbrev pub chain_from : ℕ → ℕ → Bool → ℕ → ℕ → ℕ → ℕ → List ℕ
 chain_from m k is_in descs len addr i = chain_words m is_in (descs - i) (len - i * k) (addr + i * k)
 
-pub chain_whole : (m k : ℕ) (is_in : Bool) (descs len addr : ℕ) → chain_from m k is_in descs len addr 0 ≡ chain_words m is_in descs len addr
-chain_whole m k is_in descs len addr =
-    let n : descs - 0 ≡ descs = omega arith in
-    let p : len - 0 * k ≡ len = omega (arith, zero-mul k) in
-    let q : addr + 0 * k ≡ addr = omega (arith, zero-mul k) in
-    λ j. chain_words m is_in (n j) (p j) (q j)
-
 -- descriptor i is stored: what is behind it in the chain, stored behind it, gives the whole
 pub store_more : (m k : ℕ) (is_in : Bool) (descs len addr i : ℕ) (l l' : List ℕ) (d : DmaDescriptor) → i + 1 < descs → k ≡ chunk_of m
     → d ≡ link_of (addr + i * k) k m is_in false
@@ -107,13 +100,6 @@ full_moved m k status small e =
 -- what the descriptors of a chain moved from descriptor i on
 abbrev pub moved_from : ℕ → ℕ → List ℕ → ℕ → ℕ → ℕ → ℕ → ℕ
 moved_from m k array base descs len i = chain_moved m array (descs - i) (base + i) (len - i * k)
-
-pub moved_whole : (m k : ℕ) (array : List ℕ) (base descs len : ℕ) → moved_from m k array base descs len 0 ≡ chain_moved m array descs base len
-moved_whole m k array base descs len =
-    let n : descs - 0 ≡ descs = omega arith in
-    let p : base + 0 ≡ base = omega arith in
-    let q : len - 0 * k ≡ len = omega (arith, zero-mul k) in
-    λ j. chain_moved m array (n j) (p j) (q j)
 
 moved_more : (m : ℕ) (array : List ℕ) (left at rest : ℕ) → 1 < left
     → chain_moved m array left at rest ≡ link_moved (chunk_of m) m (get_or array (2 * at) 0) + chain_moved m array (left - 1) (at + 1) (rest - chunk_of m)

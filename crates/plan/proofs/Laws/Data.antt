@@ -1,5 +1,5 @@
 -- Laws of bulk and interrupt plans: what an accepted request says of its numbers, and how one stage follows another.
-use Rattle.std.proofs.Common.{◌≡◌, ℕ, zero, suc, ◌+◌, ◌-◌, ◌*◌, ◌<◌, ◌≤◌, min, max, Bool, true, false, cond, ◌||◌, ltb, leb, List, [], ◌∷◌, ◌++◌, length, drop, set, replicate, sym, ap, ◌∙◌, le_trans, add-zero, mod-eq_of_lt, add-mul, mul-le-mul, mul-le-mul_right, mul_assoc, one-mul, zero-add, zero-mul, div-mul-le_self, sub-le, add-one, arith, ltb-false, le-ltb, lt-ltb, le-leb}
+use Rattle.std.proofs.Common.{◌≡◌, ℕ, zero, suc, ◌+◌, ◌-◌, ◌*◌, ◌<◌, ◌≤◌, min, max, Bool, true, false, cond, ◌||◌, ltb, leb, List, [], ◌∷◌, ◌++◌, length, drop, set, replicate, sym, ap, ◌∙◌, le_trans, add-zero, mod-eq_of_lt, add-mul, mul-le-mul_right, mul_assoc, one-mul, zero-add, zero-mul, div-mul-le_self, sub-le, add-one, arith, ltb-false, le-ltb, lt-ltb, le-leb}
 use Rattle.std.specs.Prelude.{Ok}
 use mathlib.Core.Path.{subst, subst⁻¹}
 use borrow.Author.Tests.{lt-leb}
@@ -21,18 +21,11 @@ use Rattle.plan.specs.Refusals.{◌⇒◌, is_short, is_bad}
 use Rattle.words.proofs.Laws.Tests.{neither}
 use Rattle.plan.proofs.Laws.Laid.{either}
 use Rattle.plan.proofs.Laws.Refusals.{none_holds}
-use Rattle.plan.proofs.Laws.Split.{chunk_pos, last_within, packets_some, parts_within, rest_within, rounded_more}
+use Rattle.plan.proofs.Laws.Split.{chunk_pos, packets_some, parts_within, rest_within, rounded_more}
 
 -- a chunk is at most the byte count's limit
 pub chunk_small : (m : ℕ) → chunk_of m ≤ 131_071
 chunk_small m = le_trans (div-mul-le_self (131_071 - (max 1 m - 1)) (max 1 m)) (sub-le 131_071 (max 1 m - 1))
-
--- at most 1,024 descriptors are at most so many bytes, which 32 bits hold
-pub few_fit : (len m : ℕ) → m ≤ 65_536 → (split_of len m).count ≤ 1024 → len ≤ 1024 * 131_071
-few_fit len m small few =
-    let most : (split_of len m).count - 1 ≤ 1023 = omega arith in
-    let before : ((split_of len m).count - 1) * chunk_of m ≤ 1023 * 131_071 = mul-le-mul most (chunk_small m) in
-    omega (arith, last_within len m small, chunk_small m)
 
 -- the packet size that a channel is programmed with is the one that the plan is made for
 pub hcchar_size : (r : DataRequest) → r.max_packet_size ≤ 2047 → get packet_size (data_hcchar r) ≡ size_of r
