@@ -1,4 +1,5 @@
 // Settling on the session's bytes: document 01, "Poll". The oldest requests are completed where they stand; nothing else is read or written.
+// A run of entries is told by the number of its first and of the one behind its last: a part of the bytes is no slice of entries.
 ghost use Rattle.std.specs.Prelude.{◌≡◌, ℕ, ◌+◌, ◌-◌, ◌*◌, ◌<◌, ◌≤◌, false, not, map, length, drop, slice_index, slice_index_or};
 ghost use Rattle.std.proofs.Math.Seq.{slice};
 ghost use Rattle.std.proofs.lemmas.List.Edits.{sets};

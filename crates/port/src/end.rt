@@ -1,5 +1,6 @@
 // The end of a session on its bytes where they stand: document 01, "Poll" and "Recovery". The pending requests, head and reason are
 // written, and the ring is zeroed.
+// A run of entries is told by the number of its first and of the one behind its last: a part of the bytes is no slice of entries.
 ghost use Rattle.std.specs.Prelude.{◌≡◌, ◌+◌, ◌≤◌, false, map, length, drop};
 ghost use Rattle.std.proofs.Math.Seq.{slice};
 ghost use Rattle.std.proofs.lemmas.List.Edits.{sets};

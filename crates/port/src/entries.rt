@@ -27,6 +27,7 @@ pub(crate) fn put_tagged(bytes: &mut [u8], at: usize, t: Tagged)
     put_u32(bytes, at + 2, t.word);
 }
 
+// Requests and plans are read and written each by functions of its own: nothing is generic over the fields of a struct.
 pub(crate) fn request_at(bytes: &[u8], at: usize) -> IsoRequest
     requires { at + 20 ≤ length bytes.now }
     ensures { result ≡ request_of (drop at bytes.now) }

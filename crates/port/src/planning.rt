@@ -36,6 +36,7 @@ pub struct PortDataRequest {
     pub toggle: u8,
 }
 
+// As C has it: 0 or the refusal number, and a table beside its count.
 #[repr(C)]
 #[derive(Clone, Copy)]
 pub struct PortDataPlan {
@@ -57,6 +58,7 @@ pub struct PortControlRequest {
     pub device: u8,
 }
 
+// As C has it: 0 or the refusal number, and a blank stage where there is no data.
 #[repr(C)]
 #[derive(Clone, Copy)]
 pub struct PortControlPlan {

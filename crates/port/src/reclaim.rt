@@ -1,4 +1,5 @@
 // Reclaiming on the session's bytes: document 01, "Reclaim". A completed request is handed out once; the tables close up behind it where they stand.
+// A run of entries is told by the number of its first and of the one behind its last: a part of the bytes is no slice of entries.
 ghost use Rattle.std.specs.Prelude.{◌≡◌, ℕ, ◌+◌, ◌*◌, ◌<◌, ◌≤◌, Bool, false, map, length, drop, cond, slice_index_or};
 ghost use Rattle.std.proofs.Math.Seq.{slice};
 ghost use Rattle.std.proofs.lemmas.List.Edits.{sets};

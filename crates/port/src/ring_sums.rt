@@ -9,7 +9,7 @@ ghost use Rattle.port.specs.Sums.{is_bad_speed, is_bad_direction, number_unless,
 use crate::tags::{named_direction, named_speed};
 use ring::IsoServiceFrames;
 
-// `refusal` is 0 or the refusal number; refused, `value` is 0.
+// As C has it: `refusal` is 0 or the refusal number; refused, `value` is 0.
 #[repr(C)]
 #[derive(Clone, Copy)]
 pub struct PortNumber {
@@ -17,7 +17,7 @@ pub struct PortNumber {
     pub value: u32,
 }
 
-// The first `count` entries of the frame list, in the order of service; the others are 0.
+// As C has it: the first `count` entries of the frame list, in the order of service; the others are 0.
 #[repr(C)]
 #[derive(Clone, Copy)]
 pub struct PortFrames {

@@ -6,6 +6,7 @@ ghost use Rattle.port.specs.Tags.{direction_of};
 
 use crate::tags::is_bad_direction;
 
+// As C has it: 0 or the refusal number, and zeros where refused.
 #[repr(C)]
 #[derive(Clone, Copy)]
 pub struct PortSetupPacket {

@@ -76,7 +76,8 @@ pub struct IsoHead {
 }
 
 // `fatal` is None while the session runs. Requests stand in the order of submission, and the plans of all of them behind one another
-// in the same order. What stands past the counts is not read.
+// in the same order. What stands past the counts is not read. Tables beside counts, since there is no heap (document 01). That the
+// record is good is a clause of the inner methods and no type of its own: between two writes of a call it is not.
 #[derive(Clone, Copy)]
 pub struct IsoChannelState {
     pub cfg: IsoConfig,
