@@ -1,4 +1,5 @@
-// A session's bytes: whether they are one of the layout, and what stands before the tables.
+// A session's bytes: whether they are one of the layout, and what stands before the tables. Each function asks that they are long enough, or of
+// the layout, in its own clause: a type that held the second would be false between two writes.
 ghost use Rattle.std.specs.Prelude.{◌≡◌, ◌≤◌, ◌||◌, cond, Some, None, length, drop};
 ghost use Rattle.std.proofs.Math.Seq.{slice};
 ghost use Rattle.session.specs.Session.{packets_of};

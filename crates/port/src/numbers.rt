@@ -21,6 +21,7 @@ fn part<const N: usize>(bytes: &[u8], at: usize) -> [u8; N]
     part
 }
 
+// The width stands in each name, so that the code reads as docs/LAYOUT.md does.
 pub(crate) fn u16_at(bytes: &[u8], at: usize) -> u16
     requires { at + 2 ≤ length bytes.now }
     ensures { result ≡ u16_of (drop at bytes.now) }
