@@ -40,7 +40,7 @@ pub fn dwc2_iso_cancel(session: &mut [u8], id: u64) -> PortReply
 {
     match verdict_at(session) {
         Err(refusal) => reply_refused(refusal),
-        Ok(sums) => cancel_at(session, sums.is_none(), id, true),
+        Ok(sums) => cancel_at(session, sums.is_none(), id),
     }
 }
 

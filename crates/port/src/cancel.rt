@@ -13,7 +13,6 @@ use crate::load::{head_at, reason_at};
 use crate::numbers::u64_at;
 use crate::poll::halt_at;
 use session::{IsoHaltReason, IsoOutcome, IsoRefusal};
-use std::num::wrapping_sub_u64;
 
 // The place of the first request with the number, or `count`.
 pub(crate) fn place_at(bytes: &[u8], count: u16, id: u64) -> u16
@@ -29,15 +28,15 @@ pub(crate) fn place_at(bytes: &[u8], count: u16, id: u64) -> u16
 }
 
 // Numbers are drawn in turn, so that a request mostly stands as far behind the first as its number does. Where none is completed any place with the
-// number is as good as the first with it, since both are pending. So among many requests that place is asked before the walk.
-fn found_at(bytes: &[u8], done: u16, count: u16, id: u64, many: bool) -> u16
+// number is as good as the first with it, since both are pending. So that place is asked before the walk.
+fn found_at(bytes: &[u8], done: u16, count: u16, id: u64) -> u16
     requires { (8488 ≤ length bytes.now) × (count ≤ 64) }
     ensures { (nat_lt result done ≡ nat_lt (place_of id (slice 0 count (session_of bytes.now).requests)) done)
         × (nat_lt result count ≡ nat_lt (place_of id (slice 0 count (session_of bytes.now).requests)) count)
         × (result < done → result ≡ place_of id (slice 0 count (session_of bytes.now).requests)) }
 {
-    if many & (done == 0) {
-        let behind = wrapping_sub_u64(id, u64_at(bytes, 40));
+    if done == 0 {
+        let behind = id.wrapping_sub(u64_at(bytes, 40));
         if behind < u64::from(count) && u64_at(bytes, 40 + 20 * behind as usize) == id {
             return behind as u16;
         }
@@ -45,8 +44,7 @@ fn found_at(bytes: &[u8], done: u16, count: u16, id: u64, many: bool) -> u16
     place_at(bytes, count, id)
 }
 
-// `many` says that a walk over the requests is worth a look beforehand; what is done does not depend on it.
-pub(crate) fn cancel_at(bytes: &mut [u8], bad: bool, id: u64, many: bool) -> PortReply
+pub(crate) fn cancel_at(bytes: &mut [u8], bad: bool, id: u64) -> PortReply
     requires { (layout_number bytes.old ≡ 0) × (bad ≡ is_bad_record (session_of bytes.old)) }
     ensures { (result ≡ reply_port (cancelled (session_of bytes.old) id))
         × (Left bytes.old bytes.new (cancelled (session_of bytes.old) id).session) }
@@ -55,7 +53,7 @@ pub(crate) fn cancel_at(bytes: &mut [u8], bad: bool, id: u64, many: bool) -> Por
         return reply_refused(IsoRefusal::BadRecord);
     }
     let head = head_at(bytes);
-    let at = found_at(bytes, head.done, head.count, id, many);
+    let at = found_at(bytes, head.done, head.count, id);
     if at < head.done {
         put_outcome(bytes, 40 + 20 * at as usize, IsoOutcome::Cancelled);
         return reply_port(Ok(()), false, false);

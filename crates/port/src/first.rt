@@ -57,10 +57,7 @@ fn is_settled(bytes: &[u8], n: usize, bit: bool, ring: &[u32]) -> bool
         ≡ (bit
         || not (is_set active (slice_index ring.now (2 * (get_or (plans_of bytes.now) (n - 1) blank_plan).desc_index)))) }
 {
-    if bit {
-        return true;
-    }
-    is_served_at(bytes, n, ring)
+    bit || is_served_at(bytes, n, ring)
 }
 
 // The first request, whose plans end at `n`, is settled by the event, and the second, whose plans end at `to`, is not: its last slot is none of

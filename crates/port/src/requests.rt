@@ -2,7 +2,7 @@
 ghost use Rattle.std.specs.Prelude.{◌≡◌, cond, Some, None, length};
 ghost use Rattle.port.specs.Calls.{open_by, open_bytes, open_ring, is_bad_names, config_by, submit_by, submit_bytes, submit_ring};
 
-use crate::answers::{PortSubmitted, PortTransfer, submit_refused, transfer_of};
+use crate::answers::{PortSubmitted, PortTransfer, refusal_number, submit_refused, transfer_of};
 use crate::save::put_idle;
 use crate::submit::submit_at;
 use crate::tags::{named_direction, named_mode, named_speed};
@@ -60,7 +60,7 @@ pub fn dwc2_iso_open(
         (config_by speed direction mode interval max_packet_size endpoint device mult) ring.old) }
 {
     if session.len() < 8_488 {
-        return 17;
+        return refusal_number(IsoRefusal::ShortBuffer);
     }
     let Some(cfg) = config_named(
         speed,
@@ -72,15 +72,15 @@ pub fn dwc2_iso_open(
         device,
         mult,
     ) else {
-        return 18;
+        return refusal_number(IsoRefusal::BadRecord);
     };
     put_idle(session, cfg);
     let words = ring_words(cfg);
     if ring.len() < words {
-        return 17;
+        return refusal_number(IsoRefusal::ShortBuffer);
     }
     if is_bad_config(cfg) {
-        return 18;
+        return refusal_number(IsoRefusal::BadRecord);
     }
     clear_first(ring, words);
     0

@@ -1,15 +1,11 @@
 -- Runs of stores, of any list: those that follow one another, what stands before, in and behind one, and a part of
 -- the list that is written over.
-use Rattle.std.proofs.Common.{◌≡◌, ℕ, zero, suc, ◌+◌, ◌-◌, ◌*◌, ◌<◌, ◌≤◌, List, [], ◌∷◌, ◌++◌, length, get_or, take, drop, set, replicate, sym, refl, ap, ◌∙◌, subst, ap₂, add-zero, arith, length-append, length-drop, take-append-drop, drop_of_length-le, length-take-le, take_all, drop-cons, drop-set-lt, take-add, drop_at}
+use Rattle.std.proofs.Common.{◌≡◌, ℕ, zero, suc, ◌+◌, ◌-◌, ◌*◌, ◌≤◌, List, [], ◌∷◌, ◌++◌, length, get_or, take, drop, set, sym, refl, ap, ◌∙◌, add-zero, arith, length-append, length-drop, take-append-drop, drop_of_length-le, length-take-le, take_all, drop-cons, drop-set-lt, take-add, drop_at}
 use borrow.Rule.Slice.PartMut.{put_mid}
 use Rattle.std.specs.List.{copy_within}
 use Rattle.std.proofs.lemmas.Slice.{put_mid-paste, between_is}
 use lib.Seq.{slice, sets, paste, sets-eq, length-sets, take-set-le, drop-set-add, length-slice}
-use Rattle.session.proofs.Laws.Lists.{slice_split, slice_after_set}
-
--- a list that is lent on as the part from its beginning to its end
-pub lent_whole : (P : List ℕ → Type 0) (xs : List ℕ) → P (take (length xs - 0) xs) → P xs
-lent_whole P xs = subst P (take_all (length xs - 0) xs (omega arith))
+use Rattle.session.proofs.Laws.Lists.{slice_after_set}
 
 module _ {A : Type 0} where
   -- one run behind another is one run
@@ -25,14 +21,6 @@ module _ {A : Type 0} where
       → next ≡ sets l at (xs ++ ys)
   then l at p xs ys e f g =
       g ∙ ap (λ (m : List A). sets m p ys) e ∙ ap (λ (n : ℕ). sets (sets l at xs) n ys) f ∙ sets_append xs l at ys
-
-  -- one of a run that is the same throughout, and the rest of it
-  pub same_more :
-      (l : List A) (a : A) (from i n : ℕ) → i < n → sets (set l (from + i) a) (from + (i + 1)) (replicate (n - (i + 1)) a) ≡ sets l (from + i) (replicate (n - i) a)
-  same_more l a from i n h =
-      let on : from + (i + 1) ≡ suc (from + i) = omega arith in
-      let more : suc (n - (i + 1)) ≡ n - i = omega arith in
-      ap (λ (k : ℕ). sets (set l (from + i) a) k (replicate (n - (i + 1)) a)) on ∙ ap (λ (k : ℕ). sets l (from + i) (replicate k a)) more
 
 -- ---- runs stored behind a list's front, or before its end
 
@@ -125,35 +113,6 @@ module _ {A : Type 0} where
   pub moved : (into from n : ℕ) (l : List A) → into ≤ from → from + n ≤ length l → copy_within l from (from + n) into ≡ sets l into (slice from (from + n) l)
   moved into from n l h k =
       pasted l into (drop from l) (from + n - from) (omega arith) (omega (arith, length-drop from l)) ∙ ap (sets l into) (between_is l from (from + n))
-
--- ---- a move in two steps
-
-module _ {A : Type 0} where
-  -- a run over one that it covers
-  sets_over : (l : List A) (i : ℕ) (ys zs : List A) → length ys ≤ length zs → i + length zs ≤ length l → sets (sets l i ys) i zs ≡ sets l i zs
-  sets_over l i ys zs h k =
-      sets-eq zs (sets l i ys) i (omega (arith, length-sets l i ys))
-      ∙ ap₂ (λ (a b : List A). a ++ zs ++ b) (take_sets i l i ys (omega arith)) (drop_sets (i + length zs) l i ys (omega arith))
-      ∙ sym (sets-eq zs l i k)
-
-  -- `b` of `n` are moved down; then those from the `a`th on, read before, are stored over some that stand there already
-  pub moved_over :
-      (into from n a b : ℕ) (l : List A) → a ≤ b → b ≤ n → into ≤ from → from + n ≤ length l
-      → sets (sets l into (slice from (from + b) l)) (into + a) (slice (from + a) (from + n) l) ≡ sets l into (slice from (from + n) l)
-  moved_over into from n a b l h k down fits =
-      let first : List A = slice from (from + a) l in
-      let some : List A = slice (from + a) (from + b) l in
-      let rest : List A = slice (from + a) (from + n) l in
-      let many : length first ≡ a = length-slice from (from + a) l (omega arith) ∙ omega arith in
-      let few : length some ≡ b - a = length-slice (from + a) (from + b) l (omega arith) ∙ omega arith in
-      let all : length rest ≡ n - a = length-slice (from + a) (from + n) l (omega arith) ∙ omega arith in
-      let on : into + a ≡ into + length first = omega (arith, many) in
-      ap (λ (m : List A). sets (sets l into m) (into + a) rest) (slice_split from (from + a) (from + b) l (omega arith) (omega arith) (omega arith))
-      ∙ ap (λ (m : List A). sets m (into + a) rest) (sym (sets_append first l into some))
-      ∙ ap (λ (i : ℕ). sets (sets (sets l into first) (into + length first) some) i rest) on
-      ∙ sets_over (sets l into first) (into + length first) some rest (omega (arith, few, all)) (omega (arith, many, all, length-sets l into first))
-      ∙ sets_append first l into rest
-      ∙ ap (sets l into) (sym (slice_split from (from + a) (from + n) l (omega arith) (omega arith) fits))
 
 -- n entries from i on, each read at its place, are the rest from there
 abbrev places : List ℕ → ℕ → ℕ → List ℕ
