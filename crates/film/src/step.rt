@@ -82,7 +82,7 @@ fn submitted(
     }
 }
 
-// A buffer at 4096, both readings the same, nothing in its way.
+// A buffer at 4096, both readings the same, nothing in its way. Each program has its own: a crate for ten fields is no plainer.
 fn transfer(reading: u32, packets: u16, words: u32) -> IsoTransfer {
     IsoTransfer {
         isochronous: true,

@@ -19,30 +19,6 @@ pub(crate) fn put(numbers: &mut [u64], at: usize, value: u64) -> usize
     at
 }
 
-// Numbers of a line as a call takes them: their low bits. One generic function would want a trait with these three as its impls.
-pub(crate) fn byte_at(numbers: &[u64], at: usize) -> u8 {
-    (nth(numbers, at) & 0xff) as u8
-}
-
-pub(crate) fn half_at(numbers: &[u64], at: usize) -> u16 {
-    (nth(numbers, at) & 0xffff) as u16
-}
-
-pub(crate) fn word_at(numbers: &[u64], at: usize) -> u32 {
-    (nth(numbers, at) & 0xffff_ffff) as u32
-}
-
-pub(crate) fn flag(yes: bool) -> u64 {
-    u64::from(yes)
-}
-
-// How many numbers a line has, and how many of them before its colon.
-#[derive(Clone, Copy, Default)]
-pub(crate) struct Line {
-    pub count: usize,
-    pub inputs: usize,
-}
-
 // The place of the first answer that is another than the listed one, what is listed, and what was answered.
 #[derive(Clone, Copy)]
 pub(crate) struct Difference {
@@ -53,18 +29,45 @@ pub(crate) struct Difference {
 
 pub(crate) type Verdict = Result<(), Difference>;
 
-// The answers listed stand behind the inputs, and are as many as were given.
-pub(crate) fn judge(line: Line, listed: &[u64], said: &[u64]) -> Verdict {
-    let answers = listed.get(line.inputs..).unwrap_or(&[]);
-    let place = first_other(answers, said);
-    if place == said.len() && line.inputs.wrapping_add(place) == line.count {
-        return Ok(());
+// A line's numbers, how many they are, and how many of them stand before its colon. Behind them stand those of the lines before it.
+#[derive(Clone, Copy)]
+pub(crate) struct Line<'a> {
+    pub numbers: &'a [u64],
+    pub count: usize,
+    pub inputs: usize,
+}
+
+// A call takes the low bits of a number. One generic method would want a trait with three impls, for byte, half and word.
+impl Line<'_> {
+    pub(crate) fn number(&self, at: usize) -> u64 {
+        nth(self.numbers, at)
     }
-    Err(Difference {
-        place,
-        listed: nth(answers, place),
-        said: nth(said, place),
-    })
+
+    pub(crate) fn byte(&self, at: usize) -> u8 {
+        (self.number(at) & 0xff) as u8
+    }
+
+    pub(crate) fn half(&self, at: usize) -> u16 {
+        (self.number(at) & 0xffff) as u16
+    }
+
+    pub(crate) fn word(&self, at: usize) -> u32 {
+        (self.number(at) & 0xffff_ffff) as u32
+    }
+
+    // The answers listed stand behind the inputs, and are as many as were given.
+    pub(crate) fn judge(&self, said: &[u64]) -> Verdict {
+        let answers = self.numbers.get(self.inputs..).unwrap_or(&[]);
+        let place = first_other(answers, said);
+        if place == said.len() && self.inputs.wrapping_add(place) == self.count {
+            return Ok(());
+        }
+        Err(Difference {
+            place,
+            listed: nth(answers, place),
+            said: nth(said, place),
+        })
+    }
 }
 
 // The place of the first answer that is not the one listed, or their count where all are the same.

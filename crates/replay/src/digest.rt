@@ -52,6 +52,3 @@ pub(crate) fn digest_of<T: Halves>(items: &[T]) -> u64
         .fold(Sum { value: 1 }, |sum, item| item.added_to(sum))
         .value
 }
-
-// As plans.rt names it.
-pub(crate) use self::{digest_of as of_longs, digest_of as of_words};

@@ -1,4 +1,5 @@
 // The kinds of calls, by the numbers that begin their lines.
+use crate::plans::PlanCall;
 use crate::ring_calls::RingSum;
 use crate::session_calls::SessionCall;
 
@@ -6,7 +7,7 @@ use crate::session_calls::SessionCall;
 pub(crate) enum Kind {
     Session(SessionCall),
     Ring(RingSum),
-    Plan(u8),
+    Plan(PlanCall),
     // The controller's word in the ring, or the read-back's in the array.
     Store,
 }
@@ -32,12 +33,12 @@ pub(crate) const KINDS: [(Kind, &str); COUNT] = [
     (Kind::Ring(RingSum::FrameList), "frame list"),
     (Kind::Ring(RingSum::Pid), "PID"),
     (Kind::Ring(RingSum::NextNumber), "next number"),
-    (Kind::Plan(18), "data plan"),
-    (Kind::Plan(19), "control plan"),
-    (Kind::Plan(20), "stage read back"),
-    (Kind::Plan(21), "setup bytes"),
-    (Kind::Plan(22), "split"),
-    (Kind::Plan(23), "packets"),
+    (Kind::Plan(PlanCall::Data), "data plan"),
+    (Kind::Plan(PlanCall::Control), "control plan"),
+    (Kind::Plan(PlanCall::ReadBack), "stage read back"),
+    (Kind::Plan(PlanCall::Setup), "setup bytes"),
+    (Kind::Plan(PlanCall::Split), "split"),
+    (Kind::Plan(PlanCall::Packets), "packets"),
     (Kind::Store, "store into the array"),
 ];
 
@@ -45,5 +46,5 @@ pub(crate) const KINDS: [(Kind, &str); COUNT] = [
 pub(crate) fn kind_of(number: u8) -> Kind {
     KINDS
         .get(usize::from(number))
-        .map_or(Kind::Plan(23), |(kind, _)| *kind)
+        .map_or(Kind::Plan(PlanCall::Packets), |(kind, _)| *kind)
 }

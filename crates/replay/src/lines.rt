@@ -1,5 +1,5 @@
 // The list, line by line: the call is made, and its answers are judged.
-use crate::answers::{Line, Verdict, byte_at, half_at, put, word_at};
+use crate::answers::{Line, Verdict, put};
 use crate::kinds::{Kind, kind_of};
 use crate::session_calls::store;
 use crate::tally::Tally;
@@ -15,8 +15,9 @@ fn digit(byte: u8) -> Option<u8> {
 
 // The numbers of a line, each ended by any other character. A number of more than sixteen digits keeps its last sixteen, and one that
 // the text ends in is not read: `parse` and `split_whitespace` would refuse lines that this one takes.
-fn read_line(text: &[u8], numbers: &mut [u64]) -> Line {
-    let mut line = Line::default();
+fn read_line<'a>(text: &[u8], numbers: &'a mut [u64]) -> Line<'a> {
+    let mut count = 0;
+    let mut inputs = 0;
     let mut number = None;
     for byte in text {
         if let Some(digit) = digit(*byte) {
@@ -24,13 +25,17 @@ fn read_line(text: &[u8], numbers: &mut [u64]) -> Line {
             continue;
         }
         if let Some(number) = number.take() {
-            line.count = put(numbers, line.count, number);
+            count = put(numbers, count, number);
         }
         if *byte == b':' {
-            line.inputs = line.count;
+            inputs = count;
         }
     }
-    line
+    Line {
+        numbers,
+        count,
+        inputs,
+    }
 }
 
 // A line that has fewer numbers than its call takes has those of the lines before it.
@@ -41,21 +46,21 @@ pub(crate) fn replay(text: &[u8]) -> Tally {
     let mut tally = Tally::default();
     for text in text.split_inclusive(|byte| *byte == b'\n') {
         let line = read_line(text, &mut listed);
-        let number = byte_at(&listed, 0);
-        let verdict = made(number, line, &listed, &mut session, &mut words);
+        let number = line.byte(0);
+        let verdict = made(kind_of(number), line, &mut session, &mut words);
         tally.note(number, verdict);
     }
     tally
 }
 
 // The words are those of the ring or of a plan's array: in the list all plans come before the first session.
-fn made(number: u8, line: Line, listed: &[u64], session: &mut [u8], words: &mut [u32]) -> Verdict {
-    match kind_of(number) {
-        Kind::Session(call) => crate::session_calls::make(call, line, listed, session, words),
-        Kind::Ring(sum) => crate::ring_calls::make(sum, line, listed),
-        Kind::Plan(number) => crate::plans::call(number, line, listed, words),
+fn made(kind: Kind, line: Line, session: &mut [u8], words: &mut [u32]) -> Verdict {
+    match kind {
+        Kind::Session(call) => crate::session_calls::make(call, line, session, words),
+        Kind::Ring(sum) => crate::ring_calls::make(sum, line),
+        Kind::Plan(call) => crate::plans::make(call, line, words),
         Kind::Store => {
-            store(words, half_at(listed, 1), word_at(listed, 2));
+            store(words, line.half(1), line.word(2));
             Ok(())
         }
     }

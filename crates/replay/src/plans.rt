@@ -1,41 +1,46 @@
 // The planning calls of the list.
-use crate::answers::{Line, Verdict, byte_at, half_at, judge, nth, word_at};
-use crate::digest::{of_longs, of_words};
+use crate::answers::{Line, Verdict};
+use crate::digest::digest_of;
 use crate::ring_calls::{direction_of, speed_of};
-use crate::session_calls::fill;
 use plan::{
-    ControlRequest, ControlSetup, DataKind, DataRequest, DataToggle, Dwc2ControlPlan, Dwc2DataPlan,
+    ControlRequest, ControlSetup, DataKind, DataRequest, DataToggle, Dwc2ControlPlan,
     Dwc2StageRole, Dwc2TransferStage, PlanRefusal, Recipient, RequestType,
 };
 
-pub(crate) fn call(kind: u8, line: Line, listed: &[u64], array: &mut [u32]) -> Verdict {
-    match kind {
-        18 => data(line, listed, array),
-        19 => control(line, listed, array),
-        20 => moved(line, listed, array),
-        21 => setup(line, listed),
-        22 => split(line, listed),
-        _ => packets(line, listed),
+#[derive(Clone, Copy)]
+pub(crate) enum PlanCall {
+    Data,
+    Control,
+    ReadBack,
+    Setup,
+    Split,
+    Packets,
+}
+
+pub(crate) fn make(call: PlanCall, line: Line, array: &mut [u32]) -> Verdict {
+    match call {
+        PlanCall::Data => data(line, array),
+        PlanCall::Control => control(line, array),
+        PlanCall::ReadBack => read_back(line, array),
+        PlanCall::Setup => setup(line),
+        PlanCall::Split => split(line),
+        PlanCall::Packets => packets(line),
     }
 }
 
-fn split(line: Line, listed: &[u64]) -> Verdict {
-    let made = plan::split_dma_lengths(nth(listed, 1), half_at(listed, 2));
-    judge(
-        line,
-        listed,
-        &[made.count, made.chunk as u64, made.last as u64],
-    )
+fn split(line: Line) -> Verdict {
+    let made = plan::split_dma_lengths(line.number(1), line.half(2));
+    line.judge(&[made.count, u64::from(made.chunk), u64::from(made.last)])
 }
 
-fn packets(line: Line, listed: &[u64]) -> Verdict {
-    let count = plan::packet_count(nth(listed, 1), half_at(listed, 2));
-    judge(line, listed, &[count])
+fn packets(line: Line) -> Verdict {
+    let count = plan::packet_count(line.number(1), line.half(2));
+    line.judge(&[count])
 }
 
 // Document 01's number.
 fn number_of(refusal: PlanRefusal) -> u64 {
-    u32::from(refusal) as u64
+    u64::from(u32::from(refusal))
 }
 
 fn role_of(n: u64) -> Dwc2StageRole {
@@ -48,20 +53,20 @@ fn role_of(n: u64) -> Dwc2StageRole {
 }
 
 fn of_stage(stage: Dwc2TransferStage) -> u64 {
-    of_longs(&[
-        u32::from(stage.role) as u64,
-        stage.hcchar as u64,
-        stage.hctsiz as u64,
-        stage.dma_addr as u64,
-        stage.desc_base as u64,
-        stage.descs as u64,
-        stage.len as u64,
+    digest_of(&[
+        u64::from(u32::from(stage.role)),
+        u64::from(stage.hcchar),
+        u64::from(stage.hctsiz),
+        u64::from(stage.dma_addr),
+        u64::from(stage.desc_base),
+        u64::from(stage.descs),
+        u64::from(stage.len),
     ])
 }
 
 // A stage that is not there is all zeros.
 fn of_none() -> u64 {
-    of_longs(&[0; 7])
+    digest_of(&[0u64; 7])
 }
 
 fn kind_of(n: u64) -> DataKind {
@@ -72,120 +77,90 @@ fn kind_of(n: u64) -> DataKind {
     }
 }
 
-fn data_request(listed: &[u64]) -> DataRequest {
+fn data_request(line: Line) -> DataRequest {
     DataRequest {
-        kind: kind_of(nth(listed, 4)),
-        direction: direction_of(nth(listed, 5)),
-        port_speed: speed_of(nth(listed, 6)),
-        device: byte_at(listed, 7),
-        endpoint: byte_at(listed, 8),
-        max_packet_size: half_at(listed, 3),
-        odd_frame: nth(listed, 9) != 0,
-        toggle: DataToggle(nth(listed, 10) != 0),
-        base: nth(listed, 1),
-        len: nth(listed, 2),
+        kind: kind_of(line.number(4)),
+        direction: direction_of(line.number(5)),
+        port_speed: speed_of(line.number(6)),
+        device: line.byte(7),
+        endpoint: line.byte(8),
+        max_packet_size: line.half(3),
+        odd_frame: line.number(9) != 0,
+        toggle: DataToggle(line.number(10) != 0),
+        base: line.number(1),
+        len: line.number(2),
     }
 }
 
 // The array was 0xA5 in each byte, and behind the plan it stays so.
-fn data(line: Line, listed: &[u64], array: &mut [u32]) -> Verdict {
-    fill(array, 0xa5a5_a5a5);
-    let request = data_request(listed);
-    match plan::data_stages(request, array) {
-        Ok(made) => planned(line, listed, made, of_words(array)),
-        Err(refusal) => {
-            let none = of_none();
-            judge(
-                line,
-                listed,
-                &[
-                    number_of(refusal),
-                    u64::from(request.toggle.0),
-                    0,
-                    none,
-                    none,
-                    none,
-                    none,
-                    of_words(array),
-                ],
-            )
-        }
-    }
+fn data(line: Line, array: &mut [u32]) -> Verdict {
+    array.fill(0xa5a5_a5a5);
+    let request = data_request(line);
+    let (refusal, toggle, count, stages) = match plan::data_stages(request, array) {
+        Ok(made) => (0, made.toggle, made.count, made.stages.map(of_stage)),
+        Err(refusal) => (number_of(refusal), request.toggle, 0, [of_none(); 4]),
+    };
+    line.judge(&[
+        refusal,
+        u64::from(toggle.0),
+        u64::from(count),
+        stages[0],
+        stages[1],
+        stages[2],
+        stages[3],
+        digest_of(array),
+    ])
 }
 
-fn planned(line: Line, listed: &[u64], made: Dwc2DataPlan, array: u64) -> Verdict {
-    let stages = made.stages.map(of_stage);
-    judge(
-        line,
-        listed,
-        &[
-            0,
-            u64::from(made.toggle.0),
-            made.count as u64,
-            stages[0],
-            stages[1],
-            stages[2],
-            stages[3],
-            array,
-        ],
-    )
-}
-
-fn control_request(listed: &[u64]) -> ControlRequest {
+fn control_request(line: Line) -> ControlRequest {
     ControlRequest {
-        direction: direction_of(nth(listed, 6)),
-        device: byte_at(listed, 7),
-        max_packet_size: half_at(listed, 5),
-        len: nth(listed, 1),
-        setup_dma: nth(listed, 2),
-        data_dma: nth(listed, 3),
-        status_dma: nth(listed, 4),
+        direction: direction_of(line.number(6)),
+        device: line.byte(7),
+        max_packet_size: line.half(5),
+        len: line.number(1),
+        setup_dma: line.number(2),
+        data_dma: line.number(3),
+        status_dma: line.number(4),
     }
 }
 
-fn control(line: Line, listed: &[u64], array: &mut [u32]) -> Verdict {
-    fill(array, 0xa5a5_a5a5);
-    match plan::build_control_plan(control_request(listed), array) {
-        Ok(made) => controlled(line, listed, made, of_words(array)),
-        Err(refusal) => {
-            let none = of_none();
-            judge(
-                line,
-                listed,
-                &[number_of(refusal), 0, none, none, none, of_words(array)],
-            )
-        }
-    }
+fn control(line: Line, array: &mut [u32]) -> Verdict {
+    array.fill(0xa5a5_a5a5);
+    let (refusal, has_data, stages) = match plan::build_control_plan(control_request(line), array) {
+        Ok(made) => (0, made.data.is_some(), control_stages(made)),
+        Err(refusal) => (number_of(refusal), false, [of_none(); 3]),
+    };
+    line.judge(&[
+        refusal,
+        u64::from(has_data),
+        stages[0],
+        stages[1],
+        stages[2],
+        digest_of(array),
+    ])
 }
 
-fn controlled(line: Line, listed: &[u64], made: Dwc2ControlPlan, array: u64) -> Verdict {
-    judge(
-        line,
-        listed,
-        &[
-            0,
-            u64::from(made.data.is_some()),
-            of_stage(made.setup),
-            made.data.map_or(of_none(), of_stage),
-            of_stage(made.status),
-            array,
-        ],
-    )
+fn control_stages(made: Dwc2ControlPlan) -> [u64; 3] {
+    [
+        of_stage(made.setup),
+        made.data.map_or(of_none(), of_stage),
+        of_stage(made.status),
+    ]
 }
 
-fn moved(line: Line, listed: &[u64], array: &[u32]) -> Verdict {
+fn read_back(line: Line, array: &[u32]) -> Verdict {
     let stage = Dwc2TransferStage {
-        role: role_of(nth(listed, 1)),
-        hcchar: word_at(listed, 2),
-        hctsiz: word_at(listed, 3),
-        dma_addr: word_at(listed, 4),
-        desc_base: word_at(listed, 5),
-        descs: word_at(listed, 6),
-        len: word_at(listed, 7),
+        role: role_of(line.number(1)),
+        hcchar: line.word(2),
+        hctsiz: line.word(3),
+        dma_addr: line.word(4),
+        desc_base: line.word(5),
+        descs: line.word(6),
+        len: line.word(7),
     };
     match plan::stage_actual_length(stage, array) {
-        Ok(bytes) => judge(line, listed, &[0, bytes as u64]),
-        Err(refusal) => judge(line, listed, &[number_of(refusal), 0]),
+        Ok(bytes) => line.judge(&[0, u64::from(bytes)]),
+        Err(refusal) => line.judge(&[number_of(refusal), 0]),
     }
 }
 
@@ -207,21 +182,21 @@ fn recipient_of(n: u64) -> Recipient {
     }
 }
 
-fn setup_of(listed: &[u64]) -> ControlSetup {
+fn setup_of(line: Line) -> ControlSetup {
     ControlSetup {
-        request_type: request_type_of(nth(listed, 1)),
-        recipient: recipient_of(nth(listed, 2)),
-        request: byte_at(listed, 4),
-        value: half_at(listed, 5),
-        index: half_at(listed, 6),
+        request_type: request_type_of(line.number(1)),
+        recipient: recipient_of(line.number(2)),
+        request: line.byte(4),
+        value: line.half(5),
+        index: line.half(6),
     }
 }
 
 // The bytes are listed as one number, the first byte its lowest.
-fn setup(line: Line, listed: &[u64]) -> Verdict {
-    let direction = direction_of(nth(listed, 3));
-    match plan::setup_packet_bytes(setup_of(listed), direction, nth(listed, 7)) {
-        Ok(bytes) => judge(line, listed, &[0, u64::from_le_bytes(bytes)]),
-        Err(refusal) => judge(line, listed, &[number_of(refusal), 0]),
+fn setup(line: Line) -> Verdict {
+    let direction = direction_of(line.number(3));
+    match plan::setup_packet_bytes(setup_of(line), direction, line.number(7)) {
+        Ok(bytes) => line.judge(&[0, u64::from_le_bytes(bytes)]),
+        Err(refusal) => line.judge(&[number_of(refusal), 0]),
     }
 }

@@ -68,7 +68,7 @@ pub(crate) fn submit_two(
     submit(session, transfer(reading, 384, words), &[192, 192], ring)
 }
 
-// A buffer at 4096, both readings the same, nothing in its way.
+// A buffer at 4096, both readings the same, nothing in its way. Each program has its own: a crate for ten fields is no plainer.
 fn transfer(reading: u32, bytes: u32, words: u32) -> IsoTransfer {
     IsoTransfer {
         isochronous: true,

@@ -3,7 +3,8 @@ ghost use Rattle.std.specs.Prelude.{IfOk, ◌≤◌, length};
 
 use std::{fmt, io};
 
-// A number by its name, what document 01 says and what the code answers.
+// A number by its name, what document 01 says and what the code answers. Story's Row has a source too, which one type for both would
+// carry here unused.
 #[derive(Clone, Copy)]
 pub(crate) struct Line {
     what: &'static str,
