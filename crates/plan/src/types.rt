@@ -140,7 +140,7 @@ pub struct Dwc2TransferStage {
 }
 
 // The first `count` stages in the order in which they run, and the toggle that a transfer without a short packet leaves. A table beside
-// a count: the project has no heap, and C reads the plan as this struct.
+// a count: the project has no heap.
 #[derive(Clone, Copy)]
 pub struct Dwc2DataPlan {
     pub toggle: DataToggle,

@@ -57,7 +57,7 @@ fn is_bad_packet(bytes: &[u8], at: usize, limit: u16, slots: u16) -> bool
     is_bad_plan_at(bytes, at) | is_bad_plan(limit, slots, plan_at(bytes, at))
 }
 
-// Whether one of the first plans, `all` of them, is bad by either check. A test of its number alone, as for a request, was tried and gains nothing.
+// Whether one of the first plans, `all` of them, is bad by either check.
 fn any_bad_packet(bytes: &[u8], all: usize, limit: u16, slots: u16) -> bool
     requires { (8488 ≤ length bytes.now) × (all ≤ 1024) }
     ensures { result

@@ -24,7 +24,7 @@ const BARE: Tagged = Tagged {
     word: 0,
 };
 
-// `From` between a byte and an enum of another crate is for that crate to write, so each direction here is a function.
+// `From` between a byte and an enum of another crate is for that crate to write, and session may not know the layout: each direction is a function.
 pub(crate) fn speed_tag(speed: Speed) -> u8
     ensures { result ≡ speed_tag speed }
 {

@@ -5,7 +5,7 @@ ghost use Rattle.ring.specs.RingSums.{microframes_ahead, starting_frame, frame_s
 use crate::speed::{Speed, at_speed};
 
 // The frame list has 64 entries. The first `count` bytes are the entries of one channel, in the order of service: a fixed table
-// beside its count, since there is no heap and C has the same struct.
+// beside its count, since there is no heap.
 #[derive(Clone, Copy)]
 pub struct IsoServiceFrames {
     pub count: u16,

@@ -1,5 +1,5 @@
 // The sums of the descriptor ring, and the packets of a submission stored into it: document 01, "Ring sums" and "Submit".
-// Every function answers for every input, and none has a `requires`.
+// Every public function answers for every input, and none has a `requires`.
 #![tactic(auto)]
 
 mod frames;

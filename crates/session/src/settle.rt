@@ -103,8 +103,8 @@ impl IsoChannelState {
         !is_active_at(ring, self.plans[last].desc_index)
     }
 
-    // Settles the oldest request at once where the bit is set, then each oldest one that is served. The loop counts no index: a turn
-    // makes the session that the next one asks, so a `for` over the pending ones is no plainer.
+    // Settles the oldest request at once where the bit is set, then each oldest one that is served. The loop counts no index: it
+    // ends by the session that each turn makes.
     pub(crate) fn drain_serviced(mut self, bit: bool, ring: &mut [u32]) -> Self
         requires { is_bad_record self ≡ false }
         ensures { (result ≡ (drained bit self ring.old).session) × (ring.new ≡ (drained bit self ring.old).ring) }

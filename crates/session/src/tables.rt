@@ -1,4 +1,4 @@
-// Blank tables, and sums over the entries in use.
+// Blank entries, and sums over the entries in use.
 ghost use Rattle.std.specs.Prelude.{◌≡◌, ◌≤◌, length};
 ghost use Rattle.session.specs.Session.{blank_request, blank_plan, packets_of};
 

@@ -1,4 +1,4 @@
-// Descriptor and register words: document 01, "Words". Every function is total: a value too wide for its field is cut to it.
+// Descriptor and register words: document 01, "Words". Every public function is total: a value too wide for its field is cut to it.
 #![tactic(auto)]
 
 mod address;
