@@ -3,9 +3,6 @@ ghost use Rattle.std.specs.Prelude.{◌≡◌};
 ghost use Rattle.plan.specs.Numbers.{refusal_number};
 ghost use Rattle.plan.specs.Refusals.{is_bad};
 
-use std::error::Error;
-use std::fmt;
-
 #[derive(Clone, Copy, Debug, PartialEq, Eq)]
 pub enum PlanRefusal {
     ShortBuffer,
@@ -29,20 +26,6 @@ impl From<PlanRefusal> for u32 {
         }
     }
 }
-
-impl fmt::Display for PlanRefusal {
-    fn fmt<W: fmt::Write>(&self, f: &mut fmt::Formatter<W>) -> fmt::Result {
-        f.write_str(match self {
-            PlanRefusal::ShortBuffer => "the array is too short",
-            PlanRefusal::BadEndpoint => "no such endpoint",
-            PlanRefusal::ControlTooLong => "control data is too long",
-            PlanRefusal::TooManyDescriptors => "too many descriptors",
-            PlanRefusal::AddressLimit => "beyond the address limit",
-        })
-    }
-}
-
-impl Error for PlanRefusal {}
 
 pub(crate) fn is_bad(endpoint: u8, device: u8, packet: u16) -> bool
     ensures { result ≡ is_bad endpoint device packet }

@@ -13,6 +13,7 @@ use Rattle.session.proofs.reclaim
 use Rattle.session.proofs.refusal
 use Rattle.session.proofs.record
 use Rattle.session.proofs.submit
+use Rattle.session.proofs.tables
 use Rattle.session.proofs.way
 
 pub open_unique : Unique 1 functions.open.Kinds.ps functions.open.Kinds.r functions.open.Reads.Post
@@ -87,3 +88,15 @@ refusal_number_unique κs a x y u v = equal refl
 
 pub outcome_of_unique : Unique 0 poll.IsoOutcomeFromIsoHaltReason.from.Kinds.ps poll.IsoOutcomeFromIsoHaltReason.from.Kinds.r poll.IsoOutcomeFromIsoHaltReason.from.Reads.Post
 outcome_of_unique κs a x y u v = equal refl
+
+pub has_reason_unique : Unique 0 record.has_reason.Kinds.ps record.has_reason.Kinds.r record.has_reason.Reads.Post
+has_reason_unique κs a x y u v = equal refl
+
+pub is_done_unique : Unique 0 reclaim.is_done.Kinds.ps reclaim.is_done.Kinds.r reclaim.is_done.Reads.Post
+is_done_unique κs a x y u v = equal refl
+
+pub rest_unique : Unique 0 tables.rest.Kinds.ps tables.rest.Kinds.r tables.rest.Reads.Post
+rest_unique κs a x y u v = equal refl
+
+pub is_guarded_unique : Unique 0 way.is_guarded.Kinds.ps way.is_guarded.Kinds.r way.is_guarded.Reads.Post
+is_guarded_unique κs a x y u v = equal refl

@@ -26,11 +26,14 @@ pub use end::with_outcome;
 pub use open::{Opened, clear_first, ring_words};
 pub use place::insert_of;
 pub use poll::way_of;
-pub use reclaim::handed_answer;
-pub use record::{is_bad_config, is_bad_plan, is_bad_request, is_bad_state, is_over_room};
+pub use reclaim::{handed_answer, is_done};
+pub use record::{
+    has_reason, is_bad_config, is_bad_plan, is_bad_request, is_bad_state, is_over_room,
+};
 pub use refusal::IsoRefusal;
 pub use reply::{IsoCompletion, IsoEvent, IsoReply, PollWay, Reclaimed};
 pub use submit::{new_request, submit_parts};
+pub use tables::rest;
 pub use transfer::{
     IsoChannelStart, IsoSubmission, IsoTransfer, SubmitParts, SubmitScan, SubmitWay, Submitted,
 };
@@ -38,4 +41,4 @@ pub use types::{
     IsoChannelState, IsoConfig, IsoHaltReason, IsoHead, IsoMode, IsoOutcome, IsoPacketPlan,
     IsoRequest, TransferStatus,
 };
-pub use way::clash;
+pub use way::{clash, is_guarded};

@@ -3,13 +3,19 @@ ghost use Rattle.std.specs.Prelude.{◌≡◌, false, map, ◌+◌, ◌≤◌, �
 ghost use Rattle.std.proofs.lemmas.List.Edits.{sets};
 ghost use Rattle.session.specs.Session.{ring_words};
 ghost use Rattle.session.specs.Record.{is_bad_record};
-ghost use Rattle.session.specs.Reclaim.{error_bit, result_word, looked, looked_ring, plans_begin, plans_end, removed, handed_length, handed_answer, handed_results, reclaim_reply, looked_again, looked_results, reclaimed, reclaimed_ring, reclaimed_results};
+ghost use Rattle.session.specs.Reclaim.{is_done, error_bit, result_word, looked, looked_ring, plans_begin, plans_end, removed, handed_length, handed_answer, handed_results, reclaim_reply, looked_again, looked_results, reclaimed, reclaimed_ring, reclaimed_results};
 
 use crate::open::ring_words;
 use crate::refusal::IsoRefusal;
 use crate::reply::{IsoCompletion, IsoEvent, IsoReply, Reclaimed, done};
 use crate::tables::packets_of;
 use crate::types::{IsoChannelState, IsoOutcome, IsoPacketPlan, IsoRequest, TransferStatus};
+
+pub fn is_done(outcome: IsoOutcome) -> bool
+    ensures { result ≡ is_done outcome }
+{
+    outcome == IsoOutcome::Done
+}
 
 fn error_bit(status: TransferStatus) -> u32
     ensures { (result ≡ error_bit status) × (result ≤ 16777216) }

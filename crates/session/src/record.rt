@@ -59,6 +59,12 @@ pub fn is_bad_plan(limit: u16, slots: u16, plan: IsoPacketPlan) -> bool
     (plan.planned > limit) | ((plan.actual > plan.planned) | (plan.desc_index >= slots))
 }
 
+pub fn has_reason(fatal: Option<IsoHaltReason>) -> bool
+    ensures { result ≡ has_reason fatal }
+{
+    fatal.is_some()
+}
+
 // The cursor beyond the ring, or requests pending or a reason without a live channel.
 pub fn is_bad_state(head: IsoHead, slots: u16, fatal: Option<IsoHaltReason>) -> bool
     ensures { result ≡ leb slots head.td_last || not head.live && (ltb head.done head.count || has_reason fatal) }

@@ -1,5 +1,5 @@
 // Blank entries, and sums over the entries in use.
-ghost use Rattle.std.specs.Prelude.{◌≡◌, ◌≤◌, length};
+ghost use Rattle.std.specs.Prelude.{◌-◌, ◌≡◌, ◌≤◌, length};
 ghost use Rattle.session.specs.Session.{blank_request, blank_plan, packets_of};
 
 use crate::types::{IsoOutcome, IsoPacketPlan, IsoRequest, TransferStatus};
@@ -35,4 +35,11 @@ pub(crate) fn packets_of(requests: &[IsoRequest]) -> usize
         .iter()
         .map(|request| usize::from(request.packets))
         .sum()
+}
+
+// What is left of `all`.
+pub fn rest(all: u32, used: u32) -> usize
+    ensures { result ≡ all - used }
+{
+    all.saturating_sub(used) as usize
 }

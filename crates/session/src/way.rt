@@ -20,6 +20,12 @@ use crate::transfer::{IsoTransfer, SubmitScan, SubmitWay};
 use crate::types::{IsoConfig, IsoHaltReason, IsoHead, IsoMode};
 use ring::{Speed, iso_max_xfer_size};
 
+pub fn is_guarded(mode: IsoMode) -> bool
+    ensures { result ≡ is_guarded mode }
+{
+    mode == IsoMode::Guarded
+}
+
 // The gates of a first submission, and between them the words that may be stored.
 fn gate_way(live: bool, transfer: IsoTransfer, n: usize) -> SubmitWay
     requires { n ≤ 1024 }
