@@ -106,6 +106,7 @@ pub by_plan :
 by_plan ys =
     let on : (k : ℕ) → byte_of (drop 1 (drop k ys)) ≡ byte_of (drop (k + 1) ys) = λ k. ap byte_of (drop-drop 1 k ys) in
     omega (arith, by_bytes_lem ys, pair (drop 1 ys), on 1, pair (drop 3 ys), on 3, pair (drop 5 ys), on 5)
+
 -- without requests there are no packets
 pub empty_all : (xs : List ℕ) → (session_of xs).head.count ≡ 0 → 0 ≡ all_packets (session_of xs)
 empty_all xs empty = let s : IsoChannelState = session_of xs in sym (packets_past 0 s.head.count s.requests (omega (arith, empty)))
