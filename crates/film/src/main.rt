@@ -8,20 +8,16 @@ mod disk;
 mod empty;
 mod guard;
 mod long;
-mod page;
 mod play;
-mod print;
 mod script;
 mod step;
 mod submission;
 
-use crate::print::text;
 use std::io;
 
 fn main(rt: HostRuntime) -> io::Result<()> {
-    text(
-        &rt,
-        b"The film: a camera's ring and a disk's transfers on a simulated USB host
+    rt.print(
+        "The film: a camera's ring and a disk's transfers on a simulated USB host
 controller, played by the library. It is proved against document 01, the paper of
 rules. Three earlier drivers failed in the field; the scenes say how, and why it
 cannot happen here.
@@ -40,17 +36,13 @@ to the controller. One character below is one slot:
 
 ",
     )?;
-    let mut cells = [0u8; play::CELLS];
-    let mut seen = [0u64; play::NUMBERS];
-    play::play(&mut cells, &mut seen);
-    submission::scene(&rt, &cells, &seen)?;
-    guard::scene(&rt, &cells, &seen)?;
-    cut::scene(&rt, &cells, &seen)?;
+    submission::scene(&rt)?;
+    guard::scene(&rt)?;
+    cut::scene(&rt)?;
     long::scene(&rt)?;
     empty::scene(&rt)?;
-    text(
-        &rt,
-        b"Read next: README.md, what stands where; docs/READING.md, a way through the rules
+    rt.print(
+        "Read next: README.md, what stands where; docs/READING.md, a way through the rules
 and the proofs; include/dwc2_port.h, these calls from C; crates/session/specs, the
 rules that this film keeps, as the prover reads them.
 ",

@@ -4,6 +4,7 @@ use mathlib.Core.Bool.{Bool, true, false, ◌&&◌, cond}
 use mathlib.Core.List.{List, [], ◌∷◌, map}
 use mathlib.Core.Logic.{⊎_elim}
 use Prim.Native.Nat.{ℕ, zero, suc, ◌+◌, ◌*◌, ◌<◌}
+use Rattle.std.proofs.lemmas.Bool.{and_parts}
 use native.Mathlib.Omega.{arith}
 use lib.Dec.{eqb, ltb}
 use lib.ListN.{length, get_or, set, drop, length-set}
@@ -72,19 +73,15 @@ drawn_restated x (p ∷ put) ring d h = go (eqb p.slot x.slot) refl (drawn_resta
 
 -- ---- the step
 
-both : (a b : Bool) → (a && b) ≡ true → (a ≡ true) × (b ≡ true)
-both true b e = (refl, e)
-both false b e = let z : ◌≡◌ {A = ℕ} 0 1 = cc in absurd (omega arith)
-
 -- a word of zero is not active
 pub inactive : (w : ℕ) → w ≡ 0 → is_set active w ≡ true → ⊥
-inactive w z e = let f : is_set active 0 ≡ true = subst (λ (n : ℕ). is_set active n ≡ true) z e in let y : ◌≡◌ {A = ℕ} 0 1 = cc in omega arith
+inactive w z e = let f : is_set active 0 ≡ true = subst (λ (n : ℕ). is_set active n ≡ true) z e in cc
 
 module _ {s : IsoChannelState} {ring : List ℕ} {put : List Laid} (f : Fits s ring put) (x : Touch) where
   -- an active slot is one of those put
   pub touch_among : may_touch s.cfg x ring ≡ true → Among x.slot (map slot_of put)
   touch_among e =
-      let t = both (ltb x.slot (slots s.cfg)) (is_set active (get_or ring (2 * x.slot) 0)) e in
+      let t = and_parts (ltb x.slot (slots s.cfg)) (is_set active (get_or ring (2 * x.slot) 0)) e in
       let below : x.slot < slots s.cfg = ltb-true x.slot (slots s.cfg) t.0 in
       ⊎_elim (λ h. h) (λ h. absurd (inactive (get_or ring (2 * x.slot) 0) (other_zero f x.slot (2 * x.slot) below (omega arith) (omega arith) h) t.1))
       (among_or_absent x.slot (map slot_of put))

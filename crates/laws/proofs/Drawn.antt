@@ -1,7 +1,8 @@
 -- Laws of drawings: what a word of the ring is after one, and how a store and a clearing go with one.
-use mathlib.Core.Path.{◌≡◌, refl, ◌∙◌, sym, ap, subst⁻¹}
+use mathlib.Core.Path.{◌≡◌, refl, ◌∙◌, sym, ap, subst, subst⁻¹}
 use mathlib.Core.List.{List, [], ◌∷◌, ◌++◌, map}
 use Prim.Native.Nat.{ℕ, zero, suc, ◌+◌, ◌*◌, ◌≤◌, ◌<◌}
+use Rattle.std.proofs.lemmas.List.{take-map}
 use native.Mathlib.Omega.{arith}
 use lib.ListN.{length, get_or, set, take, drop, length-set}
 use lib.Seq.{set_comm, get_or-set_same, get_or-set_other, drop-set-lt}
@@ -87,14 +88,9 @@ pub stored_holds :
 stored_holds x ws ring a b h = (stored_other (2 * x.slot) ws ring a ∙ h.0, stored_other (2 * x.slot + 1) ws ring b ∙ h.1)
 
 -- the first k words: none is a word of a slot that is not drawn
-pub take_words : (k : ℕ) (ws : List Store) → map word_at (take k ws) ≡ take k (map word_at ws)
-take_words zero ws = refl
-take_words (suc k) [] = refl
-take_words (suc k) (x ∷ ws) = ap (λ (l : List ℕ). x.word ∷ l) (take_words k ws)
-
 pub absent_first :
     (k slot u : ℕ) (xs : List Laid) → 2 * slot ≤ u → u ≤ 2 * slot + 1 → Absent slot (map slot_of xs) → Absent u (map word_at (take k (words_of xs)))
-absent_first k slot u xs l m h = subst⁻¹ (Absent u) (take_words k (words_of xs)) (absent_take u k (map word_at (words_of xs)) (absent_words slot u xs l m h))
+absent_first k slot u xs l m h = subst (Absent u) (take-map word_at k (words_of xs)) (absent_take u k (map word_at (words_of xs)) (absent_words slot u xs l m h))
 
 -- every slot drawn is one of the ring's
 abbrev pub Within : ℕ → List Laid → Type 0

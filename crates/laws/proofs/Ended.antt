@@ -8,13 +8,13 @@ use Rattle.session.specs.declared.types.IsoOutcome.{IsoOutcome}
 use Rattle.session.specs.declared.types.IsoOutcome.TheVariants as outcome
 use Rattle.session.specs.declared.types.IsoChannelState.{IsoChannelState}
 use Rattle.session.specs.declared.reply.IsoReply.{IsoReply}
-use Rattle.session.specs.Session.{blank_request, ring_words, all_packets, pending_packets}
+use Rattle.session.specs.Session.{ring_words, all_packets, pending_packets}
 use Rattle.session.specs.Way.{pending_plans}
-use Rattle.session.specs.End.{with_outcome, ended_requests, ended, ended_ring}
+use Rattle.session.specs.End.{ended_requests, ended, ended_ring}
 use Rattle.session.specs.Poll.{recovered, recovered_ring}
 use Rattle.session.proofs.Laws.Sums.{packets_past}
 use Rattle.session.proofs.Laws.Record.{Sound, not_bad}
-use Rattle.session.proofs.Laws.Lists.{slice_past, map_amend}
+use Rattle.session.proofs.Laws.Lists.{slice_past}
 use Rattle.session.proofs.Laws.Ended.{ended_sound}
 use Rattle.laws.specs.Drawing.{Laid}
 use Rattle.laws.specs.Run.{State, Recover, still_put, recover, step}
@@ -22,8 +22,9 @@ use Rattle.laws.specs.Demand3.{slot_of_plan}
 use Rattle.laws.specs.Invariant.{Fits, Numbered, Invariant}
 use Rattle.laws.proofs.Lists.{distinct_none}
 use Rattle.laws.proofs.Calls.Recovery.{recovery}
+use Rattle.laws.proofs.Calls.Course.{ended_order}
 use Rattle.laws.proofs.Fitting.{ring_long}
-use Rattle.laws.proofs.Keeping.{Keeps, left_invariant, id_of, numbered_same}
+use Rattle.laws.proofs.Keeping.{Keeps, left_invariant, numbered_same}
 
 module _ (o : IsoOutcome) (s : IsoChannelState) (g : Sound s) where
   none_pending : pending_packets (ended o s) ≡ 0
@@ -50,9 +51,7 @@ module _ (o : IsoOutcome) (s : IsoChannelState) (g : Sound s) where
 
   pub ended_numbered : (numbers : List ℕ) → Numbered s numbers → Numbered (ended o s) numbers
   ended_numbered numbers h =
-      numbered_same s (ended o s) numbers h refl
-      (map_amend id_of (with_outcome o) blank_request (λ r. refl) (s.head.count - s.head.done) s.head.done s.head.count s.requests
-      (omega (arith, g.done_in)) (omega (arith, g.count_in, g.requests_long)))
+      numbered_same s (ended o s) numbers h refl (ended_order o s g).numbers
 
 pub ended_keeps : (o : IsoOutcome) (st : State) → Invariant st → (ring : List ℕ) → Keeps st (ended o st.session) (ended_ring st.session ring)
 ended_keeps o st v ring =

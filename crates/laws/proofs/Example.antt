@@ -4,11 +4,12 @@ use mathlib.Core.Path.{◌≡◌, refl, ◌∙◌, ap, subst⁻¹}
 use mathlib.Core.Bool.{true}
 use mathlib.Core.List.{List, [], ◌∷◌, map}
 use Prim.Native.Nat.{◌≤◌}
+use Rattle.std.specs.Prelude.{Ok}
 use native.Mathlib.Omega.{arith}
 use lib.ListN.{length, get_or, take, drop}
 use Rattle.ring.specs.Gcd.{gcd}
 use Rattle.words.specs.Words.{is_set, active}
-use Rattle.session.specs.declared.transfer.SubmitAnswer.TheVariants.{Accepted}
+use Rattle.session.specs.declared.transfer.IsoSubmission.TheVariants.{Accepted}
 use Rattle.session.specs.Submit.{submitted, submitted_ring}
 use Rattle.session.specs.Poll.{recovered, recovered_ring}
 use Rattle.laws.specs.Drawing.{slot_of, Distinct}
@@ -49,7 +50,7 @@ example =
     }
 
 -- the third request is accepted as request 3 where it may store all of its words
-third_accepted : (submitted three.session (up_to 4 third) (192 ∷ 192 ∷ []) three.ring).answer ≡ Accepted 3
+third_accepted : (submitted three.session (up_to 4 third) (192 ∷ 192 ∷ []) three.ring).answer ≡ Ok (Accepted 3)
 unfolding gcd
 third_accepted = refl
 
@@ -67,21 +68,18 @@ stopped_third =
 abbrev meanwhile : List Touch
 meanwhile = record { slot = 8; word = 5 } ∷ []
 
+three_of_four : 3 ≤ 4
+three_of_four = omega arith
+
 pub example_stopped : Stopped (reached example) stopped_third 3 (stopped (reached example) stopped_third 3)
 unfolding stopped_third
-example_stopped = (demand3 example stopped_third 3 few meanwhile).0
-  where
-    few : 3 ≤ 4
-    few = omega arith
+example_stopped = (demand3 example stopped_third 3 three_of_four meanwhile).0
 
 pub example_recovered :
     Recovered (reached example) stopped_third (recovered (reached example).session (length (found (reached example) stopped_third 3 meanwhile)))
     (recovered_ring (reached example).session (found (reached example) stopped_third 3 meanwhile))
 unfolding stopped_third
-example_recovered = (demand3 example stopped_third 3 few meanwhile).1
-  where
-    few : 3 ≤ 4
-    few = omega arith
+example_recovered = (demand3 example stopped_third 3 three_of_four meanwhile).1
 
 -- ---- in figures
 

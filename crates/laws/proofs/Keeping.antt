@@ -5,7 +5,7 @@ use mathlib.Core.List.{List, ◌∷◌, map}
 use Prim.Native.Nat.{ℕ, ◌-◌}
 use native.Mathlib.Omega.{arith}
 use lib.Dec.{eqb}
-use lib.ListN.{length, get_or, set, drop, get_or-map}
+use lib.ListN.{length, set, drop}
 use lib.Seq.{slice, map-set_same}
 use Rattle.session.specs.declared.types.IsoMode.TheVariants.{Guarded}
 use Rattle.session.specs.declared.types.IsoPacketPlan.{IsoPacketPlan}
@@ -22,6 +22,8 @@ use Rattle.session.specs.Cancel.{request_at, with_cancelled, cancelled}
 use Rattle.session.proofs.Laws.Record.{Sound}
 use Rattle.session.proofs.Laws.Ended.{packets, packets_kept, reset_sound, amended_sound, reason_sound, reset_picked, cancel_picked}
 use Rattle.session.specs.Reclaim.{request_of}
+use Rattle.laws.proofs.Calls.Settled.{number}
+use Rattle.laws.proofs.Calls.Places.{number_kept}
 use Rattle.laws.specs.Drawing.{Laid, drawn, Among}
 use Rattle.laws.specs.Run.{State, Cancel, Reset, still_put, left, step}
 use Rattle.laws.specs.Demand3.{slot_of_plan}
@@ -81,15 +83,11 @@ fits_same s r ring put f g c p a b =
     })
 
 -- the same numbers
-abbrev pub id_of : IsoRequest → ℕ
-id_of r = r.id
-
 pub numbered_same :
-    (s r : IsoChannelState) (numbers : List ℕ) → Numbered s numbers → r.head.count ≡ s.head.count → map id_of r.requests ≡ map id_of s.requests
+    (s r : IsoChannelState) (numbers : List ℕ) → Numbered s numbers → r.head.count ≡ s.head.count → map number r.requests ≡ map number s.requests
     → Numbered r numbers
 numbered_same s r numbers h c e =
-    let same : (i : ℕ) → (request_of i r).id ≡ (request_of i s).id =
-    λ i. sym (get_or-map id_of r.requests i blank_request) ∙ ap (λ (l : List ℕ). get_or l i 0) e ∙ get_or-map id_of s.requests i blank_request in
+    let same : (i : ℕ) → (request_of i r).id ≡ (request_of i s).id = number_kept s r c e in
     record {
       used = λ i k. subst⁻¹ (λ (n : ℕ). Among n numbers) (same i) (h.used i (omega (arith, c)));
       differ = λ i j l k q. h.differ i j l (omega (arith, c)) (sym (same i) ∙ q ∙ same j);
@@ -128,7 +126,7 @@ module _ (st : State) (v : Invariant st) where
               (amended_sums st.session.head.done);
           numbered =
               numbered_same st.session (with_cancelled at st.session) st.numbers v.numbered refl
-              (map-set_same id_of st.session.requests at amended blank_request refl);
+              (map-set_same number st.session.requests at amended blank_request refl);
         }
 
   keeps_reason : Sound (with_reason reason.Cancelled st.session) → Keeps st (with_reason reason.Cancelled st.session) st.ring

@@ -7,9 +7,9 @@ use Prim.Native.Nat.{ℕ, zero, suc, ◌+◌, ◌≤◌, ◌<◌}
 use native.Mathlib.Omega.{arith}
 use lib.Dec.{eqb}
 use lib.ListN.{length, get_or, set, take, drop}
-use lib.Seq.{sets, slice, length-sets, take-set-le}
+use lib.Seq.{sets, slice, length-take-le, drop-append-le}
 use borrow.Author.Tests.{eqb-true, eqb-false}
-use Rattle.session.proofs.Laws.Lists.{slice_after_set, slice_split, slice_sets}
+use Rattle.session.proofs.Laws.Lists.{slice_after_set, front_sets}
 use Rattle.laws.specs.Drawing.{Among, Absent, Distinct}
 
 -- ---- absent
@@ -85,13 +85,6 @@ module _ {A : Type 0} where
   slice_after_sets [] l i f t h k = refl
   slice_after_sets (a ∷ vs) l i f t h k = slice_after_sets vs (set l i a) (suc i) f t (omega arith) k ∙ slice_after_set f t i l a (omega arith) (omega arith)
 
-  take_before_sets : (vs l : List A) (i t : ℕ) → t ≤ i → take t (sets l i vs) ≡ take t l
-  take_before_sets [] l i t h = refl
-  take_before_sets (a ∷ vs) l i t h = take_before_sets vs (set l i a) (suc i) t (omega arith) ∙ take-set-le t l i a h
-
   -- a slice up to a run of stores that were put behind it
   pub slice_behind : (vs l : List A) (f t : ℕ) → f ≤ t → t + length vs ≤ length l → slice f (t + length vs) (sets l t vs) ≡ slice f t l ++ vs
-  slice_behind vs l f t h k =
-      slice_split f t (t + length vs) (sets l t vs) h (omega arith) (omega (arith, length-sets l t vs))
-      ∙ ap (λ (a : List A). drop f a ++ slice t (t + length vs) (sets l t vs)) (take_before_sets vs l t t (omega arith))
-      ∙ ap (λ (a : List A). slice f t l ++ a) (slice_sets vs l t k)
+  slice_behind vs l f t h k = ap (drop f) (front_sets vs l t k) ∙ drop-append-le f (take t l) vs (omega (arith, length-take-le t l))

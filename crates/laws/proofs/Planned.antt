@@ -1,6 +1,6 @@
 -- The slots that an admitted submission plans: an interval apart, pairwise distinct, none at the new cursor, none of a pending packet.
 use mathlib.Core.Path.{◌≡◌, refl, ◌∙◌, sym, ap, subst⁻¹}
-use mathlib.Core.Bool.{Bool, true, false, ◌&&◌}
+use mathlib.Core.Bool.{false, ◌&&◌}
 use mathlib.Core.List.{List, [], ◌∷◌, map}
 use Prim.Native.Nat.{ℕ, suc, ◌+◌, ◌*◌, ◌<◌}
 use native.Mathlib.Nat.{zero-add, mod-lt}
@@ -92,8 +92,6 @@ module _ (s : IsoChannelState) (t : IsoTransfer) (lengths ring : List ℕ) where
           (λ j m e.
           let pending : i < length (pending_plans s) = omega (arith, length-map put slot_of, put_length f, pending_plans_lem s f.sound) in
           let held = held_where (pending_plans s) (get_or list j 0) i pending (sym (put_is i) ∙ sym e) in
-          differ (any_held (pending_plans s) list) (any_held_where (pending_plans s) list j m held) none_held)
-        where
-          differ : (b : Bool) → b ≡ true → b ≡ false → ⊥
-          differ true x y = let z : ◌≡◌ {A = ℕ} 0 1 = cc in absurd (omega arith)
-          differ false x y = let z : ◌≡◌ {A = ℕ} 0 1 = cc in absurd (omega arith)
+          let some = any_held_where (pending_plans s) list j m held in
+          let none = none_held in
+          cc)

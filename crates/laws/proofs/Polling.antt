@@ -1,6 +1,7 @@
 -- A poll keeps the invariant, whatever it does.
 use mathlib.Core.Path.{refl, subst⁻¹}
 use Prim.Native.Nat.{◌-◌}
+use Rattle.std.specs.Prelude.{Option}
 use native.Mathlib.Omega.{arith}
 use lib.ListN.{length}
 use borrow.Author.Tests.{le-ltb}
@@ -36,11 +37,11 @@ by_way st v (Settle bit) g =
     drain_keeps (st.session.head.count - st.session.head.done) bit st v (omega (arith, v.fits.sound.done_in))
 
 -- what a poll does once its tests are passed, which is also what reclaim's poll does
-pub polling : (st : State) → Invariant st → (e : IsoEvent)
+pub polling : (st : State) → Invariant st → (e : Option IsoEvent)
     → Keeps st (polled_by (poll_way st.session e) st.session st.ring).session (polled_ring_by (poll_way st.session e) st.session st.ring)
 polling st v e = by_way st v (poll_way st.session e) (polled_sound st.session e st.ring v.fits.sound)
 
-pub poll : (st : State) (e : IsoEvent) → Invariant st → Invariant (step st (Poll e))
+pub poll : (st : State) (e : Option IsoEvent) → Invariant st → Invariant (step st (Poll e))
 poll st e v =
     let s = st.session in
     let way = poll_way s e in

@@ -3,6 +3,7 @@ use mathlib.Core.Path.{◌≡◌, refl, ◌∙◌, sym, ap, subst⁻¹}
 use mathlib.Core.Bool.{Bool, true, false, cond}
 use mathlib.Core.List.{List, map}
 use Prim.Native.Nat.{ℕ, ◌+◌, ◌-◌, ◌≤◌, ◌<◌}
+use Rattle.std.specs.Prelude.{Option, Some, None, Ok, Err}
 use native.Mathlib.Omega.{arith}
 use lib.Dec.{ltb}
 use lib.ListN.{length, drop}
@@ -10,10 +11,9 @@ use lib.Seq.{slice, length-slice}
 use borrow.Author.Tests.{ltb-true, ltb-false}
 use Rattle.session.specs.declared.types.IsoRequest.{IsoRequest}
 use Rattle.session.specs.declared.types.IsoChannelState.{IsoChannelState}
-use Rattle.session.specs.declared.reply.IsoAnswer.TheVariants as answer
 use Rattle.session.specs.declared.reply.IsoEvent.{IsoEvent}
 use Rattle.session.specs.declared.reply.Reclaimed.{Reclaimed}
-use Rattle.session.specs.declared.reply.ReclaimAnswer.TheVariants as reclaim
+use Rattle.session.specs.declared.refusal.IsoRefusal.TheVariants as refusal
 use Rattle.session.specs.Session.{blank_request, packets_of}
 use Rattle.session.specs.Record.{is_bad_record}
 use Rattle.session.specs.Poll.{reply, poll_way, polled_by, polled_ring_by}
@@ -94,12 +94,12 @@ removed_keeps st s ring k at h =
 -- ---- the call
 
 -- "looks, polls if it found nothing"
-looked_keeps : (st : State) → Invariant st → (id : ℕ) (e : IsoEvent)
+looked_keeps : (st : State) → Invariant st → (id : ℕ) (e : Option IsoEvent)
     → Keeps st (looked id e st.session st.ring).session (looked_ring id e st.session st.ring)
 looked_keeps st v id e = by (is_found id st.session)
   where
     by : (b : Bool)
-        → Keeps st (cond b (reply answer.Done false false st.session) (polled_by (poll_way st.session e) st.session st.ring)).session
+        → Keeps st (cond b (reply (Ok tt) false false st.session) (polled_by (poll_way st.session e) st.session st.ring)).session
         (cond b st.ring (polled_ring_by (poll_way st.session e) st.session st.ring))
     by true = keeps_none st v
     by false = polling st v e
@@ -110,8 +110,8 @@ again_keeps : (st : State) (s : IsoChannelState) (ring : List ℕ) → Keeps st 
 again_keeps st s ring k id taken halt = by (is_found id s) refl
   where
     by : (b : Bool) → is_found id s ≡ b
-        → Keeps st (cond b (reclaim_reply (handed_answer (request_of (request_at id s) s)) taken halt (removed (request_at id s) s))
-        (reclaim_reply (cond (ltb (request_at id s) s.head.count) reclaim.NotYet (reclaim.Refused 15)) taken halt s)).session ring
+        → Keeps st (cond b (reclaim_reply (Ok (Some (handed_answer (request_of (request_at id s) s)))) taken halt (removed (request_at id s) s))
+        (reclaim_reply (cond (ltb (request_at id s) s.head.count) (Ok None) (Err refusal.UnknownRequest)) taken halt s)).session ring
     by true e = removed_keeps st s ring k (request_at id s) (ltb-true (request_at id s) s.head.done e)
     by false e = k
 
@@ -121,14 +121,14 @@ chosen :
 chosen st true x y u w f g = f
 chosen st false x y u w f g = g
 
-pub reclaiming : (st : State) (id : ℕ) (e : IsoEvent) (results : ℕ) → Invariant st → Invariant (step st (Reclaim id e results))
+pub reclaiming : (st : State) (id : ℕ) (e : Option IsoEvent) (results : ℕ) → Invariant st → Invariant (step st (Reclaim id e results))
 reclaiming st id e results v =
     let s = st.session in
     let r = looked id e s st.ring in
     let ring = looked_ring id e s st.ring in
     let last : Reclaimed = looked_again id r.taken r.halt r.session in
-    let short : Reclaimed = reclaim_reply (reclaim.Refused 17) false false s in
-    let bad : Reclaimed = reclaim_reply (reclaim.Refused 18) false false s in
+    let short : Reclaimed = reclaim_reply (Err refusal.ShortBuffer) false false s in
+    let bad : Reclaimed = reclaim_reply (Err refusal.BadRecord) false false s in
     left_invariant st (reclaimed s id e st.ring results).session (reclaimed_ring s id e st.ring results)
     (chosen st (is_short s (length st.ring) results) short (cond (is_bad_record s) bad last) st.ring
     (cond (is_bad_record s) st.ring ring) (keeps_none st v)

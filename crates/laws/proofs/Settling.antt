@@ -1,19 +1,20 @@
 -- Settling the oldest request keeps the invariant: its slots become zero, what was put for it goes.
 use mathlib.Core.Path.{◌≡◌, refl, ◌∙◌, sym, ap, subst, subst⁻¹}
-use mathlib.Core.Bool.{Bool, true, false, ◌||◌, cond}
+use mathlib.Core.Bool.{Bool, false, ◌||◌}
 use mathlib.Core.List.{List, [], ◌∷◌, ◌++◌, map, map-append}
 use Prim.Native.Nat.{ℕ, zero, suc, ◌+◌, ◌-◌, ◌*◌, ◌≤◌, ◌<◌}
 use native.Mathlib.Omega.{arith}
 use lib.ListN.{length, get_or, set, drop, length-map, length-drop}
-use lib.Seq.{slice, sets, set-get_or, set-set, set_comm, drop_at, drop-drop, length-slice, map-set_same}
+use lib.Seq.{slice, sets, set-get_or, set-set, set_comm, drop_at, drop-drop, length-slice}
 use Rattle.session.specs.declared.types.IsoPacketPlan.{IsoPacketPlan}
 use Rattle.session.specs.declared.types.IsoChannelState.{IsoChannelState}
-use Rattle.session.specs.Session.{blank_request, ring_words, packets_of, all_packets, pending_packets}
+use Rattle.session.specs.Session.{ring_words, packets_of, all_packets, pending_packets}
 use Rattle.session.specs.Way.{pending_plans}
 use Rattle.session.specs.Settle.{Drained, oldest, oldest_from, oldest_to, oldest_plans, settled_plans, settled_request, settled_session, slots_cleared, settled_ring, is_served, drain}
 use Rattle.session.proofs.Laws.Sums.{packets_next, packets_split}
 use Rattle.session.proofs.Laws.Lists.{slice_after_set, slice_split, map_drop}
 use Rattle.session.proofs.Laws.Settled.{oldest_in, all_settled, settled_sound, settled_count}
+use Rattle.session.proofs.Laws.Tests.{chosen}
 use Rattle.laws.specs.Drawing.{Laid, drawn, slot_of, Distinct}
 use Rattle.laws.specs.Run.{State, still_put}
 use Rattle.laws.specs.Demand3.{slot_of_plan}
@@ -21,7 +22,8 @@ use Rattle.laws.specs.Invariant.{Fits, Invariant}
 use Rattle.laws.proofs.Lists.{distinct_head, distinct_tail, distinct_drop, slice_after_sets}
 use Rattle.laws.proofs.Drawn.{one, Within, within_tail, drawn_set}
 use Rattle.laws.proofs.Fitting.{blank, blank_zero, put_length, put_below, pending_within}
-use Rattle.laws.proofs.Keeping.{Keeps, id_of, numbered_same, keeps_none}
+use Rattle.laws.proofs.Calls.Settled.{settled_numbers}
+use Rattle.laws.proofs.Keeping.{Keeps, numbered_same, keeps_none}
 
 -- ---- slots cleared
 
@@ -133,7 +135,7 @@ settled_keeps st v h =
       fits = settled_fits v.fits h;
       numbered =
           numbered_same st.session (settled_session st.session st.ring) st.numbers v.numbered refl
-          (map-set_same id_of st.session.requests st.session.head.done (settled_request st.session st.ring) blank_request refl);
+          (settled_numbers st.session st.ring);
     }
 
 -- ---- one after the other
@@ -172,12 +174,6 @@ keeps_after st v u s ring k =
       numbered = k.numbered;
     }
 
-turn : (st : State) → Invariant st → (next : Drained) (b : Bool) → Keeps st next.session next.ring
-    → Keeps st (cond b next (record { session = st.session; ring = st.ring })).session
-    (cond b next (record { session = st.session; ring = st.ring })).ring
-turn st v next true n = n
-turn st v next false n = keeps_none st v
-
 pub drain_keeps :
     (k : ℕ) (bit : Bool) (st : State) → Invariant st → st.session.head.done + k ≤ st.session.head.count
     → Keeps st (drain k bit st.session st.ring).session (drain k bit st.session st.ring).ring
@@ -185,5 +181,8 @@ drain_keeps zero bit st v h = keeps_none st v
 drain_keeps (suc k) bit st v h =
     let one_kept = settled_keeps st v (omega arith) in
     let u : Invariant (settled_state st) = record { guarded = one_kept.guarded; fits = one_kept.fits; numbered = one_kept.numbered } in
-    turn st v (drain k false (settled_state st).session (settled_state st).ring) (bit || is_served st.session st.ring)
-    (keeps_after st v u _ _ (drain_keeps k false (settled_state st) u (omega arith)))
+    chosen (λ (d : Drained). Keeps st d.session d.ring) (bit || is_served st.session st.ring)
+    (drain k false (settled_state st).session (settled_state st).ring)
+    (record { session = st.session; ring = st.ring })
+    (λ e. keeps_after st v u _ _ (drain_keeps k false (settled_state st) u (omega arith)))
+    (λ e. keeps_none st v)

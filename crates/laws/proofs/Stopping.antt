@@ -4,6 +4,7 @@ use mathlib.Core.Bool.{Bool, true, false}
 use mathlib.Core.List.{List, ◌++◌, map}
 use mathlib.Core.Logic.{◌⊎◌, inl, inr, ⊎_elim}
 use Prim.Native.Nat.{ℕ, ◌+◌, ◌*◌, ◌≤◌, ◌<◌}
+use Rattle.std.specs.Prelude.{Ok}
 use native.Mathlib.Omega.{arith}
 use lib.Dec.{ltb}
 use lib.ListN.{length, get_or, take, drop, replicate, length-map, get_or-map}
@@ -12,9 +13,9 @@ use Rattle.words.specs.Words.{is_set, active}
 use Rattle.session.specs.declared.types.IsoOutcome.TheVariants as outcome
 use Rattle.session.specs.declared.types.IsoChannelState.{IsoChannelState}
 use Rattle.session.specs.declared.transfer.IsoTransfer.{IsoTransfer}
-use Rattle.session.specs.declared.transfer.SubmitAnswer.TheVariants as answer
+use Rattle.session.specs.declared.transfer.IsoSubmission.TheVariants.{Accepted}
 use Rattle.session.specs.declared.transfer.SubmitWay.{SubmitWay}
-use Rattle.session.specs.declared.transfer.SubmitWay.TheVariants.{Refuse, TooLong, Spend, Early, Cut, Late, Accept}
+use Rattle.session.specs.declared.transfer.SubmitWay.TheVariants.{Cut, Accept}
 use Rattle.session.specs.declared.reply.IsoReply.{IsoReply}
 use Rattle.session.specs.Session.{slots, ring_words}
 use Rattle.ring.specs.Stores.{Store, stored}
@@ -42,14 +43,9 @@ use Rattle.laws.proofs.Planned.{planned_length, planned_at, planned_below, plann
 
 -- ---- the way of a submission that is accepted
 
-accepted_way : (s : IsoChannelState) (w : SubmitWay) (id : ℕ) → answer_of w s ≡ answer.Accepted id → w ≡ Accept
-accepted_way s (Refuse n) id e = let z : ◌≡◌ {A = ℕ} 0 1 = cc in absurd (omega arith)
-accepted_way s (TooLong i) id e = let z : ◌≡◌ {A = ℕ} 0 1 = cc in absurd (omega arith)
-accepted_way s (Spend n) id e = let z : ◌≡◌ {A = ℕ} 0 1 = cc in absurd (omega arith)
-accepted_way s Early id e = let z : ◌≡◌ {A = ℕ} 0 1 = cc in absurd (omega arith)
-accepted_way s Cut id e = let z : ◌≡◌ {A = ℕ} 0 1 = cc in absurd (omega arith)
-accepted_way s Late id e = let z : ◌≡◌ {A = ℕ} 0 1 = cc in absurd (omega arith)
+accepted_way : (s : IsoChannelState) (w : SubmitWay) (id : ℕ) → answer_of w s ≡ Ok (Accepted id) → w ≡ Accept
 accepted_way s Accept id e = refl
+accepted_way s w id e = cc
 
 -- no test asks how many words may be stored
 any_words : (s : IsoChannelState) (t : IsoTransfer) (lengths ring : List ℕ) (k m : ℕ) → Admitted s (up_to k t) lengths ring → Admitted s (up_to m t) lengths ring

@@ -4,6 +4,7 @@ use mathlib.Core.Bool.{Bool, true, false, cond}
 use mathlib.Core.List.{List, [], ◌∷◌, ◌++◌, map, map-append}
 use mathlib.Core.Logic.{inl, inr}
 use Prim.Native.Nat.{ℕ, ◌+◌, ◌-◌, ◌<◌}
+use Rattle.std.proofs.lemmas.List.{nil_from_length}
 use native.Mathlib.Omega.{arith}
 use lib.Dec.{ltb}
 use lib.ListN.{length, take, drop}
@@ -56,13 +57,9 @@ module _ (st : State) (v : Invariant st) where
   -- without a live channel nothing is put
   pub idle_put : st.session.head.live ≡ false → st.put ≡ []
   idle_put off =
-      empty st.put
+      nil_from_length st.put
       (put_length v.fits
       ∙ packets_past st.session.head.done st.session.head.count st.session.requests (omega (arith, v.fits.sound.idle_done off)))
-    where
-      empty : (l : List Laid) → length l ≡ 0 → l ≡ []
-      empty [] e = refl
-      empty (x ∷ l) e = absurd (omega arith)
 
   keeps_unplugged : st.session.head.live ≡ false
       → Keeps st (with_head st.session (unplugged st.session.head)) (cleared (ring_words st.session.cfg) st.ring)

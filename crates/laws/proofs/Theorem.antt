@@ -3,12 +3,14 @@ use mathlib.Core.Path.{◌≡◌, ◌∙◌, ap}
 use mathlib.Core.Bool.{Bool, true, false, cond}
 use mathlib.Core.List.{List, [], ◌∷◌}
 use Prim.Native.Nat.{ℕ, ◌<◌}
+use Rattle.std.specs.Prelude.{Result, Ok}
 use lib.Dec.{eqb}
 use lib.ListN.{length, get_or}
 use Rattle.session.specs.declared.types.IsoChannelState.{IsoChannelState}
 use Rattle.session.specs.declared.transfer.IsoTransfer.{IsoTransfer}
-use Rattle.session.specs.declared.transfer.SubmitAnswer.{SubmitAnswer}
-use Rattle.session.specs.declared.transfer.SubmitAnswer.TheVariants as answer
+use Rattle.session.specs.declared.transfer.IsoSubmission.{IsoSubmission}
+use Rattle.session.specs.declared.transfer.IsoSubmission.TheVariants.{Cut}
+use Rattle.session.specs.declared.refusal.IsoRefusal.{IsoRefusal}
 use Rattle.session.specs.Session.{ring_words}
 use Rattle.session.specs.Submit.{submitted, submitted_ring}
 use Rattle.session.specs.Poll.{polled, recovered, reset_reply}
@@ -49,14 +51,12 @@ used_before false n numbers d = distinct_tail n numbers d
 used_by : (st : State) (s : IsoChannelState) → Distinct (used_up st.session s st.numbers) → Distinct st.numbers
 used_by st s = used_before (eqb st.session.head.next_request_id s.head.next_request_id) st.session.head.next_request_id st.numbers
 
-submit_before : (a : SubmitAnswer) (st : State) (t : IsoTransfer) (lengths : List ℕ) (between : List Touch)
+submit_before : (a : Result IsoSubmission IsoRefusal) (st : State) (t : IsoTransfer) (lengths : List ℕ) (between : List Touch)
     → Distinct (submit_by a st t lengths between).numbers → Distinct st.numbers
-submit_before (answer.Accepted id) st t lengths between d = used_by st (submitted st.session t lengths st.ring).session d
-submit_before answer.Cut st t lengths between d =
+submit_before (Ok Cut) st t lengths between d =
     let ring = touched_by st.session.cfg between (submitted_ring st.session t lengths st.ring) in
     used_by st (recovered st.session (length ring)).session d
-submit_before (answer.Refused n) st t lengths between d = used_by st (submitted st.session t lengths st.ring).session d
-submit_before (answer.PacketTooLong i) st t lengths between d = used_by st (submitted st.session t lengths st.ring).session d
+submit_before a st t lengths between d = used_by st (submitted st.session t lengths st.ring).session d
 
 step_before : (st : State) (x : Step) → Distinct (step st x).numbers → Distinct st.numbers
 step_before st (Submit t lengths between) d = submit_before (submitted st.session t lengths st.ring).answer st t lengths between d

@@ -1,13 +1,12 @@
 -- Demand 3: what holds of every guarded run where a submission that would be accepted is stopped after any word. The quoted sentences are the demand's.
 -- Not claimed, since false: that no pending slot lies at the new cursor; that an active slot's address word is not zero (a buffer may begin at 0).
-use Rattle.std.specs.Prelude.{◌≡◌, true, List, map, ◌⊎◌, ℕ, ◌+◌, ◌*◌, ◌≤◌, ◌<◌, length, get_or, take}
+use Rattle.std.specs.Prelude.{◌≡◌, true, Ok, List, map, ◌⊎◌, ℕ, ◌+◌, ◌*◌, ◌≤◌, ◌<◌, length, get_or, take}
 use Rattle.words.specs.Words.{is_set, active}
 use Rattle.ring.specs.RingSums.{slot_at}
 use Rattle.session.specs.declared.types.IsoPacketPlan.{IsoPacketPlan}
 use Rattle.session.specs.declared.transfer.IsoTransfer.{IsoTransfer}
 use Rattle.session.specs.declared.transfer.Submitted.{Submitted}
-use Rattle.session.specs.declared.transfer.SubmitAnswer.TheVariants.{Accepted}
-use Rattle.session.specs.declared.reply.IsoAnswer.TheVariants.{Done}
+use Rattle.session.specs.declared.transfer.IsoSubmission.TheVariants.{Accepted}
 use Rattle.session.specs.declared.reply.IsoReply.{IsoReply}
 use Rattle.session.specs.Session.{slots, ring_words}
 use Rattle.ring.specs.Stores.{stored}
@@ -43,7 +42,7 @@ pub record Submission (st : State) : Type 0 where
   pub transfer : IsoTransfer
   pub lengths : List ℕ
   pub id : ℕ
-  pub accepted : (submitted st.session (up_to (2 * length lengths) transfer) lengths st.ring).answer ≡ Accepted id
+  pub accepted : (submitted st.session (up_to (2 * length lengths) transfer) lengths st.ring).answer ≡ Ok (Accepted id)
 
 module _ (st : State) (x : Submission st) where
   -- the whole call
@@ -96,7 +95,7 @@ abbrev pub found : (st : State) → Submission st → ℕ → List Touch → Lis
 found st x k meanwhile = touched_by st.session.cfg meanwhile (stopped st x k)
 
 pub record Recovered (st : State) (x : Submission st) (r : IsoReply) (ring : List ℕ) : Type 0 where
-  pub answered : r.answer ≡ Done
+  pub answered : r.answer ≡ Ok tt
   -- "Recovery from the record before that call then yields a zero ring,"
   pub ring_zero : (w : ℕ) → w < ring_words st.session.cfg → get_or ring w 0 ≡ 0
   -- "an idle session,"

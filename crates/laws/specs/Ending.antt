@@ -1,7 +1,6 @@
 -- What the theorems of a session's end speak of: an idle session, and a request that failed because the port was disconnected.
-use Rattle.std.specs.Prelude.{◌≡◌, false}
+use Rattle.std.specs.Prelude.{◌≡◌, false, None}
 use Rattle.session.specs.declared.types.IsoChannelState.{IsoChannelState}
-use Rattle.session.specs.declared.types.IsoFatal.TheVariants.{Nothing}
 use Rattle.session.specs.declared.types.IsoOutcome.TheVariants as outcome
 use Rattle.session.specs.declared.types.IsoRequest.{IsoRequest}
 
@@ -9,7 +8,7 @@ use Rattle.session.specs.declared.types.IsoRequest.{IsoRequest}
 pub record IdleAfter (s r : IsoChannelState) : Type 0 where
   pub live : r.head.live ≡ false
   pub done : r.head.done ≡ r.head.count
-  pub fatal : r.fatal ≡ Nothing
+  pub fatal : r.fatal ≡ None
   pub cursor : r.head.td_last ≡ 0
   pub start : r.head.start_full_frame ≡ 0
   pub number : r.head.next_request_id ≡ s.head.next_request_id

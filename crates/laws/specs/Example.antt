@@ -1,10 +1,9 @@
 -- A run that meets demand 3's hypotheses: a camera at full speed, interval 1, with two requests pending, the last packet of them served, and a third
 -- request to be stopped. The states that it comes to are written out.
-use Rattle.std.specs.Prelude.{true, List, [], ◌∷◌, ◌++◌, ℕ, ◌+◌, ◌-◌, length, replicate}
+use Rattle.std.specs.Prelude.{true, None, List, [], ◌∷◌, ◌++◌, ℕ, ◌+◌, ◌-◌, length, replicate}
 use Rattle.words.specs.declared.types.Direction.TheVariants.{In}
 use Rattle.ring.specs.declared.speed.Speed.TheVariants.{Full}
 use Rattle.session.specs.declared.types.IsoMode.TheVariants.{Guarded}
-use Rattle.session.specs.declared.types.IsoFatal.TheVariants.{Nothing}
 use Rattle.session.specs.declared.types.IsoConfig.{IsoConfig}
 use Rattle.session.specs.declared.types.IsoRequest.{IsoRequest}
 use Rattle.session.specs.declared.types.IsoChannelState.{IsoChannelState}
@@ -63,7 +62,7 @@ session number requests lengths =
     record {
       cfg = camera;
       head = record { next_request_id = number; live = true; td_last = 10 + length lengths; start_full_frame = 10; done = 0; count = length requests };
-      fatal = Nothing;
+      fatal = None;
       requests = requests ++ replicate (64 - length requests) blank_request;
       plans = plans_from 64 10 1 0 lengths ++ replicate (1024 - length lengths) blank_plan;
     }

@@ -1,15 +1,15 @@
 -- A run of a camera session: an opening, then any list of steps. A step is a call or the controller's; every call is given the session and the ring as
 -- the steps before it left them, and leaves what the session's own definitions say. Beside them a run keeps two lists that no code holds: what is laid
 -- for the packets pending, and the request numbers used up.
-use Rattle.std.specs.Prelude.{◌≡◌, Bool, ◌&&◌, cond, List, [], ◌∷◌, ◌++◌, map, ℕ, ◌-◌, ◌*◌, eqb, ltb, length, get_or, set, drop}
+use Rattle.std.specs.Prelude.{◌≡◌, Bool, ◌&&◌, cond, Option, Result, Ok, Err, List, [], ◌∷◌, ◌++◌, map, ℕ, ◌-◌, ◌*◌, eqb, ltb, length, get_or, set, drop}
 use Rattle.words.specs.Words.{is_set, active}
 use Rattle.session.specs.declared.types.IsoMode.TheVariants.{Guarded}
-use Rattle.session.specs.declared.types.OpenAnswer.TheVariants.{Opened}
 use Rattle.session.specs.declared.types.IsoConfig.{IsoConfig}
 use Rattle.session.specs.declared.types.IsoChannelState.{IsoChannelState}
 use Rattle.session.specs.declared.transfer.IsoTransfer.{IsoTransfer}
-use Rattle.session.specs.declared.transfer.SubmitAnswer.{SubmitAnswer}
-use Rattle.session.specs.declared.transfer.SubmitAnswer.TheVariants as answer
+use Rattle.session.specs.declared.transfer.IsoSubmission.{IsoSubmission}
+use Rattle.session.specs.declared.transfer.IsoSubmission.TheVariants.{Accepted, Cut}
+use Rattle.session.specs.declared.refusal.IsoRefusal.{IsoRefusal}
 use Rattle.session.specs.declared.reply.IsoEvent.{IsoEvent}
 use Rattle.session.specs.Session.{slots, pending_packets}
 use Rattle.session.specs.Open.{opened, opened_ring}
@@ -58,8 +58,8 @@ pub record State : Type 0 where
 -- is not used. Reclaim is lent so many results.
 pub data Step : Type 0 where
   Submit : IsoTransfer → List ℕ → List Touch → Step
-  Poll : IsoEvent → Step
-  Reclaim : ℕ → IsoEvent → ℕ → Step
+  Poll : Option IsoEvent → Step
+  Reclaim : ℕ → Option IsoEvent → ℕ → Step
   Cancel : ℕ → Step
   Reset : Step
   Recover : Step
@@ -92,17 +92,15 @@ left_with new st s ring = record { session = s; ring = ring; put = st.put ++ new
 abbrev pub recover : State → List ℕ → State
 recover st ring = left st (recovered st.session (length ring)).session (recovered_ring st.session ring)
 
-abbrev pub submit_by : SubmitAnswer → State → IsoTransfer → List ℕ → List Touch → State
-submit_by (answer.Accepted id) st t lengths between =
+abbrev pub submit_by : Result IsoSubmission IsoRefusal → State → IsoTransfer → List ℕ → List Touch → State
+submit_by (Ok (Accepted id)) st t lengths between =
     left_with
     (planned st.session t lengths st.ring)
     st
     (submitted st.session t lengths st.ring).session
     (submitted_ring st.session t lengths st.ring)
-submit_by answer.Cut st t lengths between = recover st (touched_by st.session.cfg between (submitted_ring st.session t lengths st.ring))
-submit_by (answer.Refused n) st t lengths between =
-    left st (submitted st.session t lengths st.ring).session (submitted_ring st.session t lengths st.ring)
-submit_by (answer.PacketTooLong i) st t lengths between =
+submit_by (Ok Cut) st t lengths between = recover st (touched_by st.session.cfg between (submitted_ring st.session t lengths st.ring))
+submit_by (Err r) st t lengths between =
     left st (submitted st.session t lengths st.ring).session (submitted_ring st.session t lengths st.ring)
 
 abbrev pub step : State → Step → State
@@ -135,7 +133,7 @@ pub record GuardedRun : Type 0 where
   pub lent : List ℕ
   pub steps : List Step
   pub guarded : cfg.mode ≡ Guarded
-  pub accepted : (opened cfg (length lent)).answer ≡ Opened
+  pub accepted : (opened cfg (length lent)).answer ≡ Ok tt
   pub once : Distinct (run (start cfg lent) steps).numbers
 
 -- where the run stands

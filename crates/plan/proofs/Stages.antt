@@ -1,19 +1,16 @@
 -- The stages of whole bulk and interrupt plans, for every request that is planned and every array that is lent: how many there are, each of them
 -- field by field, and the toggle after the last.
-use Rattle.std.proofs.Common.{◌≡◌, ℕ, ◌+◌, ◌-◌, ◌*◌, ◌/◌, ◌%◌, ◌<◌, ◌≤◌, min, max, not, eqb, List, length, get_or, sym, ap, ◌∙◌, ap₂, ⊎_elim, mul-le-mul_right, add-mul, eq-zero-or-pos, one-mul, zero-add, arith}
+use Rattle.std.proofs.Common.{◌≡◌, ℕ, ◌+◌, ◌-◌, ◌*◌, ◌/◌, ◌%◌, ◌<◌, ◌≤◌, min, max, not, eqb, List, length, get_or, sym, refl, ap, ◌∙◌, ap₂, ⊎_elim, mul-le-mul_right, add-mul, eq-zero-or-pos, one-mul, zero-add, arith}
+use Rattle.std.specs.Prelude.{Ok, IsOkAnd}
 use lib.ListN.{get_or-append}
 use Rattle.words.specs.Words.{packets, hctsiz_word}
 use Rattle.plan.specs.declared.types.DataRequest.{DataRequest}
-use Rattle.plan.specs.declared.types.Dwc2DataPlan.{Dwc2DataPlan}
 use Rattle.plan.specs.declared.types.Dwc2TransferStage.{Dwc2TransferStage}
-use Rattle.plan.specs.declared.types.PlanAnswer.TheVariants.{Planned}
 use Rattle.plan.specs.Planning.{chunk_of, pid_of_toggle, advanced}
 use Rattle.plan.specs.DataStages.{size_of, data_hcchar, data_stages, toggle_after, blank_stage, data_answer, planned_data, data_plan}
-use Rattle.plan.specs.Refusals.{is_planned}
 use Rattle.plan.proofs.Laws.Data.{accepted}
 use Rattle.plan.proofs.Laws.Layout.{ends, ends_stage, chunks_within}
 use Rattle.plan.proofs.Laws.Numbered.{numbered, stages_toggle, stages_count, stages_at}
-use Rattle.plan.proofs.Laws.Refusals.{if-planned}
 use Rattle.plan.proofs.Laws.Split.{empty_is_one_packet, packets_some, parts_below, parts_within, last_within, advanced_odd}
 use Rattle.plan.proofs.Theorems.{count_of, bytes_before, before_is}
 
@@ -21,10 +18,10 @@ use Rattle.plan.proofs.Theorems.{count_of, bytes_before, before_is}
 abbrev pub stage_at : DataRequest → ℕ → Dwc2TransferStage
 stage_at r i = get_or (data_stages r) i blank_stage
 
-module _ (r : DataRequest) (a : List ℕ) (e : data_answer r (length a) ≡ Planned) where
+module _ (r : DataRequest) (a : List ℕ) (e : data_answer r (length a) ≡ Ok tt) where
   -- The plan that is handed back is the one of the stages that the theorems speak of.
-  pub plan_is : data_plan r (length a) ≡ planned_data r
-  plan_is = if-planned (data_answer r (length a)) (planned_data r) _ (ap is_planned e)
+  pub plan_is : data_plan r (length a) ≡ Ok (planned_data r)
+  plan_is = rw e
 
   -- ---- the toggle
 
@@ -41,15 +38,16 @@ module _ (r : DataRequest) (a : List ℕ) (e : data_answer r (length a) ≡ Plan
       empty z h = omega (arith, ap (λ (l : ℕ). packets l (chunk_of (size_of r))) z, empty_is_one_packet (chunk_of (size_of r)))
 
   -- It is the toggle that the plan hands back for the next transfer.
-  pub toggle_handed_back : (data_plan r (length a)).toggle.0 ≡ advanced r.toggle.0 (packets r.len (size_of r))
-  toggle_handed_back = ap (λ (p : Dwc2DataPlan). p.toggle.0) plan_is ∙ toggle
+  pub toggle_handed_back : IsOkAnd (data_plan r (length a)) (λ p. p.toggle.0 ≡ advanced r.toggle.0 (packets r.len (size_of r)))
+  toggle_handed_back = rw e toggle
 
   -- An empty transfer flips it once. This excludes version two's failure: an empty transfer was counted as no packet, the toggle one behind.
-  pub toggle_empty : r.len ≡ 0 → (data_plan r (length a)).toggle.0 ≡ not r.toggle.0
+  pub toggle_empty : r.len ≡ 0 → IsOkAnd (data_plan r (length a)) (λ p. p.toggle.0 ≡ not r.toggle.0)
   toggle_empty z =
-      toggle_handed_back
+      rw e
+      (toggle
       ∙ advanced_odd r.toggle.0 (packets r.len (size_of r))
-      (ap (λ (l : ℕ). packets l (size_of r) % 2) z ∙ ap (λ (n : ℕ). n % 2) (empty_is_one_packet (size_of r)))
+      (ap (λ (l : ℕ). packets l (size_of r) % 2) z ∙ ap (λ (n : ℕ). n % 2) (empty_is_one_packet (size_of r))))
 
   -- ---- the stages
 
@@ -65,12 +63,10 @@ module _ (r : DataRequest) (a : List ℕ) (e : data_answer r (length a) ≡ Plan
 
   -- The plan hands back their number, and the stages in their order.
   pub stages_handed_back :
-      ((data_plan r (length a)).count ≡ length (data_stages r))
-      × ((i : ℕ) → i < length (data_stages r) → get_or (data_plan r (length a)).stages i blank_stage ≡ stage_at r i)
-  stages_handed_back = (
-    ap (λ (p : Dwc2DataPlan). p.count) plan_is,
-    λ i h. ap (λ (p : Dwc2DataPlan). get_or p.stages i blank_stage) plan_is ∙ get_or-append (data_stages r) _ blank_stage i h,
-  )
+      IsOkAnd
+      (data_plan r (length a))
+      (λ p. (p.count ≡ length (data_stages r)) × ((i : ℕ) → i < length (data_stages r) → get_or p.stages i blank_stage ≡ stage_at r i))
+  stages_handed_back = rw e (refl, λ i h. get_or-append (data_stages r) _ blank_stage i h)
 
   -- descriptors are left for each stage
   begun : (i : ℕ) → i < length (data_stages r) → 256 * i < count_of r

@@ -1,6 +1,7 @@
 -- The descriptors of whole bulk and interrupt plans, for every request that is planned and every array that is lent: where each points and what it
 -- counts, that together they cover the buffer, and what stays as it was.
 use Rattle.std.proofs.Common.{◌≡◌, ℕ, zero, suc, ◌+◌, ◌-◌, ◌*◌, ◌%◌, ◌<◌, ◌≤◌, Bool, true, false, eqb, List, [], ◌∷◌, length, get_or, take, sym, refl, ap, ◌∙◌, mod-eq_of_lt, suc-mul, add-mul, one-mul, zero-add, zero-mul, arith}
+use Rattle.std.specs.Prelude.{Ok}
 use mathlib.Core.Path.{subst⁻¹}
 use Rattle.words.specs.Field.{get}
 use Rattle.words.specs.Numbers.{flag_of, direction_number}
@@ -9,13 +10,10 @@ use Rattle.words.specs.declared.types.Direction.{Direction}
 use Rattle.words.specs.declared.types.Direction.TheVariants.{Out, In}
 use Rattle.words.proofs.Laws.Words.{chain_fields, hcchar_fields}
 use Rattle.plan.specs.declared.types.DataRequest.{DataRequest}
-use Rattle.plan.specs.declared.types.PlanAnswer.TheVariants.{Planned}
 use Rattle.plan.specs.Planning.{chunk_of, split_of, lengths, sum, laid_out}
 use Rattle.plan.specs.DataStages.{is_in, is_low, ep_type_of, odd_of, size_of, data_hcchar, data_stages, data_answer, data_array}
-use Rattle.plan.specs.Refusals.{is_planned}
 use Rattle.plan.proofs.Laws.Data.{chunk_small, hcchar_size, Accepted, accepted}
 use Rattle.plan.proofs.Laws.Layout.{ends, Filled, stages_laid}
-use Rattle.plan.proofs.Laws.Refusals.{if-planned}
 use Rattle.plan.proofs.Laws.Split.{packets_some, parts_within, rounded_fits, each_within, lengths_count, lengths_full, lengths_last}
 
 -- ---- what the theorems speak of
@@ -79,14 +77,14 @@ count_fits : (l m : ℕ) (i : Bool) → l ≤ chunk_of m → m ≤ 65_536 → in
 count_fits l m true h small = omega (arith, rounded_fits m small l h)
 count_fits l m false h small = omega (arith, chunk_small m)
 
-module _ (r : DataRequest) (a : List ℕ) (e : data_answer r (length a) ≡ Planned) where
+module _ (r : DataRequest) (a : List ℕ) (e : data_answer r (length a) ≡ Ok tt) where
   -- what the tests leave of the request's numbers
   facts : Accepted r (length a)
   facts = accepted r (length a) e
 
   -- The array that is left is the one that those stages are laid out in.
   pub array_is : data_array r a ≡ laid_out (data_stages r) a
-  array_is = if-planned (data_answer r (length a)) (laid_out (data_stages r) a) a (ap is_planned e)
+  array_is = rw e
 
   -- every descriptor of the plan, word by word
   filled : Filled r.len (size_of r) (is_in r.direction) r.base 0 (count_of r) a (data_array r a)

@@ -5,10 +5,12 @@ use Rattle.words.proofs.Unique.{Unique, equal, equal_both}
 use Rattle.plan.specs.declared.toggle.DataToggle.{DataToggle}
 use Rattle.plan.proofs.control
 use Rattle.plan.proofs.«data» as data-calls
+use Rattle.plan.proofs.refusals
 use Rattle.plan.proofs.setup
 use Rattle.plan.proofs.split
 use Rattle.plan.proofs.stage
 use Rattle.plan.proofs.toggle.DataToggle as functions
+use Rattle.plan.proofs.types
 
 -- a toggle is its one bit
 one_bit : {x y : DataToggle} {b : Bool} → x.0 ≡ b → y.0 ≡ b → x ≡ y
@@ -43,3 +45,18 @@ setup_packet_bytes_unique κs a x y u v = equal refl
 
 pub stage_actual_length_unique : Unique 1 stage.stage_actual_length.Kinds.ps stage.stage_actual_length.Kinds.r stage.stage_actual_length.Reads.Post
 stage_actual_length_unique κs a x y u v = equal refl
+
+pub refusal_number_unique : Unique 0 refusals.U32FromPlanRefusal.from.Kinds.ps refusals.U32FromPlanRefusal.from.Kinds.r refusals.U32FromPlanRefusal.from.Reads.Post
+refusal_number_unique κs a x y u v = equal refl
+
+pub role_number_unique : Unique 0 types.U32FromDwc2StageRole.from.Kinds.ps types.U32FromDwc2StageRole.from.Kinds.r types.U32FromDwc2StageRole.from.Reads.Post
+role_number_unique κs a x y u v = equal refl
+
+pub request_type_number_unique : Unique 0 types.U8FromRequestType.from.Kinds.ps types.U8FromRequestType.from.Kinds.r types.U8FromRequestType.from.Reads.Post
+request_type_number_unique κs a x y u v p q = equal refl p.0 q.0
+
+pub recipient_number_unique : Unique 0 types.U8FromRecipient.from.Kinds.ps types.U8FromRecipient.from.Kinds.r types.U8FromRecipient.from.Reads.Post
+recipient_number_unique κs a x y u v p q = equal refl p.0 q.0
+
+pub ep_type_of_unique : Unique 0 types.Dwc2EpTypeFromDataKind.from.Kinds.ps types.Dwc2EpTypeFromDataKind.from.Kinds.r types.Dwc2EpTypeFromDataKind.from.Reads.Post
+ep_type_of_unique κs a x y u v = equal refl

@@ -1,5 +1,5 @@
 -- Control transfers: document 01, "Planning transfers"; the setup bytes from USB 2.0, 9.3.
-use Rattle.std.specs.Prelude.{ℕ, ◌/◌, ◌%◌, max, Bool, true, false, cond, ◌&&◌, ◌||◌, List, [], ◌∷◌, length, replicate, nat_lt}
+use Rattle.std.specs.Prelude.{ℕ, ◌/◌, ◌%◌, max, Bool, true, false, cond, ◌&&◌, ◌||◌, List, [], ◌∷◌, length, nat_lt, Some, None, is_ok, Result, ⊤}
 use Rattle.words.specs.declared.types.Direction.{Direction}
 use Rattle.words.specs.declared.types.Direction.TheVariants.{Out, In}
 use Rattle.words.specs.declared.types.Dwc2EpType.TheVariants.{Control}
@@ -7,20 +7,19 @@ use Rattle.words.specs.declared.types.Dwc2Pid.TheVariants.{Data1, Setup}
 use Rattle.words.specs.Field.{bits, bit, ◌≔◌, word}
 use Rattle.words.specs.Numbers.{direction_number}
 use Rattle.words.specs.Words.{initial_len, hcchar_word, is_beyond}
-use Rattle.plan.specs.declared.setup.SetupPacket.{SetupPacket}
 use Rattle.plan.specs.declared.types.ControlRequest.{ControlRequest}
 use Rattle.plan.specs.declared.types.ControlSetup.{ControlSetup}
 use Rattle.plan.specs.declared.types.Dwc2ControlPlan.{Dwc2ControlPlan}
 use Rattle.plan.specs.declared.types.Dwc2TransferStage.{Dwc2TransferStage}
 use Rattle.plan.specs.declared.types.Dwc2StageRole.TheVariants.{ControlSetup as SetupRole, ControlData, ControlStatus}
-use Rattle.plan.specs.declared.types.PlanAnswer.{PlanAnswer}
-use Rattle.plan.specs.declared.types.PlanAnswer.TheVariants.{Planned, ShortBuffer, BadEndpoint, ControlTooLong, AddressLimit}
+use Rattle.plan.specs.declared.refusals.PlanRefusal.{PlanRefusal}
+use Rattle.plan.specs.declared.refusals.PlanRefusal.TheVariants.{ShortBuffer, BadEndpoint, ControlTooLong, AddressLimit}
 use Rattle.plan.specs.declared.types.RequestType.{RequestType}
 use Rattle.plan.specs.declared.types.Recipient.{Recipient}
 use Rattle.plan.specs.Numbers.{request_type_number, recipient_number}
 use Rattle.plan.specs.Planning.{stage_of, laid_out}
-use Rattle.plan.specs.Refusals.{◌⇒◌, first_of, is_short, is_bad, ifPlanned}
-use Rattle.plan.specs.DataStages.{is_in, blank_stage}
+use Rattle.plan.specs.Refusals.{◌⇒◌, first_of, answered, is_short, is_bad}
+use Rattle.plan.specs.DataStages.{is_in}
 
 -- "Packet size m is the given one, raised to 1 (control: 8 ..)"
 abbrev pub control_size : ℕ → ℕ
@@ -94,7 +93,7 @@ abbrev pub is_too_long : ℕ → Bool
 is_too_long len = nat_lt 65_535 len
 
 -- 17, 18, 19, 11 in this order
-abbrev pub control_answer : ControlRequest → ℕ → PlanAnswer
+abbrev pub control_answer : ControlRequest → ℕ → Result ⊤ PlanRefusal
 control_answer r words =
     first_of
     (is_short words ⇒ ShortBuffer
@@ -106,21 +105,16 @@ control_answer r words =
 abbrev pub planned_control : ControlRequest → Dwc2ControlPlan
 planned_control r =
     record {
-      answer = Planned;
-      has_data = has_data_stage r;
       setup = setup_stage r;
-      «data» = cond (has_data_stage r) (data_stage_of r) blank_stage;
+      «data» = cond (has_data_stage r) (Some (data_stage_of r)) None;
       status = cond (has_data_stage r) (status_stage r 2) (status_stage r 1);
     }
 
-abbrev pub refused_control : PlanAnswer → Dwc2ControlPlan
-refused_control answer = record { answer = answer; has_data = false; setup = blank_stage; «data» = blank_stage; status = blank_stage }
-
-abbrev pub control_plan : ControlRequest → ℕ → Dwc2ControlPlan
-control_plan r words = ifPlanned (control_answer r words) (planned_control r) (refused_control (control_answer r words))
+abbrev pub control_plan : ControlRequest → ℕ → Result Dwc2ControlPlan PlanRefusal
+control_plan r words = answered (control_answer r words) (planned_control r)
 
 abbrev pub control_array : ControlRequest → List ℕ → List ℕ
-control_array r array = ifPlanned (control_answer r (length array)) (laid_out (control_stages r) array) array
+control_array r array = cond (is_ok (control_answer r (length array))) (laid_out (control_stages r) array) array
 
 -- USB 2.0, table 9-2: bmRequestType is the recipient in bits 0 to 4, the type in 5 to 6, and IN in 7
 abbrev pub request_type_byte : RequestType → Recipient → Direction → ℕ
@@ -141,10 +135,8 @@ setup_bytes s direction len =
     ∷ []
 
 -- 19 for a length over 65,535, and no bytes then
-abbrev pub setup_answer : ℕ → PlanAnswer
+abbrev pub setup_answer : ℕ → Result ⊤ PlanRefusal
 setup_answer len = first_of (is_too_long len ⇒ ControlTooLong ∷ [])
 
-abbrev pub setup_packet : ControlSetup → Direction → ℕ → SetupPacket
-setup_packet s direction len =
-    ifPlanned (setup_answer len) (record { answer = Planned; bytes = setup_bytes s direction len })
-    (record { answer = setup_answer len; bytes = replicate 8 0 })
+abbrev pub setup_packet : ControlSetup → Direction → ℕ → Result (List ℕ) PlanRefusal
+setup_packet s direction len = answered (setup_answer len) (setup_bytes s direction len)

@@ -1,5 +1,5 @@
 -- Bulk and interrupt transfers: document 01, "Planning transfers".
-use Rattle.std.specs.Prelude.{ℕ, zero, suc, ◌+◌, ◌-◌, ◌*◌, max, Bool, true, false, cond, List, [], ◌∷◌, ◌++◌, length, replicate, nat_le, nat_lt, slice_set}
+use Rattle.std.specs.Prelude.{ℕ, zero, suc, ◌+◌, ◌-◌, ◌*◌, max, Bool, true, false, cond, List, [], ◌∷◌, ◌++◌, length, replicate, nat_le, nat_lt, slice_set, is_ok, Result, ⊤}
 use Rattle.words.specs.declared.types.Direction.{Direction}
 use Rattle.words.specs.declared.types.Direction.TheVariants.{Out, In}
 use Rattle.words.specs.declared.types.Dwc2EpType.{Dwc2EpType}
@@ -14,10 +14,10 @@ use Rattle.plan.specs.declared.types.DataRequest.{DataRequest}
 use Rattle.plan.specs.declared.types.Dwc2DataPlan.{Dwc2DataPlan}
 use Rattle.plan.specs.declared.types.Dwc2TransferStage.{Dwc2TransferStage}
 use Rattle.plan.specs.declared.types.Dwc2StageRole.TheVariants.{Data}
-use Rattle.plan.specs.declared.types.PlanAnswer.{PlanAnswer}
-use Rattle.plan.specs.declared.types.PlanAnswer.TheVariants.{Planned, ShortBuffer, BadEndpoint, TooManyDescriptors, AddressLimit}
+use Rattle.plan.specs.declared.refusals.PlanRefusal.{PlanRefusal}
+use Rattle.plan.specs.declared.refusals.PlanRefusal.TheVariants.{ShortBuffer, BadEndpoint, TooManyDescriptors, AddressLimit}
 use Rattle.plan.specs.Planning.{chunk_of, split_of, pid_of_toggle, advanced, stage_of, laid_out}
-use Rattle.plan.specs.Refusals.{◌⇒◌, first_of, is_short, is_bad, ifPlanned}
+use Rattle.plan.specs.Refusals.{◌⇒◌, first_of, answered, is_short, is_bad}
 
 abbrev pub is_in : Direction → Bool
 is_in Out = false
@@ -90,7 +90,7 @@ abbrev pub stage_table : List Dwc2TransferStage → List Dwc2TransferStage
 stage_table stages = stages ++ replicate (4 - length stages) blank_stage
 
 -- 17, 18, 20, 11 in this order; an IN length is "rounded up"
-abbrev pub data_answer : DataRequest → ℕ → PlanAnswer
+abbrev pub data_answer : DataRequest → ℕ → Result ⊤ PlanRefusal
 data_answer r words =
     first_of
     (is_short words ⇒ ShortBuffer
@@ -102,24 +102,22 @@ data_answer r words =
 abbrev pub planned_data : DataRequest → Dwc2DataPlan
 planned_data r =
     record {
-      answer = Planned;
       toggle = record { 0 = toggle_after (size_of r) r.toggle.0 (data_stages r) };
       count = length (data_stages r);
       stages = stage_table (data_stages r);
     }
 
--- a plan without stages; so is a refused one, with the toggle as it came
-abbrev pub blank_plan : PlanAnswer → DataToggle → Dwc2DataPlan
-blank_plan answer toggle = record { answer = answer; toggle = toggle; count = 0; stages = stage_table [] }
+abbrev pub data_plan : DataRequest → ℕ → Result Dwc2DataPlan PlanRefusal
+data_plan r words = answered (data_answer r words) (planned_data r)
 
-abbrev pub data_plan : DataRequest → ℕ → Dwc2DataPlan
-data_plan r words = ifPlanned (data_answer r words) (planned_data r) (blank_plan (data_answer r words) r.toggle)
+-- a plan without stages
+abbrev pub blank_plan : DataToggle → Dwc2DataPlan
+blank_plan toggle = record { toggle = toggle; count = 0; stages = stage_table [] }
 
 -- a plan with one stage more, and the toggle behind it
 abbrev pub with_stage : ℕ → Dwc2DataPlan → Dwc2TransferStage → Dwc2DataPlan
 with_stage m plan s =
     record {
-      answer = plan.answer;
       toggle = record { 0 = advanced plan.toggle.0 (packets s.len m) };
       count = plan.count + 1;
       stages = slice_set plan.stages plan.count s;
@@ -127,4 +125,4 @@ with_stage m plan s =
 
 -- "Words behind the plan stay as they were"; a refusal leaves all of them
 abbrev pub data_array : DataRequest → List ℕ → List ℕ
-data_array r array = ifPlanned (data_answer r (length array)) (laid_out (data_stages r) array) array
+data_array r array = cond (is_ok (data_answer r (length array))) (laid_out (data_stages r) array) array

@@ -1,15 +1,13 @@
 -- What a stage leans on, and the bytes that a finished stage moved: document 01, "Planning transfers", and 02, order 1, for the sum.
-use Rattle.std.specs.Prelude.{ℕ, zero, suc, ◌+◌, ◌-◌, ◌*◌, ◌<◌, ◌≤◌, min, Bool, true, cond, not, ◌||◌, List, [], ◌∷◌, length, ◌==◌, nat_lt, slice_index}
+use Rattle.std.specs.Prelude.{ℕ, zero, suc, ◌+◌, ◌-◌, ◌*◌, ◌<◌, ◌≤◌, min, Bool, true, cond, not, ◌||◌, List, [], ◌∷◌, length, ◌==◌, nat_lt, slice_index, Result, ⊤}
 use Rattle.words.specs.declared.descriptor.DmaDescriptor.{DmaDescriptor}
 use Rattle.words.specs.Field.{get}
 use Rattle.words.specs.Words.{packets, initial_len, chain_status, is_set, packet_size, direction_in, byte_count}
 use Rattle.plan.specs.declared.types.Dwc2TransferStage.{Dwc2TransferStage}
-use Rattle.plan.specs.declared.types.PlanAnswer.{PlanAnswer}
-use Rattle.plan.specs.declared.types.PlanAnswer.TheVariants.{ShortBuffer, BadEndpoint}
-use Rattle.plan.specs.declared.types.StageLength.{StageLength}
-use Rattle.plan.specs.declared.types.StageLength.TheVariants.{Moved, Refused}
+use Rattle.plan.specs.declared.refusals.PlanRefusal.{PlanRefusal}
+use Rattle.plan.specs.declared.refusals.PlanRefusal.TheVariants.{ShortBuffer, BadEndpoint}
 use Rattle.plan.specs.Planning.{chunk_of}
-use Rattle.plan.specs.Refusals.{◌⇒◌, first_of, is_short, ifPlanned}
+use Rattle.plan.specs.Refusals.{◌⇒◌, first_of, answered, is_short}
 
 -- a chain that a planner makes: at least one descriptor, room for all, full chunks before the last, and no byte beyond the address limit
 pub record ChainFits (m descs len addr words : ℕ) : Type 0 where
@@ -55,9 +53,8 @@ is_forged s =
     || (nat_lt 1024 (s.desc_base + s.descs) || not (s.descs == packets s.len (chunk_of (get packet_size s.hcchar)))))
 
 -- 17, then 18
-abbrev pub stage_answer : Dwc2TransferStage → ℕ → PlanAnswer
+abbrev pub stage_answer : Dwc2TransferStage → ℕ → Result ⊤ PlanRefusal
 stage_answer s words = first_of (is_short words ⇒ ShortBuffer ∷ is_forged s ⇒ BadEndpoint ∷ [])
 
-abbrev pub stage_length : Dwc2TransferStage → List ℕ → StageLength
-stage_length s array =
-    ifPlanned (stage_answer s (length array)) (Moved (stage_moved s array)) (Refused (stage_answer s (length array)))
+abbrev pub stage_length : Dwc2TransferStage → List ℕ → Result ℕ PlanRefusal
+stage_length s array = answered (stage_answer s (length array)) (stage_moved s array)

@@ -1,16 +1,14 @@
 // Bulk and interrupt transfers: document 01, "Planning transfers".
-ghost use Rattle.std.specs.Prelude.{◌≡◌, ◌<◌, length};
-ghost use Rattle.plan.specs.declared.types.PlanAnswer.TheVariants.{Planned};
-ghost use Rattle.plan.specs.Planning.{laid_out};
-ghost use Rattle.plan.specs.DataStages.{is_in, is_low, ep_type_of, odd_of, size_of, data_hcchar, data_stage, blank_stage, blank_plan, with_stage, data_answer, data_stages, planned_data, data_plan, data_array};
+ghost use Rattle.std.specs.Prelude.{◌≡◌, ◌<◌, ◌≤◌, false, length, nat_lt, Ok, ⊤};
+ghost use Rattle.words.specs.Words.{initial_len};
+ghost use Rattle.plan.specs.Planning.{split_of, laid_out};
+ghost use Rattle.plan.specs.DataStages.{is_in, size_of, data_hcchar, data_stage, blank_plan, with_stage, data_answer, data_stages, planned_data, data_plan, data_array};
 
-use crate::refusals::{is_bad, is_planned};
+use crate::refusals::{PlanRefusal, is_bad};
 use crate::split::{chunk_of, packet_count, split_dma_lengths};
-use crate::stage::build_stage_descs;
+use crate::stage::{Stretch, build_stage_descs};
 use crate::toggle::DataToggle;
-use crate::types::{
-    DataKind, DataRequest, Dwc2DataPlan, Dwc2StageRole, Dwc2TransferStage, PlanAnswer,
-};
+use crate::types::{DataKind, DataRequest, Dwc2DataPlan, Dwc2StageRole, Dwc2TransferStage};
 use ring::Speed;
 use words::{Direction, Dwc2EpType};
 
@@ -18,128 +16,83 @@ use words::{Direction, Dwc2EpType};
 const DWC2_MAX_DMA_DESCS: u32 = 256;
 
 // Plans a bulk or interrupt transfer and writes its descriptors into the array.
-pub fn data_stages(request: DataRequest, array: &mut [u32]) -> Dwc2DataPlan
+pub fn data_stages(request: DataRequest, array: &mut [u32]) -> Result<Dwc2DataPlan, PlanRefusal>
     ensures { (result ≡ data_plan request (length array.old)) × (array.new ≡ data_array request array.old) }
 {
-    let answer = data_answer(request, array.len());
-    if is_planned(answer) {
-        return plan_data(request, array);
-    }
-    blank_plan(answer, request.toggle)
+    data_answer(request, array.len())?;
+    Ok(plan_data(request, array))
 }
 
 // 17, 18, 20, 11, in this order.
-fn data_answer(request: DataRequest, words: usize) -> PlanAnswer
+fn data_answer(request: DataRequest, words: usize) -> Result<(), PlanRefusal>
     ensures { result ≡ data_answer request words }
 {
     if words < 2_048 {
-        return PlanAnswer::ShortBuffer;
+        return Err(PlanRefusal::ShortBuffer);
     }
     if is_bad(request.endpoint, request.device, request.max_packet_size) {
-        return PlanAnswer::BadEndpoint;
+        return Err(PlanRefusal::BadEndpoint);
     }
-    let m = size_of(request);
-    if request.len > 1_024 * chunk_of(m) as u64 {
-        return PlanAnswer::TooManyDescriptors;
+    if is_too_many(request) {
+        return Err(PlanRefusal::TooManyDescriptors);
     }
-    let direction = request.direction;
-    let bytes = words::initial_len(request.len as u32, m, is_in(direction));
-    if words::is_beyond(request.base, bytes) {
-        return PlanAnswer::AddressLimit;
+    if words::is_beyond(request.base, counted(request)) {
+        return Err(PlanRefusal::AddressLimit);
     }
-    PlanAnswer::Planned
+    Ok(())
+}
+
+// Whether it takes more than 1,024 descriptors: a product says it, which spares a division.
+fn is_too_many(request: DataRequest) -> bool
+    ensures { (result ≡ nat_lt 1024 (split_of request.len (size_of request)).count) × (result ≡ false → request.len ≤ 4294967295) }
+{
+    request.len > 1_024 * chunk_of(size_of(request)) as u64
+}
+
+// The bytes that the descriptors count: IN is rounded up to whole packets.
+fn counted(request: DataRequest) -> u64
+    requires { request.len ≤ 4294967295 }
+    ensures { result ≡ initial_len request.len (size_of request) (is_in request.direction) }
+{
+    let is_in = request.direction == Direction::In;
+    words::initial_len(request.len as u32, size_of(request), is_in)
 }
 
 fn size_of(request: DataRequest) -> u16
     ensures { result ≡ size_of request }
 {
-    let m = request.max_packet_size;
-    if m == 0 { 1 } else { m }
-}
-
-pub(crate) fn is_in(direction: Direction) -> bool
-    ensures { result ≡ is_in direction }
-{
-    match direction {
-        Direction::Out => false,
-        Direction::In => true,
-    }
-}
-
-fn is_low(speed: Speed) -> bool
-    ensures { result ≡ is_low speed }
-{
-    match speed {
-        Speed::High => false,
-        Speed::Full => false,
-        Speed::Low => true,
-    }
-}
-
-fn ep_type_of(kind: DataKind) -> Dwc2EpType
-    ensures { result ≡ ep_type_of kind }
-{
-    match kind {
-        DataKind::Bulk => Dwc2EpType::Bulk,
-        DataKind::Interrupt => Dwc2EpType::Interrupt,
-    }
-}
-
-fn odd_of(kind: DataKind, odd_frame: bool) -> bool
-    ensures { result ≡ odd_of kind odd_frame }
-{
-    match kind {
-        DataKind::Bulk => false,
-        DataKind::Interrupt => odd_frame,
-    }
+    request.max_packet_size.max(1)
 }
 
 fn data_hcchar(request: DataRequest) -> u32
     ensures { result ≡ data_hcchar request }
 {
-    let direction = request.direction;
-    let speed = request.port_speed;
-    let kind = request.kind;
-    let odd = odd_of(kind, request.odd_frame);
-    let m = size_of(request);
+    let low = request.port_speed == Speed::Low;
+    let odd = (request.kind == DataKind::Interrupt) & request.odd_frame;
     words::hcchar(
         request.device,
         request.endpoint,
-        direction,
-        ep_type_of(kind),
-        m,
-        is_low(speed),
+        request.direction,
+        Dwc2EpType::from(request.kind),
+        size_of(request),
+        low,
         1,
         odd,
     )
 }
 
 // A stage of the data, with the PID of the running toggle.
-fn data_stage(
-    hcchar: u32,
-    descs: u32,
-    len: u32,
-    addr: u32,
-    base: u32,
-    toggle: DataToggle,
-) -> Dwc2TransferStage
-    ensures { result ≡ data_stage hcchar descs len addr base toggle.0 }
+fn data_stage(hcchar: u32, toggle: DataToggle, over: Stretch) -> Dwc2TransferStage
+    ensures { result ≡ data_stage hcchar over.descs over.len over.addr over.base toggle.0 }
 {
-    Dwc2TransferStage {
-        role: Dwc2StageRole::Data,
-        hcchar,
-        hctsiz: words::hctsiz_ddma(toggle.pid(), descs, 0),
-        dma_addr: addr,
-        desc_base: base,
-        descs,
-        len,
-    }
+    Dwc2TransferStage::new(Dwc2StageRole::Data, hcchar, toggle.pid(), over)
 }
 
-pub(crate) fn blank_stage() -> Dwc2TransferStage
-    ensures { result ≡ blank_stage }
+// A plan with no stage yet.
+fn blank_plan(toggle: DataToggle) -> Dwc2DataPlan
+    ensures { result ≡ blank_plan toggle }
 {
-    Dwc2TransferStage {
+    let blank = Dwc2TransferStage {
         role: Dwc2StageRole::Data,
         hcchar: 0,
         hctsiz: 0,
@@ -147,60 +100,47 @@ pub(crate) fn blank_stage() -> Dwc2TransferStage
         desc_base: 0,
         descs: 0,
         len: 0,
-    }
-}
-
-// A plan with no stage yet; a refused one stays so.
-fn blank_plan(answer: PlanAnswer, toggle: DataToggle) -> Dwc2DataPlan
-    ensures { result ≡ blank_plan answer toggle }
-{
-    let blank = blank_stage();
+    };
     Dwc2DataPlan {
-        answer,
         toggle,
         count: 0,
         stages: [blank; 4],
     }
 }
 
-// The plan with one stage more, and the toggle behind it.
-fn add_stage(plan: Dwc2DataPlan, stage: Dwc2TransferStage, m: u16) -> Dwc2DataPlan
-    requires { plan.count < 4 }
-    ensures { result ≡ with_stage m plan stage }
+// One stage more, and the toggle behind it.
+fn add_stage(plan: &mut Dwc2DataPlan, stage: Dwc2TransferStage, m: u16)
+    requires { plan.old.count < 4 }
+    ensures { plan.new ≡ with_stage m plan.old stage }
 {
-    let toggle = plan.toggle;
-    let at = plan.count as usize;
-    let mut next = plan;
-    next.stages[at] = stage;
-    next.count = plan.count + 1;
-    next.toggle = toggle.advance(packet_count(stage.len as u64, m));
-    next
+    plan.stages[plan.count as usize] = stage;
+    plan.count += 1;
+    plan.toggle = plan.toggle.advance(packet_count(stage.len as u64, m));
 }
 
-// Full stages first, each with its descriptors, address and toggle behind the one before; the last takes what is left.
+// Each stage takes 256 descriptors, or what is left, with its address and toggle behind the one before.
 fn plan_data(request: DataRequest, array: &mut [u32]) -> Dwc2DataPlan
-    requires { data_answer request (length array.old) ≡ Planned }
+    requires { data_answer request (length array.old) ≡ Ok tt }
     ensures { (result ≡ planned_data request) × (array.new ≡ laid_out (data_stages request) array.old) }
 {
     let m = size_of(request);
     let split = split_dma_lengths(request.len, m);
     let hcchar = data_hcchar(request);
+    let count = split.count as u32;
     let most = split.chunk * DWC2_MAX_DMA_DESCS;
-    let mut plan = blank_plan(PlanAnswer::Planned, request.toggle);
-    let mut left = split.count as u32;
-    let mut len = request.len as u32;
-    let mut addr = request.base as u32;
-    let mut base: u32 = 0;
-    while left > DWC2_MAX_DMA_DESCS {
-        let stage = data_stage(hcchar, DWC2_MAX_DMA_DESCS, most, addr, base, plan.toggle);
+    let mut plan = blank_plan(request.toggle);
+    for i in 0..count.div_ceil(DWC2_MAX_DMA_DESCS) {
+        let base = i * DWC2_MAX_DMA_DESCS;
+        let before = i * most;
+        let over = Stretch {
+            base,
+            descs: (count - base).min(DWC2_MAX_DMA_DESCS),
+            addr: request.base as u32 + before,
+            len: (request.len as u32 - before).min(most),
+        };
+        let stage = data_stage(hcchar, plan.toggle, over);
         build_stage_descs(stage, array);
-        plan = add_stage(plan, stage, m);
-        left -= DWC2_MAX_DMA_DESCS;
-        len -= most;
-        addr += most;
-        base += DWC2_MAX_DMA_DESCS;
+        add_stage(&mut plan, stage, m);
     }
-    let stage = data_stage(hcchar, left, len, addr, base, plan.toggle);
-    build_stage_descs(stage, array);
-    add_stage(plan, stage, m)
+    plan
 }

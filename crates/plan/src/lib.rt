@@ -13,11 +13,12 @@ mod types;
 
 pub use control::build_control_plan;
 pub use data::data_stages;
-pub use setup::{SetupPacket, setup_packet_bytes};
+pub use refusals::PlanRefusal;
+pub use setup::setup_packet_bytes;
 pub use split::{DmaSplit, packet_count, split_dma_lengths};
 pub use stage::stage_actual_length;
 pub use toggle::DataToggle;
 pub use types::{
     ControlRequest, ControlSetup, DataKind, DataRequest, Dwc2ControlPlan, Dwc2DataPlan,
-    Dwc2StageRole, Dwc2TransferStage, PlanAnswer, Recipient, RequestType, StageLength,
+    Dwc2StageRole, Dwc2TransferStage, Recipient, RequestType,
 };

@@ -1,19 +1,29 @@
-// The tests that planning calls share: document 01, "Refusal numbers".
+// Why a planning call refuses, and a test that the calls share: document 01, "Refusal numbers".
 ghost use Rattle.std.specs.Prelude.{◌≡◌};
-ghost use Rattle.plan.specs.Refusals.{is_planned, is_bad};
+ghost use Rattle.plan.specs.Numbers.{refusal_number};
+ghost use Rattle.plan.specs.Refusals.{is_bad};
 
-use crate::types::PlanAnswer;
+#[derive(Clone, Copy, Debug, PartialEq, Eq)]
+pub enum PlanRefusal {
+    ShortBuffer,
+    BadEndpoint,
+    ControlTooLong,
+    TooManyDescriptors,
+    AddressLimit,
+}
 
-pub(crate) fn is_planned(answer: PlanAnswer) -> bool
-    ensures { result ≡ is_planned answer }
-{
-    match answer {
-        PlanAnswer::Planned => true,
-        PlanAnswer::ShortBuffer => false,
-        PlanAnswer::BadEndpoint => false,
-        PlanAnswer::ControlTooLong => false,
-        PlanAnswer::TooManyDescriptors => false,
-        PlanAnswer::AddressLimit => false,
+// Document 01's number.
+impl From<PlanRefusal> for u32 {
+    ghost from_gives = { λ refusal n. n ≡ refusal_number refusal };
+
+    fn from(refusal: PlanRefusal) -> u32 {
+        match refusal {
+            PlanRefusal::ShortBuffer => 17,
+            PlanRefusal::BadEndpoint => 18,
+            PlanRefusal::ControlTooLong => 19,
+            PlanRefusal::TooManyDescriptors => 20,
+            PlanRefusal::AddressLimit => 11,
+        }
     }
 }
 

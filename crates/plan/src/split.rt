@@ -1,5 +1,5 @@
 // How a transfer falls into packets and descriptors: document 01, "Planning transfers".
-ghost use Rattle.std.specs.Prelude.{◌≡◌, ◌<◌, max};
+ghost use Rattle.std.specs.Prelude.{◌≡◌, ◌<◌};
 ghost use Rattle.words.specs.Words.{packets};
 ghost use Rattle.plan.specs.Planning.{chunk_of, split_of};
 
@@ -18,12 +18,11 @@ const NBYTES_LIMIT: u32 = 131_071;
 pub fn packet_count(len: u64, max_packet_size: u16) -> u64
     ensures { result ≡ packets len max_packet_size }
 {
-    let m = at_least_one(max_packet_size);
-    let last = std::num::wrapping_sub_u64(len, 1);
-    if last < 4_294_967_296 {
-        return (last as u32 / m) as u64 + 1;
+    let m = max_packet_size.max(1);
+    match u32::try_from(len.wrapping_sub(1)) {
+        Ok(last) => (last / m as u32) as u64 + 1,
+        Err(_) => whole_parts(len, m as u64),
     }
-    whole_parts(len, m as u64)
 }
 
 // A count of bytes is 17 bits wide, and an IN count is rounded up to whole packets: a chunk of whole packets, with a packet less
@@ -41,7 +40,7 @@ pub fn split_dma_lengths(len: u64, max_packet_size: u16) -> DmaSplit
 pub(crate) fn chunk_of(max_packet_size: u16) -> u32
     ensures { result ≡ chunk_of max_packet_size }
 {
-    let m = at_least_one(max_packet_size);
+    let m = max_packet_size.max(1) as u32;
     (NBYTES_LIMIT - (m - 1)) / m * m
 }
 
@@ -50,14 +49,5 @@ fn whole_parts(len: u64, part: u64) -> u64
     requires { 0 < part }
     ensures { result ≡ packets len part }
 {
-    if len == 0 {
-        return 1;
-    }
-    (len - 1) / part + 1
-}
-
-pub(crate) fn at_least_one(x: u16) -> u32
-    ensures { result ≡ max 1 x }
-{
-    if x == 0 { 1 } else { x as u32 }
+    len.div_ceil(part).max(1)
 }

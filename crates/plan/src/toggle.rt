@@ -5,7 +5,7 @@ ghost use Rattle.plan.specs.Planning.{pid_of_toggle, advanced};
 use words::Dwc2Pid;
 
 // No is DATA0, yes is DATA1.
-#[derive(Clone, Copy)]
+#[derive(Clone, Copy, Debug, PartialEq, Eq)]
 pub struct DataToggle(pub bool);
 
 impl DataToggle {

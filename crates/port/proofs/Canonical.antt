@@ -18,7 +18,7 @@ use Rattle.port.proofs.Laws.Kept.{Octets, octets_drop, byte_kept, three_kept, u1
 use Rattle.port.proofs.Laws.Kept.{pair_kept, triple_kept, fatal_kept, request_kept, plan_kept}
 use Rattle.port.proofs.Laws.Entries.{length_request, length_plan}
 use Rattle.port.proofs.Laws.Left.{same_long, front_good, requests_any, plans_any}
-use Rattle.port.proofs.Laws.Loaded.{layout_by}
+use Rattle.port.proofs.Laws.Loaded.{not_refused, layout_by}
 use Rattle.port.proofs.Laws.Over.{kept_same}
 use Rattle.port.proofs.Laws.Tables.{any_less, any_clear}
 
@@ -163,7 +163,7 @@ module _ (xs : List ℕ) (z : layout_number xs ≡ 0) where
       ap (λ (s : IsoChannelState). any_of is_bad_plan_bytes 7 (plans_in s) (drop 1320 ys)) same
       ∙ plans_any long k (plans_in t) (min-le_right (packets_of (slice 0 (requests_in t) t.requests)) 1024)
       ∙ any_less is_bad_plan_bytes 7 (plans_in (session_of xs)) (plans_in t) (drop 1320 xs) less plans_clear in
-      sym (layout_by ys (omega (arith, same_long long k)) (sym (ap₂ (λ (x y : Bool). x || y) first.0 first.1)) false refl (sym requests) (sym plans) refl)
+      not_refused ys (layout_by ys (omega (arith, same_long long k)) (sym (ap₂ (λ (x y : Bool). x || y) first.0 first.1)) false refl (sym requests) (sym plans) refl)
 
 -- a call that leaves the session as it was leaves the bytes as they were
 pub left_alone :

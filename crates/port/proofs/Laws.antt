@@ -1,10 +1,8 @@
-pub mod Answers
 pub mod Back
 pub mod Calls
 pub mod Closing
 pub mod Entries
 pub mod First
-pub mod Fresh
 pub mod Head
 pub mod InUse
 pub mod Kept
@@ -13,7 +11,6 @@ pub mod Loaded
 pub mod Numbers
 pub mod Over
 pub mod Placed
-pub mod Plain
 pub mod Planning
 pub mod Polling
 pub mod Reclaiming
@@ -22,12 +19,11 @@ pub mod Runs
 pub mod Saved
 pub mod Scans
 pub mod Settling
-pub mod Several
 pub mod Setup
 pub mod Sounds
 pub mod Steps
+pub mod Stood
 pub mod Submits
 pub mod Tables
-pub mod Tags
 pub mod Verdict
 pub mod Walks

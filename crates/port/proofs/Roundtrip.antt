@@ -20,7 +20,7 @@ use Rattle.port.specs.Layout.{is_bad_mark, is_bad_head, is_bad_request_bytes, is
 use Rattle.port.proofs.Laws.Entries.{length_request, length_plan}
 use Rattle.port.proofs.Laws.Tables.{length_bytes, table_back, table_good, any_less}
 use Rattle.port.proofs.Laws.Head.{config_at, head_at, head}
-use Rattle.port.proofs.Laws.Loaded.{session_at, layout_by}
+use Rattle.port.proofs.Laws.Loaded.{not_refused, session_at, layout_by}
 use Rattle.port.proofs.Laws.Saved.{length_front, length_requests}
 use Rattle.port.proofs.Laws.Back.{join16, join32, join64, speed_back, direction_back, mode_back, flag_back, fatal_back, fatal_good, tagged_back}
 use Rattle.port.proofs.Laws.Back.{request_back, request_good, plan_back, plan_good}
@@ -149,7 +149,7 @@ module _ (s : IsoChannelState) (many_requests : length s.requests ≡ 64) (many_
       let long : 8488 ≤ length (front s ++ requests) = omega (arith, length_whole) in
       let t : IsoChannelState = session_of (front s ++ requests) in
       ap layout_number parts
-      ∙ sym (layout_by (front s ++ requests) long (sym (ap₂ (λ (x y : Bool). x || y) (mark_good s requests) (head_good s requests))) false refl
+      ∙ not_refused (front s ++ requests) (layout_by (front s ++ requests) long (sym (ap₂ (λ (x y : Bool). x || y) (mark_good s requests) (head_good s requests))) false refl
       (sym (any_less is_bad_request_bytes 20 64 (requests_in t) (drop 40 (front s ++ requests)) (min-le_right t.head.count 64) (sym requests_good)))
       (sym (any_less is_bad_plan_bytes 7 1024 (plans_in t) (drop 1320 (front s ++ requests))
       (min-le_right (packets_of (slice 0 (requests_in t) t.requests)) 1024) (sym plans_good)))

@@ -92,3 +92,10 @@ open_unique κs a x y u v =
 
 pub submit_unique : Unique 3 requests.dwc2_iso_submit.Kinds.ps requests.dwc2_iso_submit.Kinds.r requests.dwc2_iso_submit.Reads.Post
 submit_unique κs a x y u v = equal_all (λ (bytes words : List ℕ). (bytes, (words, (tt, (tt, tt)))))
+
+pub number_from_unique : Unique 0 ring_sums.PortNumberFromOptionU32.from.Kinds.ps ring_sums.PortNumberFromOptionU32.from.Kinds.r ring_sums.PortNumberFromOptionU32.from.Reads.Post
+number_from_unique κs a x y u v = equal refl
+
+pub frames_from_unique :
+    Unique 0 ring_sums.PortFramesFromOptionIsoServiceFrames.from.Kinds.ps ring_sums.PortFramesFromOptionIsoServiceFrames.from.Kinds.r ring_sums.PortFramesFromOptionIsoServiceFrames.from.Reads.Post
+frames_from_unique κs a x y u v = equal refl

@@ -1,20 +1,20 @@
 -- A call by bytes: the session is loaded, the call acts on it as crate session's definition says, and the session is saved again. One definition,
 -- `by_bytes`, serves every answer, every lent word and the bytes of every call.
-use Rattle.std.specs.Prelude.{ℕ, ◌/◌, ◌%◌, Bool, cond, ◌||◌, List, length, replicate, ◌==◌, nat_lt}
+use Rattle.std.specs.Prelude.{ℕ, Bool, cond, Option, Some, None, Result, Ok, Err, ◌||◌, List, length, replicate, ◌==◌, nat_lt}
 use Rattle.std.proofs.lemmas.List.Edits.{sets}
 use Rattle.session.specs.Numbers.{open_number, submit_number, submit_value, answer_number, reclaim_number, reclaim_length, reclaim_packets}
 use Rattle.session.specs.Record.{is_bad_record}
 use Rattle.session.specs.Open.{opened, opened_ring}
 use Rattle.session.specs.Submit.{submitted, submitted_ring}
+use Rattle.session.specs.declared.refusal.IsoRefusal.{IsoRefusal}
 use Rattle.session.specs.declared.reply.IsoEvent.{IsoEvent}
 use Rattle.session.specs.declared.reply.IsoReply.{IsoReply}
-use Rattle.session.specs.declared.reply.ReclaimAnswer.{ReclaimAnswer}
-use Rattle.session.specs.declared.reply.ReclaimAnswer.TheVariants as reclaim
+use Rattle.session.specs.declared.reply.IsoCompletion.{IsoCompletion}
 use Rattle.session.specs.declared.reply.Reclaimed.{Reclaimed}
 use Rattle.session.specs.declared.transfer.IsoChannelStart.{IsoChannelStart}
 use Rattle.session.specs.declared.transfer.IsoTransfer.{IsoTransfer}
-use Rattle.session.specs.declared.transfer.SubmitAnswer.{SubmitAnswer}
-use Rattle.session.specs.declared.transfer.SubmitAnswer.TheVariants as submit
+use Rattle.session.specs.declared.transfer.IsoSubmission.{IsoSubmission}
+use Rattle.session.specs.declared.transfer.IsoSubmission.TheVariants.{Accepted, Cut}
 use Rattle.session.specs.declared.transfer.Submitted.{Submitted}
 use Rattle.session.specs.declared.types.IsoConfig.{IsoConfig}
 use Rattle.session.specs.declared.types.IsoChannelState.{IsoChannelState}
@@ -49,10 +49,6 @@ reply_refused n = port_reply n 0 0
 abbrev pub reply_port : IsoReply → PortReply
 reply_port r = port_reply (answer_number r.answer) (flag_tag r.taken) (flag_tag r.halt)
 
--- an answer that is handed over as one number: the refusal, above it whether the event was taken, above that whether the channel is to halt
-abbrev pub reply_of : ℕ → PortReply
-reply_of n = port_reply (n % 4294967296) (n / 4294967296 % 2) (n / 8589934592)
-
 abbrev pub reply_by : List ℕ → (IsoChannelState → IsoReply) → PortReply
 reply_by xs call = by_bytes xs reply_refused (λ (s : IsoChannelState). reply_port (call s))
 
@@ -61,24 +57,30 @@ reply_by xs call = by_bytes xs reply_refused (λ (s : IsoChannelState). reply_po
 abbrev pub check_by : List ℕ → ℕ
 check_by xs = by_bytes xs (λ (n : ℕ). n) (λ (s : IsoChannelState). cond (is_bad_record s) 18 0)
 
--- ---- an event: 0 is no, any other number is yes
+-- ---- an event, where one is reported: 0 is no, any other number is yes
 
-abbrev pub event_of : ℕ → ℕ → ℕ → IsoEvent
-event_of reported unplugged hcint = record { reported = flag_of reported; unplugged = flag_of unplugged; hcint = hcint }
+abbrev pub event_of : ℕ → ℕ → ℕ → Option IsoEvent
+event_of reported unplugged hcint = cond (flag_of reported) (Some (record { unplugged = flag_of unplugged; hcint = hcint })) None
 
 -- ---- reclaim
 
-abbrev pub is_completed : ReclaimAnswer → ℕ
-is_completed (reclaim.Completed outcome total packets) = 1
-is_completed reclaim.NotYet = 0
-is_completed (reclaim.Refused n) = 0
+abbrev pub completed : Option IsoCompletion → ℕ
+completed (Some c) = 1
+completed None = 0
 
-abbrev pub outcome_in : ReclaimAnswer → Tagged
-outcome_in (reclaim.Completed outcome total packets) = outcome_tagged outcome
-outcome_in reclaim.NotYet = tagged 0 0 0
-outcome_in (reclaim.Refused n) = tagged 0 0 0
+abbrev pub is_completed : Result (Option IsoCompletion) IsoRefusal → ℕ
+is_completed (Ok completion) = completed completion
+is_completed (Err r) = 0
 
-abbrev pub reclaim_port : ReclaimAnswer → ℕ → ℕ → PortReclaimed
+abbrev pub completed_outcome : Option IsoCompletion → Tagged
+completed_outcome (Some c) = outcome_tagged c.outcome
+completed_outcome None = tagged 0 0 0
+
+abbrev pub outcome_in : Result (Option IsoCompletion) IsoRefusal → Tagged
+outcome_in (Ok completion) = completed_outcome completion
+outcome_in (Err r) = tagged 0 0 0
+
+abbrev pub reclaim_port : Result (Option IsoCompletion) IsoRefusal → ℕ → ℕ → PortReclaimed
 reclaim_port a taken halt =
     record {
       refusal = reclaim_number a;
@@ -92,8 +94,12 @@ reclaim_port a taken halt =
       halt = halt;
     }
 
+abbrev pub not_completed : ℕ → ℕ → ℕ → PortReclaimed
+not_completed n taken halt =
+    record { refusal = n; completed = 0; outcome = 0; fault = 0; word = 0; length = 0; packets = 0; taken = taken; halt = halt }
+
 abbrev pub reclaim_refused : ℕ → PortReclaimed
-reclaim_refused n = reclaim_port (reclaim.Refused n) 0 0
+reclaim_refused n = not_completed n 0 0
 
 abbrev pub reclaimed_port : Reclaimed → PortReclaimed
 reclaimed_port r = reclaim_port r.answer (flag_tag r.taken) (flag_tag r.halt)
@@ -121,32 +127,49 @@ transfer_of t =
       words = t.words;
     }
 
-abbrev pub is_cut : SubmitAnswer → ℕ
-is_cut (submit.Accepted id) = 0
-is_cut submit.Cut = 1
-is_cut (submit.Refused n) = 0
-is_cut (submit.PacketTooLong index) = 0
+abbrev pub cut : IsoSubmission → ℕ
+cut (Accepted id) = 0
+cut Cut = 1
 
-abbrev pub submit_port : SubmitAnswer → IsoChannelStart → PortSubmitted
-submit_port a start =
+abbrev pub is_cut : Result IsoSubmission IsoRefusal → ℕ
+is_cut (Ok submission) = cut submission
+is_cut (Err r) = 0
+
+abbrev pub not_started : ℕ → ℕ → ℕ → PortSubmitted
+not_started value refusal cut =
+    record {
+      value = value;
+      refusal = refusal;
+      cut = cut;
+      first = 0;
+      hcchar = 0;
+      hctsiz = 0;
+      hcintmsk = 0;
+      frame_count = 0;
+      frames = replicate 64 0;
+    }
+
+-- the answer, with what the caller programs where the submission was the first; zeros where it was not
+abbrev pub submit_port : Result IsoSubmission IsoRefusal → Option IsoChannelStart → PortSubmitted
+submit_port a (Some start) =
     record {
       value = submit_value a;
       refusal = submit_number a;
       cut = is_cut a;
-      first = flag_tag start.first;
+      first = 1;
       hcchar = start.hcchar;
       hctsiz = start.hctsiz;
       hcintmsk = start.hcintmsk;
       frame_count = start.frames.count;
       frames = start.frames.frames;
     }
+submit_port a None = not_started (submit_value a) (submit_number a) (is_cut a)
 
 abbrev pub submitted_port : Submitted → PortSubmitted
 submitted_port r = submit_port r.answer r.start
 
 abbrev pub submit_refused : ℕ → PortSubmitted
-submit_refused n =
-    record { value = 0; refusal = n; cut = 0; first = 0; hcchar = 0; hctsiz = 0; hcintmsk = 0; frame_count = 0; frames = replicate 64 0 }
+submit_refused n = not_started 0 n 0
 
 abbrev pub submit_by : List ℕ → PortTransfer → List ℕ → List ℕ → PortSubmitted
 submit_by xs t lengths ring =

@@ -1,7 +1,9 @@
 -- The bytes of a session (docs/LAYOUT.md): entry by entry, then the whole. `..Bytes` writes, `..Of` reads what a list begins with.
-use Rattle.std.specs.Prelude.{ℕ, zero, suc, min, Bool, false, cond, not, ◌||◌, List, [], ◌∷◌, ◌++◌, length, take, drop, ◌==◌, nat_lt}
+use Rattle.std.specs.Prelude.{ℕ, zero, suc, min, Bool, false, cond, not, ◌||◌, Result, Ok, Err, ⊤, List, [], ◌∷◌, ◌++◌, length, take, drop, ◌==◌, nat_lt}
 use Rattle.std.proofs.Math.Seq.{slice}
 use Rattle.session.specs.Session.{packets_of}
+use Rattle.session.specs.declared.refusal.IsoRefusal.{IsoRefusal}
+use Rattle.session.specs.declared.refusal.IsoRefusal.TheVariants.{ShortBuffer, BadRecord}
 use Rattle.session.specs.declared.types.IsoConfig.{IsoConfig}
 use Rattle.session.specs.declared.types.IsoHead.{IsoHead}
 use Rattle.session.specs.declared.types.IsoChannelState.{IsoChannelState}
@@ -150,6 +152,10 @@ is_bad_layout xs =
 -- 17: fewer bytes than a session takes; 18: bytes that are no session of the layout
 abbrev pub layout_number : List ℕ → ℕ
 layout_number xs = cond (nat_lt (length xs) 8488) 17 (cond (is_bad_layout xs) 18 0)
+
+-- the same as a refusal
+abbrev pub layout_refusal : List ℕ → Result ⊤ IsoRefusal
+layout_refusal xs = cond (nat_lt (length xs) 8488) (Err ShortBuffer) (cond (is_bad_layout xs) (Err BadRecord) (Ok tt))
 
 -- ---- a session in the place of another
 

@@ -1,12 +1,13 @@
 -- The tables of a session where they stand in its bytes, the session with another table, and what an action leaves: what the functions say that
 -- work in place.
-use Rattle.std.specs.Prelude.{◌≡◌, ℕ, List}
+use Rattle.std.specs.Prelude.{◌≡◌, ℕ, false, List}
 use Rattle.session.specs.declared.reply.IsoReply.{IsoReply}
 use Rattle.session.specs.declared.types.IsoRequest.{IsoRequest}
 use Rattle.session.specs.declared.types.IsoPacketPlan.{IsoPacketPlan}
 use Rattle.session.specs.declared.types.IsoChannelState.{IsoChannelState}
 use Rattle.port.specs.declared.poll.PollSaid.{PollSaid}
-use Rattle.port.specs.Layout.{session_of, kept}
+use Rattle.session.specs.Record.{is_bad_record}
+use Rattle.port.specs.Layout.{layout_number, session_of, kept}
 
 abbrev pub requests_of : List ℕ → List IsoRequest
 requests_of xs = (session_of xs).requests
@@ -19,6 +20,10 @@ with_requests s requests = record { cfg = s.cfg; head = s.head; fatal = s.fatal;
 
 abbrev pub with_plans : IsoChannelState → List IsoPacketPlan → IsoChannelState
 with_plans s plans = record { cfg = s.cfg; head = s.head; fatal = s.fatal; requests = s.requests; plans = plans }
+
+-- bytes of the layout whose record is good: what every call works on
+abbrev pub Good : List ℕ → Type 0
+Good xs = (layout_number xs ≡ 0) × (is_bad_record (session_of xs) ≡ false)
 
 -- the bytes `ys` hold the session `s` in the place of the one that `xs` hold; the first `n` requests and `m` plans were written
 pub record Kept (n m : ℕ) (xs ys : List ℕ) (s : IsoChannelState) : Type 0 where

@@ -1,6 +1,6 @@
 -- Planning by numbers (include/dwc2_port.h): what the numbers name, and the answers as numbers.
-use Rattle.std.specs.Prelude.{ℕ, Bool, cond, ◌||◌, List, ◌++◌, map, replicate, ◌==◌, nat_lt}
-use Rattle.plan.specs.declared.setup.SetupPacket.{SetupPacket}
+use Rattle.std.specs.Prelude.{ℕ, Bool, cond, ◌||◌, List, ◌++◌, map, replicate, ◌==◌, nat_lt, is_some, Option, Some, None, Result, Ok, Err}
+use Rattle.plan.specs.declared.refusals.PlanRefusal.{PlanRefusal}
 use Rattle.plan.specs.declared.split.DmaSplit.{DmaSplit}
 use Rattle.plan.specs.declared.types.ControlRequest.{ControlRequest}
 use Rattle.plan.specs.declared.types.ControlSetup.{ControlSetup}
@@ -16,11 +16,10 @@ use Rattle.plan.specs.declared.types.Recipient.{Recipient}
 use Rattle.plan.specs.declared.types.Recipient.TheVariants.{Device, Interface, Endpoint, Other}
 use Rattle.plan.specs.declared.types.RequestType.{RequestType}
 use Rattle.plan.specs.declared.types.RequestType.TheVariants.{Standard, Class, Vendor, Reserved}
-use Rattle.plan.specs.declared.types.StageLength.{StageLength}
-use Rattle.plan.specs.declared.types.StageLength.TheVariants.{Moved, Refused}
+use Rattle.plan.specs.declared.toggle.DataToggle.{DataToggle}
 use Rattle.plan.specs.ControlPlan.{control_plan, control_array, setup_packet}
 use Rattle.plan.specs.DataStages.{data_plan, data_array}
-use Rattle.plan.specs.Numbers.{answer_number}
+use Rattle.plan.specs.Numbers.{refusal_number, role_number}
 use Rattle.plan.specs.StageLength.{stage_length}
 use Rattle.port.specs.declared.planning.PortControlPlan.{PortControlPlan}
 use Rattle.port.specs.declared.planning.PortControlRequest.{PortControlRequest}
@@ -38,12 +37,6 @@ abbrev pub split_numbers : DmaSplit → PortSplit
 split_numbers s = record { count = s.count; chunk = s.chunk; last = s.last }
 
 -- ---- a stage
-
-abbrev pub role_number : Dwc2StageRole → ℕ
-role_number role.Data = 0
-role_number role.ControlSetup = 1
-role_number role.ControlData = 2
-role_number role.ControlStatus = 3
 
 abbrev pub role_of : ℕ → Dwc2StageRole
 role_of n = cond (n == 0) role.Data (cond (n == 1) role.ControlSetup (cond (n == 2) role.ControlData role.ControlStatus))
@@ -78,9 +71,9 @@ stage_of s =
 abbrev pub blank_numbers : PortStage
 blank_numbers = record { role = 0; hcchar = 0; hctsiz = 0; dma_addr = 0; desc_base = 0; descs = 0; len = 0 }
 
-abbrev pub length_number : StageLength → PortNumber
-length_number (Moved bytes) = record { refusal = 0; value = bytes }
-length_number (Refused answer) = record { refusal = answer_number answer; value = 0 }
+abbrev pub length_number : Result ℕ PlanRefusal → PortNumber
+length_number (Ok bytes) = record { refusal = 0; value = bytes }
+length_number (Err refusal) = record { refusal = refusal_number refusal; value = 0 }
 
 abbrev pub stage_moved_number : PortStage → List ℕ → PortNumber
 stage_moved_number s array = cond (is_bad_role s.role) (record { refusal = 18; value = 0 }) (length_number (stage_length (stage_of s) array))
@@ -114,17 +107,27 @@ is_bad_data r = is_bad_kind r.kind || (is_bad_direction r.direction || is_bad_sp
 abbrev pub data_numbers : Dwc2DataPlan → PortDataPlan
 data_numbers p =
     record {
-      refusal = answer_number p.answer;
+      refusal = 0;
       toggle = flag_tag p.toggle.0;
       count = p.count;
       stages = map stage_numbers p.stages;
     }
 
+-- a refusal has no stages
+abbrev pub refused_data : ℕ → ℕ → PortDataPlan
+refused_data refusal toggle = record { refusal = refusal; toggle = toggle; count = 0; stages = replicate 4 blank_numbers }
+
+-- a plan, or its refusal with the toggle as it came
+abbrev pub data_answer_numbers : DataToggle → Result Dwc2DataPlan PlanRefusal → PortDataPlan
+data_answer_numbers toggle (Ok p) = data_numbers p
+data_answer_numbers toggle (Err refusal) = refused_data (refusal_number refusal) (flag_tag toggle.0)
+
 abbrev pub unnamed_data : PortDataPlan
-unnamed_data = record { refusal = 18; toggle = 0; count = 0; stages = replicate 4 blank_numbers }
+unnamed_data = refused_data 18 0
 
 abbrev pub data_plan_numbers : PortDataRequest → ℕ → PortDataPlan
-data_plan_numbers r words = cond (is_bad_data r) unnamed_data (data_numbers (data_plan (data_request_of r) words))
+data_plan_numbers r words =
+    cond (is_bad_data r) unnamed_data (data_answer_numbers (data_request_of r).toggle (data_plan (data_request_of r) words))
 
 abbrev pub data_array_after : PortDataRequest → List ℕ → List ℕ
 data_array_after r array = cond (is_bad_data r) array (data_array (data_request_of r) array)
@@ -143,22 +146,34 @@ control_request_of r =
       status_dma = r.status_dma;
     }
 
+-- a stage that may not be there
+abbrev pub some_numbers : Option Dwc2TransferStage → PortStage
+some_numbers (Some s) = stage_numbers s
+some_numbers None = blank_numbers
+
 abbrev pub control_numbers : Dwc2ControlPlan → PortControlPlan
 control_numbers p =
     record {
-      refusal = answer_number p.answer;
-      has_data = flag_tag p.has_data;
+      refusal = 0;
+      has_data = flag_tag (is_some p.«data»);
       setup = stage_numbers p.setup;
-      «data» = stage_numbers p.«data»;
+      «data» = some_numbers p.«data»;
       status = stage_numbers p.status;
     }
 
+abbrev pub refused_control : ℕ → PortControlPlan
+refused_control refusal = record { refusal = refusal; has_data = 0; setup = blank_numbers; «data» = blank_numbers; status = blank_numbers }
+
+abbrev pub control_answer_numbers : Result Dwc2ControlPlan PlanRefusal → PortControlPlan
+control_answer_numbers (Ok p) = control_numbers p
+control_answer_numbers (Err refusal) = refused_control (refusal_number refusal)
+
 abbrev pub unnamed_control : PortControlPlan
-unnamed_control = record { refusal = 18; has_data = 0; setup = blank_numbers; «data» = blank_numbers; status = blank_numbers }
+unnamed_control = refused_control 18
 
 abbrev pub control_plan_numbers : PortControlRequest → ℕ → PortControlPlan
 control_plan_numbers r words =
-    cond (is_bad_direction r.direction) unnamed_control (control_numbers (control_plan (control_request_of r) words))
+    cond (is_bad_direction r.direction) unnamed_control (control_answer_numbers (control_plan (control_request_of r) words))
 
 abbrev pub control_array_after : PortControlRequest → List ℕ → List ℕ
 control_array_after r array = cond (is_bad_direction r.direction) array (control_array (control_request_of r) array)
@@ -178,8 +193,9 @@ abbrev pub setup_of : ℕ → ℕ → ℕ → ℕ → ℕ → ControlSetup
 setup_of type recipient request value index =
     record { request_type = request_type_of type; recipient = recipient_of recipient; request = request; value = value; index = index }
 
-abbrev pub setup_numbers : SetupPacket → PortSetupPacket
-setup_numbers p = record { refusal = answer_number p.answer; bytes = p.bytes }
+abbrev pub setup_numbers : Result (List ℕ) PlanRefusal → PortSetupPacket
+setup_numbers (Ok bytes) = record { refusal = 0; bytes = bytes }
+setup_numbers (Err refusal) = record { refusal = refusal_number refusal; bytes = replicate 8 0 }
 
 abbrev pub unnamed_setup : PortSetupPacket
 unnamed_setup = record { refusal = 18; bytes = replicate 8 0 }

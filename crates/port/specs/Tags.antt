@@ -1,6 +1,6 @@
 -- Enums as bytes (docs/LAYOUT.md): the number of each case, and the case of each number. A number that names nothing is refused before it is
 -- read, so what stands for it here is never seen.
-use Rattle.std.specs.Prelude.{ℕ, Bool, true, false, cond, not, ◌&&◌, ◌||◌, List, ◌∷◌, drop, ◌==◌, nat_le, nat_lt}
+use Rattle.std.specs.Prelude.{ℕ, Bool, true, false, cond, not, ◌&&◌, ◌||◌, Option, Some, None, List, ◌∷◌, drop, ◌==◌, nat_le, nat_lt}
 use Rattle.ring.specs.declared.speed.Speed.{Speed}
 use Rattle.ring.specs.declared.speed.Speed.TheVariants.{High, Full, Low}
 use Rattle.words.specs.Numbers.{fault_bit}
@@ -16,8 +16,6 @@ use Rattle.session.specs.declared.types.IsoOutcome.{IsoOutcome}
 use Rattle.session.specs.declared.types.IsoOutcome.TheVariants as outcome
 use Rattle.session.specs.declared.types.IsoHaltReason.{IsoHaltReason}
 use Rattle.session.specs.declared.types.IsoHaltReason.TheVariants as reason
-use Rattle.session.specs.declared.types.IsoFatal.{IsoFatal}
-use Rattle.session.specs.declared.types.IsoFatal.TheVariants as fatal
 use Rattle.port.specs.declared.tags.Tagged.{Tagged}
 use Rattle.port.specs.Bytes.{byte_of, u32_of, u32_bytes}
 
@@ -97,14 +95,13 @@ abbrev pub reason_tagged : IsoHaltReason → Tagged
 reason_tagged reason.Cancelled = tagged 1 0 0
 reason_tagged (reason.Fault kind word) = tagged 2 (fault_bit kind) word
 
-abbrev pub fatal_tagged : IsoFatal → Tagged
-fatal_tagged fatal.Nothing = tagged 0 0 0
-fatal_tagged (fatal.Reason r) = reason_tagged r
+abbrev pub fatal_tagged : Option IsoHaltReason → Tagged
+fatal_tagged None = tagged 0 0 0
+fatal_tagged (Some r) = reason_tagged r
 
-abbrev pub fatal_of : Tagged → IsoFatal
+abbrev pub fatal_of : Tagged → Option IsoHaltReason
 fatal_of t =
-    cond (t.tag == 0) fatal.Nothing
-    (cond (t.tag == 1) (fatal.Reason reason.Cancelled) (fatal.Reason (reason.Fault (fault_of t.kind) t.word)))
+    cond (t.tag == 0) None (cond (t.tag == 1) (Some reason.Cancelled) (Some (reason.Fault (fault_of t.kind) t.word)))
 
 -- tags up to `last`; the tag `fault` alone has a fault, and those below it have no word
 abbrev pub is_bad_tagged : ℕ → ℕ → Tagged → Bool

@@ -1,12 +1,11 @@
 // What the calls answer, as C has it: numbers only. include/dwc2_port.h says what each field means.
 ghost use Rattle.std.specs.Prelude.{◌≡◌};
-ghost use Rattle.session.specs.Numbers.{submit_number, submit_value, answer_number};
-ghost use Rattle.session.specs.declared.reply.ReclaimAnswer.TheVariants.{Refused};
+ghost use Rattle.session.specs.Numbers.{refusal_number, refusal_value, answer_number};
 ghost use Rattle.port.specs.Tags.{flag_tag};
-ghost use Rattle.port.specs.Calls.{port_reply, reply_refused, reclaim_port, reclaim_refused, transfer_of, is_cut, submit_port, submit_refused};
+ghost use Rattle.port.specs.Calls.{port_reply, reply_refused, not_completed, reclaim_port, reclaim_refused, transfer_of, not_started, submit_port, submit_refused};
 
-use crate::tags::outcome_tagged;
-use session::{IsoAnswer, IsoChannelStart, IsoTransfer, ReclaimAnswer, SubmitAnswer};
+use crate::tags::Tagged;
+use session::{IsoChannelStart, IsoCompletion, IsoRefusal, IsoSubmission, IsoTransfer};
 
 #[repr(C)]
 #[derive(Clone, Copy)]
@@ -59,83 +58,84 @@ pub struct PortSubmitted {
     pub frames: [u8; 64],
 }
 
-pub(crate) fn flag(yes: bool) -> u32
-    ensures { result ≡ flag_tag yes }
+// The number of a refusal, as C has it.
+pub(crate) fn refusal_number(refusal: IsoRefusal) -> u32
+    ensures { result ≡ refusal_number refusal }
 {
-    if yes { 1 } else { 0 }
+    u32::from(u16::from(refusal))
 }
 
-fn answer_number(answer: IsoAnswer) -> u16
+fn answer_number(answer: Result<(), IsoRefusal>) -> u32
     ensures { result ≡ answer_number answer }
 {
     match answer {
-        IsoAnswer::Done => 0,
-        IsoAnswer::Refused(number) => number,
+        Ok(()) => 0,
+        Err(refusal) => refusal_number(refusal),
     }
 }
 
-pub(crate) fn reply_refused(refusal: u16) -> PortReply
-    ensures { result ≡ reply_refused refusal }
+pub(crate) fn reply_refused(refusal: IsoRefusal) -> PortReply
+    ensures { result ≡ reply_refused (refusal_number refusal) }
 {
-    PortReply {
-        refusal: refusal as u32,
-        taken: 0,
-        halt: 0,
-    }
+    reply_port(Err(refusal), false, false)
 }
 
-pub(crate) fn reply_port(answer: IsoAnswer, taken: bool, halt: bool) -> PortReply
+pub(crate) fn reply_port(answer: Result<(), IsoRefusal>, taken: bool, halt: bool) -> PortReply
     ensures { result ≡ port_reply (answer_number answer) (flag_tag taken) (flag_tag halt) }
 {
     PortReply {
-        refusal: answer_number(answer) as u32,
-        taken: flag(taken),
-        halt: flag(halt),
+        refusal: answer_number(answer),
+        taken: u32::from(taken),
+        halt: u32::from(halt),
     }
 }
 
-fn not_completed(refusal: u16, taken: bool, halt: bool) -> PortReclaimed
-    ensures { result ≡ reclaim_port (Refused refusal) (flag_tag taken) (flag_tag halt) }
+fn not_completed(refusal: u32, taken: bool, halt: bool) -> PortReclaimed
+    ensures { result ≡ not_completed refusal (flag_tag taken) (flag_tag halt) }
 {
     PortReclaimed {
-        refusal: refusal as u32,
+        refusal,
         completed: 0,
         outcome: 0,
         fault: 0,
         word: 0,
         length: 0,
         packets: 0,
-        taken: flag(taken),
-        halt: flag(halt),
+        taken: u32::from(taken),
+        halt: u32::from(halt),
     }
 }
 
-pub(crate) fn reclaim_refused(refusal: u16) -> PortReclaimed
-    ensures { result ≡ reclaim_refused refusal }
+pub(crate) fn reclaim_refused(refusal: IsoRefusal) -> PortReclaimed
+    ensures { result ≡ reclaim_refused (refusal_number refusal) }
 {
-    not_completed(refusal, false, false)
+    not_completed(refusal_number(refusal), false, false)
 }
 
-pub(crate) fn reclaim_port(answer: ReclaimAnswer, taken: bool, halt: bool) -> PortReclaimed
+pub(crate) fn reclaim_port(
+    answer: Result<Option<IsoCompletion>, IsoRefusal>,
+    taken: bool,
+    halt: bool,
+) -> PortReclaimed
     ensures { result ≡ reclaim_port answer (flag_tag taken) (flag_tag halt) }
 {
     match answer {
-        ReclaimAnswer::Completed(outcome, total, packets) => {
-            let t = outcome_tagged(outcome);
+        Ok(Some(completion)) => {
+            let t = Tagged::from(completion.outcome);
             PortReclaimed {
                 refusal: 0,
                 completed: 1,
-                outcome: t.tag as u32,
-                fault: t.kind as u32,
+                outcome: u32::from(t.tag),
+                fault: u32::from(t.kind),
                 word: t.word,
-                length: total,
-                packets: packets as u32,
-                taken: flag(taken),
-                halt: flag(halt),
+                length: completion.actual_length,
+                packets: u32::from(completion.packets),
+                taken: u32::from(taken),
+                halt: u32::from(halt),
             }
         }
-        ReclaimAnswer::NotYet => not_completed(0, taken, halt),
-        ReclaimAnswer::Refused(number) => not_completed(number, taken, halt),
+        Ok(None) => not_completed(0, taken, halt),
+        Err(refusal) => not_completed(refusal_number(refusal), taken, halt),
     }
 }
 
@@ -144,58 +144,36 @@ pub(crate) fn transfer_of(t: PortTransfer) -> IsoTransfer
 {
     IsoTransfer {
         isochronous: t.kind == 1,
-        has_buffer: !(t.has_buffer == 0),
+        has_buffer: t.has_buffer != 0,
         buffer_len: t.buffer_len,
         base: t.base,
         start_reading: t.start_reading,
         frame_reading: t.frame_reading,
-        channel_free: !(t.channel_free == 0),
-        gate_program: !(t.gate_program == 0),
-        gate_enable: !(t.gate_enable == 0),
+        channel_free: t.channel_free != 0,
+        gate_program: t.gate_program != 0,
+        gate_enable: t.gate_enable != 0,
         words: t.words,
     }
 }
 
-fn submit_number(answer: SubmitAnswer) -> u16
-    ensures { result ≡ submit_number answer }
+// What comes with a refusal: the index of the first packet that is too long.
+fn refusal_value(refusal: IsoRefusal) -> u64
+    ensures { result ≡ refusal_value refusal }
 {
-    match answer {
-        SubmitAnswer::Accepted(_) => 0,
-        SubmitAnswer::Cut => 0,
-        SubmitAnswer::Refused(number) => number,
-        SubmitAnswer::PacketTooLong(_) => 9,
+    match refusal {
+        IsoRefusal::PacketTooLong(index) => u64::from(index),
+        _ => 0,
     }
 }
 
-fn submit_value(answer: SubmitAnswer) -> u64
-    ensures { result ≡ submit_value answer }
-{
-    match answer {
-        SubmitAnswer::Accepted(id) => id,
-        SubmitAnswer::Cut => 0,
-        SubmitAnswer::Refused(_) => 0,
-        SubmitAnswer::PacketTooLong(index) => index as u64,
-    }
-}
-
-fn is_cut(answer: SubmitAnswer) -> u32
-    ensures { result ≡ is_cut answer }
-{
-    match answer {
-        SubmitAnswer::Accepted(_) => 0,
-        SubmitAnswer::Cut => 1,
-        SubmitAnswer::Refused(_) => 0,
-        SubmitAnswer::PacketTooLong(_) => 0,
-    }
-}
-
-pub(crate) fn submit_refused(refusal: u16) -> PortSubmitted
-    ensures { result ≡ submit_refused refusal }
+// An answer with nothing to program.
+fn not_started(value: u64, refusal: u32, cut: u32) -> PortSubmitted
+    ensures { result ≡ not_started value refusal cut }
 {
     PortSubmitted {
-        value: 0,
-        refusal: refusal as u32,
-        cut: 0,
+        value,
+        refusal,
+        cut,
         first: 0,
         hcchar: 0,
         hctsiz: 0,
@@ -205,20 +183,37 @@ pub(crate) fn submit_refused(refusal: u16) -> PortSubmitted
     }
 }
 
-pub(crate) fn submit_port(answer: SubmitAnswer, start: IsoChannelStart) -> PortSubmitted
+pub(crate) fn submit_refused(refusal: IsoRefusal) -> PortSubmitted
+    ensures { result ≡ submit_refused (refusal_number refusal) }
+{
+    not_started(0, refusal_number(refusal), 0)
+}
+
+pub(crate) fn submit_port(
+    answer: Result<IsoSubmission, IsoRefusal>,
+    start: Option<IsoChannelStart>,
+) -> PortSubmitted
     ensures { result ≡ submit_port answer start }
 {
+    let (value, refusal, cut) = match answer {
+        Ok(IsoSubmission::Accepted(id)) => (id, 0, 0),
+        Ok(IsoSubmission::Cut) => (0, 0, 1),
+        Err(refusal) => (refusal_value(refusal), refusal_number(refusal), 0),
+    };
+    let Some(start) = start else {
+        return not_started(value, refusal, cut);
+    };
     let list = start.frames;
     let frames = list.frames;
     PortSubmitted {
-        value: submit_value(answer),
-        refusal: submit_number(answer) as u32,
-        cut: is_cut(answer),
-        first: flag(start.first),
+        value,
+        refusal,
+        cut,
+        first: 1,
         hcchar: start.hcchar,
         hctsiz: start.hctsiz,
         hcintmsk: start.hcintmsk,
-        frame_count: list.count as u32,
+        frame_count: u32::from(list.count),
         frames,
     }
 }

@@ -9,73 +9,61 @@ ghost use Rattle.port.specs.Places.{Left};
 
 use crate::answers::{PortReply, reply_port, reply_refused};
 use crate::end::put_outcome;
-use crate::entries::request_at;
 use crate::load::{head_at, reason_at};
 use crate::numbers::u64_at;
 use crate::poll::halt_at;
-use session::{IsoAnswer, IsoHaltReason, IsoOutcome, has_reason};
-use std::num::wrapping_sub_u64;
+use session::{IsoHaltReason, IsoOutcome, IsoRefusal};
 
 // The place of the first request with the number, or `count`.
 pub(crate) fn place_at(bytes: &[u8], count: u16, id: u64) -> u16
     requires { (8488 ≤ length bytes.now) × (count ≤ 64) }
     ensures { result ≡ place_of id (slice 0 count (session_of bytes.now).requests) }
 {
-    let mut at: usize = 40;
-    let mut i: u16 = 0;
-    while i < count {
-        let request = request_at(bytes, at);
-        let number = request.id;
-        if number == id {
+    for i in 0..count {
+        if u64_at(bytes, 40 + 20 * i as usize) == id {
             return i;
         }
-        at += 20;
-        i += 1;
     }
-    i
+    count
 }
 
 // Numbers are drawn in turn, so that a request mostly stands as far behind the first as its number does. Where none is completed any place with the
-// number is as good as the first with it, since both are pending. So among many requests that place is asked before the walk.
-fn found_at(bytes: &[u8], done: u16, count: u16, id: u64, many: bool) -> u16
+// number is as good as the first with it, since both are pending. So that place is asked before the walk.
+fn found_at(bytes: &[u8], done: u16, count: u16, id: u64) -> u16
     requires { (8488 ≤ length bytes.now) × (count ≤ 64) }
     ensures { (nat_lt result done ≡ nat_lt (place_of id (slice 0 count (session_of bytes.now).requests)) done)
         × (nat_lt result count ≡ nat_lt (place_of id (slice 0 count (session_of bytes.now).requests)) count)
         × (result < done → result ≡ place_of id (slice 0 count (session_of bytes.now).requests)) }
 {
-    if many & (done == 0) {
-        let behind = wrapping_sub_u64(id, u64_at(bytes, 40));
-        if behind < count as u64 {
-            if u64_at(bytes, 40 + 20 * behind as usize) == id {
-                return behind as u16;
-            }
+    if done == 0 {
+        let behind = id.wrapping_sub(u64_at(bytes, 40));
+        if behind < u64::from(count) && u64_at(bytes, 40 + 20 * behind as usize) == id {
+            return behind as u16;
         }
     }
     place_at(bytes, count, id)
 }
 
-// `many` says that a walk over the requests is worth a look beforehand; what is done does not depend on it.
-pub(crate) fn cancel_at(bytes: &mut [u8], bad: bool, id: u64, many: bool) -> PortReply
+pub(crate) fn cancel_at(bytes: &mut [u8], bad: bool, id: u64) -> PortReply
     requires { (layout_number bytes.old ≡ 0) × (bad ≡ is_bad_record (session_of bytes.old)) }
     ensures { (result ≡ reply_port (cancelled (session_of bytes.old) id))
         × (Left bytes.old bytes.new (cancelled (session_of bytes.old) id).session) }
 {
     if bad {
-        return reply_refused(18);
+        return reply_refused(IsoRefusal::BadRecord);
     }
     let head = head_at(bytes);
-    let at = found_at(bytes, head.done, head.count, id, many);
+    let at = found_at(bytes, head.done, head.count, id);
     if at < head.done {
         put_outcome(bytes, 40 + 20 * at as usize, IsoOutcome::Cancelled);
-        return reply_port(IsoAnswer::Done, false, false);
+        return reply_port(Ok(()), false, false);
     }
     if at >= head.count {
-        return reply_refused(15);
+        return reply_refused(IsoRefusal::UnknownRequest);
     }
-    let fatal = reason_at(bytes);
-    if has_reason(fatal) {
-        return reply_port(IsoAnswer::Done, false, false);
+    if reason_at(bytes).is_some() {
+        return reply_port(Ok(()), false, false);
     }
     halt_at(bytes, IsoHaltReason::Cancelled);
-    reply_port(IsoAnswer::Done, false, true)
+    reply_port(Ok(()), false, true)
 }

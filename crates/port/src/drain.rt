@@ -1,18 +1,18 @@
 // Settling on the session's bytes: document 01, "Poll". The oldest requests are completed where they stand; nothing else is read or written.
+// A run of entries is told by the number of its first and of the one behind its last: a part of the bytes is no slice of entries.
 ghost use Rattle.std.specs.Prelude.{◌≡◌, ℕ, ◌+◌, ◌-◌, ◌*◌, ◌<◌, ◌≤◌, false, not, map, length, drop, slice_index, slice_index_or};
 ghost use Rattle.std.proofs.Math.Seq.{slice};
 ghost use Rattle.std.proofs.lemmas.List.Edits.{sets};
 ghost use Rattle.words.specs.Words.{is_set, active, is_packet_error};
 ghost use Rattle.session.specs.Session.{blank_request, blank_plan, packets_of, ring_words};
-ghost use Rattle.session.specs.Record.{is_bad_record};
 ghost use Rattle.session.specs.Settle.{status_of, settled_by, settled_plan, oldest_from, oldest_to, moved_total, one_more, slots_cleared, settled_session, settled_ring, drained};
 ghost use Rattle.port.specs.Tags.{status_tag};
 ghost use Rattle.port.specs.Layout.{plan_of, plan_bytes, layout_number, session_of, plans_in};
-ghost use Rattle.port.specs.Places.{requests_of, plans_of, with_plans, Left};
+ghost use Rattle.port.specs.Places.{Good, requests_of, plans_of, with_plans, Left};
 
 use crate::entries::{put_request, request_at};
 use crate::load::head_at;
-use crate::numbers::{byte_at, put_byte, put_u16, u16_at};
+use crate::numbers::{byte_at, put, put_u16, u16_at};
 use crate::save::put_head;
 use crate::tags::{direction_of, flag_tag};
 use session::{IsoHead, IsoOutcome, IsoRequest};
@@ -32,10 +32,8 @@ pub(crate) fn packets_before(bytes: &[u8], end: u16) -> usize
     ensures { result ≡ packets_of (slice 0 end (requests_of bytes.now)) }
 {
     let mut sum: usize = 0;
-    let mut i: usize = 0;
-    while i < end as usize {
+    for i in 0..end as usize {
         sum += packets_at(bytes, i);
-        i += 1;
     }
     sum
 }
@@ -66,7 +64,7 @@ fn settle_plan_at(bytes: &mut [u8], at: usize, direction: Direction, status: u32
 {
     let actual = moved_length(direction, u16_at(bytes, at), status);
     put_u16(bytes, at + 4, actual);
-    put_byte(bytes, at + 6, error_tag(status));
+    put(bytes, at + 6, [error_tag(status)]);
     actual as u32
 }
 
@@ -88,11 +86,9 @@ fn settle_plans_at(
         (sets (plans_of bytes.old) from (map (settled_plan direction ring.now) (slice from to (plans_of bytes.old)))))) }
 {
     let mut sum: u32 = 0;
-    let mut i = from;
-    while i < to {
+    for i in from..to {
         let status = ring[2 * slot_at(bytes, i) as usize];
         sum += settle_plan_at(bytes, 1_320 + 7 * i, direction, status);
-        i += 1;
     }
     sum
 }
@@ -104,19 +100,16 @@ pub(crate) fn clear_slots_at(bytes: &[u8], from: usize, to: usize, ring: &mut [u
         × ((k : ℕ) → from ≤ k → k < to → 2 * (slice_index_or (plans_of bytes.now) k blank_plan).desc_index + 1 < length ring.old) }
     ensures { ring.new ≡ slots_cleared (slice from to (plans_of bytes.now)) ring.old }
 {
-    let mut i = from;
-    while i < to {
+    for i in from..to {
         let at = 2 * slot_at(bytes, i) as usize;
         ring[at] = 0;
         ring[at + 1] = 0;
-        i += 1;
     }
 }
 
 // Completes the oldest pending request, whose plans are those from `from` to `to`; its slots become zero after all of them were read.
 fn settle_at(bytes: &mut [u8], from: usize, to: usize, ring: &mut [u32])
-    requires { (layout_number bytes.old ≡ 0)
-        × (is_bad_record (session_of bytes.old) ≡ false)
+    requires { Good bytes.old
         × ((session_of bytes.old).head.done < (session_of bytes.old).head.count)
         × (from ≡ oldest_from (session_of bytes.old))
         × (to ≡ oldest_to (session_of bytes.old))
@@ -131,10 +124,9 @@ fn settle_at(bytes: &mut [u8], from: usize, to: usize, ring: &mut [u32])
     let place = 40 + 20 * head.done as usize;
     let request = request_at(bytes, place);
     let settled = IsoRequest {
-        id: request.id,
-        packets: request.packets,
         actual_length: total,
         outcome: IsoOutcome::Done,
+        ..request
     };
     put_request(bytes, place, settled);
     put_head(bytes, one_more(head));
@@ -145,12 +137,8 @@ fn one_more(head: IsoHead) -> IsoHead
     ensures { result ≡ one_more head }
 {
     IsoHead {
-        next_request_id: head.next_request_id,
-        live: head.live,
-        td_last: head.td_last,
-        start_full_frame: head.start_full_frame,
         done: head.done + 1,
-        count: head.count,
+        ..head
     }
 }
 
@@ -164,19 +152,16 @@ pub(crate) fn is_served_at(bytes: &[u8], to: usize, ring: &[u32]) -> bool
 
 // Settles the oldest request at once where the bit is set, then each oldest one that is served.
 pub(crate) fn drain_at(bytes: &mut [u8], bit: bool, ring: &mut [u32])
-    requires { (layout_number bytes.old ≡ 0)
-        × (is_bad_record (session_of bytes.old) ≡ false)
+    requires { Good bytes.old
         × (ring_words (session_of bytes.old).cfg ≤ length ring.old) }
     ensures { (Left bytes.old bytes.new
         (drained bit (session_of bytes.old) ring.old).session)
         × (ring.new ≡ (drained bit (session_of bytes.old) ring.old).ring) }
 {
     let head = head_at(bytes);
-    let count = head.count;
-    let mut done = head.done;
-    let mut from = packets_before(bytes, done);
+    let mut from = packets_before(bytes, head.done);
     let mut at_once = bit;
-    while done < count {
+    for done in head.done..head.count {
         let to = from + packets_at(bytes, done as usize);
         if !(at_once | is_served_at(bytes, to, ring)) {
             return;
@@ -184,38 +169,5 @@ pub(crate) fn drain_at(bytes: &mut [u8], bit: bool, ring: &mut [u32])
         settle_at(bytes, from, to, ring);
         at_once = false;
         from = to;
-        done += 1;
-    }
-}
-
-// The oldest request is to be settled, by the bit or because it is served. What is completed has `before` packets.
-fn is_settling(bytes: &[u8], before: usize, bit: bool, ring: &[u32]) -> bool
-    requires { (layout_number bytes.now ≡ 0)
-        × (is_bad_record (session_of bytes.now) ≡ false)
-        × (before ≡ oldest_from (session_of bytes.now)) }
-    ensures { result ≡ false
-        → drained bit (session_of bytes.now) ring.now
-        ≡ record { session = session_of bytes.now; ring = ring.now } }
-{
-    let done = u16_at(bytes, 30);
-    if done >= u16_at(bytes, 32) {
-        return false;
-    }
-    let to = before + packets_at(bytes, done as usize);
-    bit | is_served_at(bytes, to, ring)
-}
-
-// Most events find nothing to settle: that is told before anything is written.
-pub(crate) fn drain_from(bytes: &mut [u8], before: usize, bit: bool, ring: &mut [u32])
-    requires { (layout_number bytes.old ≡ 0)
-        × (is_bad_record (session_of bytes.old) ≡ false)
-        × (before ≡ oldest_from (session_of bytes.old))
-        × (ring_words (session_of bytes.old).cfg ≤ length ring.old) }
-    ensures { (Left bytes.old bytes.new
-        (drained bit (session_of bytes.old) ring.old).session)
-        × (ring.new ≡ (drained bit (session_of bytes.old) ring.old).ring) }
-{
-    if is_settling(bytes, before, bit, ring) {
-        drain_at(bytes, bit, ring);
     }
 }

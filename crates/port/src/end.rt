@@ -1,5 +1,6 @@
 // The end of a session on its bytes where they stand: document 01, "Poll" and "Recovery". The pending requests, head and reason are
 // written, and the ring is zeroed.
+// A run of entries is told by the number of its first and of the one behind its last: a part of the bytes is no slice of entries.
 ghost use Rattle.std.specs.Prelude.{◌≡◌, ◌+◌, ◌≤◌, false, map, length, drop};
 ghost use Rattle.std.proofs.Math.Seq.{slice};
 ghost use Rattle.std.proofs.lemmas.List.Edits.{sets};
@@ -13,8 +14,8 @@ ghost use Rattle.port.specs.Places.{requests_of, with_requests, Left};
 use crate::entries::{put_request, put_tagged, request_at};
 use crate::load::{config_at, head_at};
 use crate::save::put_head;
-use crate::tags::fatal_tagged;
-use session::{IsoFatal, IsoHead, IsoOutcome, clear_first, ring_words, with_outcome};
+use crate::tags::Tagged;
+use session::{IsoHead, IsoOutcome, clear_first, ring_words, with_outcome};
 
 // The outcome of the request at an offset.
 pub(crate) fn put_outcome(bytes: &mut [u8], at: usize, outcome: IsoOutcome)
@@ -35,10 +36,8 @@ fn fail_at(bytes: &mut [u8], from: u16, to: u16, outcome: IsoOutcome)
         (with_requests (session_of bytes.old)
         (sets (requests_of bytes.old) from (map (with_outcome outcome) (slice from to (requests_of bytes.old))))) }
 {
-    let mut i = from;
-    while i < to {
+    for i in from..to {
         put_outcome(bytes, 40 + 20 * i as usize, outcome);
-        i += 1;
     }
 }
 
@@ -46,12 +45,11 @@ fn ended_head(head: IsoHead) -> IsoHead
     ensures { result ≡ ended_head head }
 {
     IsoHead {
-        next_request_id: head.next_request_id,
         live: false,
         td_last: 0,
         start_full_frame: 0,
         done: head.count,
-        count: head.count,
+        ..head
     }
 }
 
@@ -66,6 +64,6 @@ pub(crate) fn end_at(bytes: &mut [u8], outcome: IsoOutcome, ring: &mut [u32])
     let head = head_at(bytes);
     fail_at(bytes, head.done, head.count, outcome);
     put_head(bytes, ended_head(head));
-    put_tagged(bytes, 34, fatal_tagged(IsoFatal::Nothing));
+    put_tagged(bytes, 34, Tagged::from(None));
     clear_first(ring, words);
 }

@@ -1,53 +1,53 @@
 // The first request settled and handed out in one: document 01, "Poll" and "Reclaim". So a camera's driver takes its frames, the oldest
 // at a time with others behind it. What settling writes into its entries is then moved over by the others, and is not written at all.
-ghost use Rattle.std.specs.Prelude.{◌≡◌, ℕ, ◌+◌, ◌-◌, ◌*◌, ◌<◌, ◌≤◌, true, false, not, ◌||◌, map, length, get_or, ◌≢◌, slice_index, slice_index_or};
+ghost use Rattle.std.specs.Prelude.{None, Some, Ok, ◌≡◌, ℕ, ◌+◌, ◌-◌, ◌*◌, ◌<◌, ◌≤◌, true, false, not, ◌||◌, ◌==◌, map, length, get_or, slice_index, slice_index_or};
+ghost use Rattle.std.specs.List.{list_any, range_with_len};
 ghost use Rattle.std.proofs.Math.Seq.{slice};
 ghost use Rattle.std.proofs.lemmas.List.Edits.{sets};
-ghost use Rattle.words.specs.Words.{is_set, active, complete, is_packet_error, moved_length};
+ghost use Rattle.words.specs.Words.{is_set, active, complete, halted, hcint_fault, is_packet_error, moved_length};
 ghost use Rattle.session.specs.declared.reply.PollWay.TheVariants.{Settle};
 ghost use Rattle.session.specs.Session.{blank_request, blank_plan, all_packets, ring_words};
-ghost use Rattle.session.specs.Record.{is_bad_record};
 ghost use Rattle.session.specs.Settle.{status_of, settled_plan, settled_plans, moved_total, settled_session, settled_ring, drained};
 ghost use Rattle.session.specs.Poll.{poll_way};
 ghost use Rattle.session.specs.Reclaim.{error_bit, result_word, removed, handed_answer, handed_results};
-ghost use Rattle.port.specs.Layout.{layout_number, session_of};
+ghost use Rattle.port.specs.Layout.{session_of};
 ghost use Rattle.port.specs.Calls.{reclaim_port};
-ghost use Rattle.port.specs.Places.{requests_of, plans_of, Left};
+ghost use Rattle.port.specs.Places.{Good, requests_of, plans_of, Left};
 ghost use Rattle.port.specs.First.{FirstOnly};
 
 use crate::answers::{PortReclaimed, reclaim_port};
 use crate::drain::{clear_slots_at, error_tag, is_served_at, packets_at, slot_at};
 use crate::load::head_at;
 use crate::numbers::{byte_at, put_u16, u16_at};
-use crate::poll::is_calm;
 use crate::reclaim::{close_plans_at, close_requests_at};
 use crate::tags::direction_of;
-use session::{IsoEvent, IsoOutcome, ReclaimAnswer};
+use session::{IsoCompletion, IsoEvent, IsoOutcome};
 use words::{Direction, hcint_xfercompl, moved_length};
+
+// No fault, and not halted, by two tests in the place of seven: the bits 1 to 3 and 7 to 10 together.
+fn is_calm(hcint: u32) -> bool
+    ensures { result ≡ true → (hcint_fault hcint ≡ None) × (is_set halted hcint ≡ false) }
+{
+    (hcint / 2 % 8 == 0) & (hcint / 128 % 16 == 0)
+}
 
 // A calm event that is taken, and no reason to end.
 fn is_settling_way(bytes: &[u8], event: IsoEvent) -> bool
     requires { 8488 ≤ length bytes.now }
-    ensures { result ≡ true → Settle (is_set complete event.hcint) ≡ poll_way (session_of bytes.now) event }
+    ensures { result ≡ true → Settle (is_set complete event.hcint) ≡ poll_way (session_of bytes.now) (Some event) }
 {
     let head = head_at(bytes);
     let hcint = event.hcint;
-    (head.live & (event.reported & !event.unplugged)) & (is_calm(hcint) & (byte_at(bytes, 34) == 0))
+    (head.live & !event.unplugged) & (is_calm(hcint) & (byte_at(bytes, 34) == 0))
 }
 
-// None of the first plans, `n` of them, has the slot.
-fn is_apart(bytes: &[u8], n: usize, slot: u16) -> bool
+// Whether one of the first plans, `n` of them, has the slot.
+fn has_slot(bytes: &[u8], n: usize, slot: u16) -> bool
     requires { (8488 ≤ length bytes.now) × (n ≤ 1024) }
-    ensures { result ≡ true → (k : ℕ) → k < n → (get_or (plans_of bytes.now) k blank_plan).desc_index ≢ slot }
+    ensures { result
+        ≡ list_any (λ i. (get_or (plans_of bytes.now) i blank_plan).desc_index == slot) (range_with_len 0 n) }
 {
-    let mut i: usize = 0;
-    while i < n {
-        if slot_at(bytes, i) == slot {
-            return false;
-        }
-        i += 1;
-    }
-    true
+    (0..n).any(|i| slot_at(bytes, i) == slot)
 }
 
 // The bit settles the first request whatever its descriptors say, so that none of them is read.
@@ -57,17 +57,13 @@ fn is_settled(bytes: &[u8], n: usize, bit: bool, ring: &[u32]) -> bool
         ≡ (bit
         || not (is_set active (slice_index ring.now (2 * (get_or (plans_of bytes.now) (n - 1) blank_plan).desc_index)))) }
 {
-    if bit {
-        return true;
-    }
-    is_served_at(bytes, n, ring)
+    bit || is_served_at(bytes, n, ring)
 }
 
 // The first request, whose plans end at `n`, is settled by the event, and the second, whose plans end at `to`, is not: its last slot is none of
 // those that are cleared.
 fn is_alone(bytes: &[u8], n: usize, to: usize, bit: bool, ring: &[u32]) -> bool
-    requires { (layout_number bytes.now ≡ 0)
-        × (is_bad_record (session_of bytes.now) ≡ false)
+    requires { Good bytes.now
         × ((session_of bytes.now).head.done ≡ 0)
         × (1 < (session_of bytes.now).head.count)
         × (n ≡ (get_or (requests_of bytes.now) 0 blank_request).packets)
@@ -85,7 +81,8 @@ fn is_alone(bytes: &[u8], n: usize, to: usize, bit: bool, ring: &[u32]) -> bool
     if is_served_at(bytes, to, ring) {
         return false;
     }
-    is_apart(bytes, n, slot_at(bytes, to - 1))
+    let slot = slot_at(bytes, to - 1);
+    !has_slot(bytes, n, slot)
 }
 
 // The place is that of the first of several requests, a poll with the event settles it and no other, and those behind it have as many packets
@@ -94,14 +91,16 @@ pub(crate) fn is_first_only(
     bytes: &[u8],
     at: u16,
     all: usize,
-    event: IsoEvent,
+    event: Option<IsoEvent>,
     ring: &[u32],
 ) -> bool
-    requires { (layout_number bytes.now ≡ 0)
-        × (is_bad_record (session_of bytes.now) ≡ false)
+    requires { Good bytes.now
         × (all ≡ all_packets (session_of bytes.now)) }
     ensures { result ≡ true → (at ≡ 0) × FirstOnly (session_of bytes.now) event ring.now }
 {
+    let Some(event) = event else {
+        return false;
+    };
     let several = (at == 0) & ((u16_at(bytes, 30) == 0) & (u16_at(bytes, 32) > 1));
     if !(several & is_settling_way(bytes, event)) {
         return false;
@@ -141,13 +140,11 @@ fn settle_results(
         (map result_word (map (settled_plan direction ring.now) (slice 0 n (plans_of bytes.now))))) }
 {
     let mut sum: u32 = 0;
-    let mut i: usize = 0;
-    while i < n {
+    for i in 0..n {
         let status = ring[2 * slot_at(bytes, i) as usize];
         let planned = u16_at(bytes, 1_320 + 7 * i);
         results[i] = settled_word(direction, planned, status);
         sum += moved_length(direction, planned, status) as u32;
-        i += 1;
     }
     sum
 }
@@ -155,8 +152,7 @@ fn settle_results(
 // Takes out the first request, which has `n` of all the packets: its results first, then its slots, then its entries, which the others are moved
 // over. Answers the bytes that it moved.
 fn take_first(bytes: &mut [u8], n: usize, all: usize, ring: &mut [u32], results: &mut [u64]) -> u32
-    requires { (layout_number bytes.old ≡ 0)
-        × (is_bad_record (session_of bytes.old) ≡ false)
+    requires { Good bytes.old
         × ((session_of bytes.old).head.done ≡ 0)
         × (1 < (session_of bytes.old).head.count)
         × (n ≡ (get_or (requests_of bytes.old) 0 blank_request).packets)
@@ -186,8 +182,7 @@ pub(crate) fn reclaim_first(
     ring: &mut [u32],
     results: &mut [u64],
 ) -> PortReclaimed
-    requires { (layout_number bytes.old ≡ 0)
-        × (is_bad_record (session_of bytes.old) ≡ false)
+    requires { Good bytes.old
         × ((session_of bytes.old).head.done ≡ 0)
         × (1 < (session_of bytes.old).head.count)
         × (all ≡ all_packets (session_of bytes.old))
@@ -195,13 +190,17 @@ pub(crate) fn reclaim_first(
         × (ring_words (session_of bytes.old).cfg ≤ length ring.old)
         × (255 ≤ length results.old) }
     ensures { (result
-        ≡ reclaim_port (handed_answer (slice_index_or (settled_session (session_of bytes.old) ring.old).requests 0 blank_request)) 1 0)
+        ≡ reclaim_port (Ok (Some (handed_answer (slice_index_or (settled_session (session_of bytes.old) ring.old).requests 0 blank_request)))) 1 0)
         × (Left bytes.old bytes.new (removed 0 (settled_session (session_of bytes.old) ring.old)))
         × (ring.new ≡ settled_ring (session_of bytes.old) ring.old)
         × (results.new ≡ handed_results 0 (settled_session (session_of bytes.old) ring.old) results.old) }
 {
     let n = packets_at(bytes, 0);
     let total = take_first(bytes, n, all, ring, results);
-    let answer = ReclaimAnswer::Completed(IsoOutcome::Done, total, n as u16);
-    reclaim_port(answer, true, false)
+    let completion = IsoCompletion {
+        outcome: IsoOutcome::Done,
+        actual_length: total,
+        packets: n as u16,
+    };
+    reclaim_port(Ok(Some(completion)), true, false)
 }

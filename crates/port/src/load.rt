@@ -1,16 +1,17 @@
-// A session's bytes: whether they are one of the layout, and what stands before the tables.
-ghost use Rattle.std.specs.Prelude.{◌≡◌, ◌+◌, ◌≤◌, min, false, ◌||◌, length, drop};
+// A session's bytes: whether they are one of the layout, and what stands before the tables. Each function asks that they are long enough, or of
+// the layout, in its own clause: a type that held the second would be false between two writes.
+ghost use Rattle.std.specs.Prelude.{◌≡◌, ◌≤◌, ◌||◌, cond, Some, None, length, drop};
 ghost use Rattle.std.proofs.Math.Seq.{slice};
 ghost use Rattle.session.specs.Session.{packets_of};
 ghost use Rattle.port.specs.Tags.{tagged_of, fatal_of, is_bad_tagged};
 ghost use Rattle.port.specs.Layout.{config_of, head_of, session_of, any_of, is_bad_request_bytes, is_bad_plan_bytes, is_bad_mark, is_bad_head};
-ghost use Rattle.port.specs.Layout.{requests_in, layout_number};
+ghost use Rattle.port.specs.Layout.{requests_in, layout_refusal};
 ghost use Rattle.port.specs.Places.{requests_of};
 
 use crate::entries::{is_bad_plan_at, is_bad_request_at, tagged_at};
 use crate::numbers::{byte_at, u16_at, u32_at, u64_at};
-use crate::tags::{direction_of, fatal_of, is_bad_tagged, mode_of, speed_of};
-use session::{IsoConfig, IsoFatal, IsoHead};
+use crate::tags::{direction_of, is_bad_tagged, mode_of, speed_of};
+use session::{IsoConfig, IsoHaltReason, IsoHead, IsoRefusal};
 
 pub(crate) fn config_at(bytes: &[u8]) -> IsoConfig
     requires { 8488 ≤ length bytes.now }
@@ -34,7 +35,7 @@ pub(crate) fn head_at(bytes: &[u8]) -> IsoHead
 {
     IsoHead {
         next_request_id: u64_at(bytes, 16),
-        live: !(byte_at(bytes, 15) == 0),
+        live: byte_at(bytes, 15) != 0,
         td_last: u16_at(bytes, 28),
         start_full_frame: u32_at(bytes, 24),
         done: u16_at(bytes, 30),
@@ -43,11 +44,11 @@ pub(crate) fn head_at(bytes: &[u8]) -> IsoHead
 }
 
 // Why the session is ending.
-pub(crate) fn reason_at(bytes: &[u8]) -> IsoFatal
+pub(crate) fn reason_at(bytes: &[u8]) -> Option<IsoHaltReason>
     requires { 8488 ≤ length bytes.now }
     ensures { result ≡ fatal_of (tagged_of (drop 34 bytes.now)) }
 {
-    fatal_of(tagged_at(bytes, 34))
+    Option::from(tagged_at(bytes, 34))
 }
 
 // The requests in use, as far as the table goes.
@@ -55,67 +56,34 @@ fn requests_in(bytes: &[u8]) -> u16
     requires { 8488 ≤ length bytes.now }
     ensures { result ≡ requests_in (session_of bytes.now) }
 {
-    let count = u16_at(bytes, 32);
-    if count < 64 {
-        return count;
-    }
-    64
+    u16_at(bytes, 32).min(64)
 }
 
-// What a walk over the requests in use finds: whether one is bad by the test that it makes and, where none is, the sum of their packets.
-#[derive(Clone, Copy)]
-pub(crate) struct Used {
-    pub bad: bool,
-    pub packets: usize,
-}
-
-fn requests_used(bytes: &[u8], n: u16) -> Used
+// The packets of the first `n` requests, where none of those is bad.
+fn requests_used(bytes: &[u8], n: u16) -> Option<usize>
     requires { (8488 ≤ length bytes.now) × (n ≤ 64) }
-    ensures { (result.bad ≡ any_of is_bad_request_bytes 20 n (drop 40 bytes.now))
-        × (result.bad ≡ false → result.packets ≡ packets_of (slice 0 n (requests_of bytes.now))) }
+    ensures { result
+        ≡ cond (any_of is_bad_request_bytes 20 n (drop 40 bytes.now)) None (Some (packets_of (slice 0 n (requests_of bytes.now)))) }
 {
     let mut sum: usize = 0;
-    let mut at: usize = 40;
-    let mut i: u16 = 0;
-    while i < n {
+    for i in 0..n {
+        let at = 40 + 20 * usize::from(i);
         if is_bad_request_at(bytes, at) {
-            return Used {
-                bad: true,
-                packets: 0,
-            };
+            return None;
         }
-        sum += u16_at(bytes, at + 12) as usize;
-        at += 20;
-        i += 1;
+        sum += usize::from(u16_at(bytes, at + 12));
     }
-    Used {
-        bad: false,
-        packets: sum,
-    }
-}
-
-// The plans of so many packets, as far as the table goes.
-fn plans_for(packets: usize) -> usize
-    ensures { result ≡ min packets 1024 }
-{
-    if packets < 1_024 {
-        return packets;
-    }
-    1_024
+    Some(sum)
 }
 
 fn any_bad_plan(bytes: &[u8], m: usize) -> bool
     requires { (8488 ≤ length bytes.now) × (m ≤ 1024) }
     ensures { result ≡ any_of is_bad_plan_bytes 7 m (drop 1320 bytes.now) }
 {
-    let mut at: usize = 1_320;
-    let mut i: usize = 0;
-    while i < m {
-        if is_bad_plan_at(bytes, at) {
+    for i in 0..m {
+        if is_bad_plan_at(bytes, 1_320 + 7 * i) {
             return true;
         }
-        at += 7;
-        i += 1;
     }
     false
 }
@@ -125,9 +93,7 @@ fn is_bad_mark(bytes: &[u8]) -> bool
     requires { 8488 ≤ length bytes.now }
     ensures { result ≡ is_bad_mark bytes.now }
 {
-    let low = byte_at(bytes, 0) as u32 + 256 * byte_at(bytes, 1) as u32;
-    let high = byte_at(bytes, 2) as u32 + 256 * byte_at(bytes, 3) as u32;
-    !(low + 65_536 * high == 22_239_044) | !(byte_at(bytes, 4) == 0)
+    (u32_at(bytes, 0) != 22_239_044) | (byte_at(bytes, 4) != 0)
 }
 
 // Without a reason its six bytes, behind the count of requests, are 0.
@@ -135,10 +101,7 @@ fn is_bad_reason(bytes: &[u8]) -> bool
     requires { 8488 ≤ length bytes.now }
     ensures { result ≡ is_bad_tagged 2 2 (tagged_of (drop 34 bytes.now)) }
 {
-    if u64_at(bytes, 32) < 65_536 {
-        return false;
-    }
-    is_bad_tagged(2, 2, tagged_at(bytes, 34))
+    u64_at(bytes, 32) >= 65_536 && is_bad_tagged(2, 2, tagged_at(bytes, 34))
 }
 
 // What stands before the tables, but for what the record check asks of it: few comparisons, as every call makes them.
@@ -152,22 +115,22 @@ pub(crate) fn is_bad_front(bytes: &[u8]) -> bool
                 | ((byte_at(bytes, 7) > 1) | ((byte_at(bytes, 15) > 1) | is_bad_reason(bytes)))))
 }
 
-// The number with which bytes are refused that are no session of the layout; 0 for those that are one.
-pub(crate) fn layout_refusal(bytes: &[u8]) -> u16
-    ensures { result ≡ layout_number bytes.now }
+// Refuses bytes that are no session of the layout.
+pub(crate) fn layout_refusal(bytes: &[u8]) -> Result<(), IsoRefusal>
+    ensures { result ≡ layout_refusal bytes.now }
 {
     if bytes.len() < 8_488 {
-        return 17;
+        return Err(IsoRefusal::ShortBuffer);
     }
     if is_bad_front(bytes) {
-        return 18;
+        return Err(IsoRefusal::BadRecord);
     }
-    let used = requests_used(bytes, requests_in(bytes));
-    if used.bad {
-        return 18;
+    let Some(packets) = requests_used(bytes, requests_in(bytes)) else {
+        return Err(IsoRefusal::BadRecord);
+    };
+    // The plans of so many packets, as far as the table goes.
+    if any_bad_plan(bytes, packets.min(1_024)) {
+        return Err(IsoRefusal::BadRecord);
     }
-    if any_bad_plan(bytes, plans_for(used.packets)) {
-        return 18;
-    }
-    0
+    Ok(())
 }

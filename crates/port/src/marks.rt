@@ -8,11 +8,11 @@ ghost use Rattle.session.specs.Place.{step_of};
 ghost use Rattle.session.specs.Way.{is_guarded, any_held, pending_plans};
 ghost use Rattle.session.specs.Scan.{Asked};
 ghost use Rattle.port.specs.Layout.{layout_number, session_of};
-ghost use Rattle.port.specs.Scan.{Told};
+ghost use Rattle.port.specs.Scan.{record_sums};
 
 use crate::entries::plan_at;
-use crate::verdict::Verdict;
-use session::{IsoConfig, IsoHead, IsoTransfer, SubmitScan, clash, insert_of, is_guarded, rest};
+use crate::scan::RequestSums;
+use session::{IsoConfig, IsoHead, IsoMode, IsoTransfer, SubmitScan, clash, insert_of};
 
 // 13: the slots of the pending packets are marked, and those of the submission looked up. A slot of a good record is below 256, so that
 // each has its mark. More than 255 packets are refused before 13 is asked.
@@ -26,56 +26,39 @@ fn clash_at(bytes: &[u8], all: u32, pending: u32, cfg: IsoConfig, insert: u16, n
         ≡ (is_guarded cfg.mode
         && any_held (pending_plans (session_of bytes.now)) (slots_from (slots cfg) insert (step_of cfg) 0 n)) }
 {
-    let mode = cfg.mode;
-    if !is_guarded(mode) | (n > 255) {
+    if (cfg.mode == IsoMode::Compatible) | (n > 255) {
         return false;
     }
     let mut held = [false; 256];
-    let end = all as usize;
-    let mut j = rest(all, pending);
-    let mut at = 1_320 + 7 * j;
-    while j < end {
-        let plan = plan_at(bytes, at);
+    for j in all.saturating_sub(pending)..all {
+        let plan = plan_at(bytes, 1_320 + 7 * j as usize);
         held[plan.desc_index as usize] = true;
-        at += 7;
-        j += 1;
     }
     clash(cfg, insert, &held, n)
 }
 
 pub(crate) fn scan_of(
     bytes: &[u8],
-    verdict: Verdict,
+    sums: Option<RequestSums>,
     cfg: IsoConfig,
     head: IsoHead,
     transfer: IsoTransfer,
     lengths: &[u32],
     ring: &[u32],
-) -> SubmitScan
+) -> Option<SubmitScan>
     requires { (layout_number bytes.now ≡ 0)
-        × Told bytes.now verdict
+        × (sums ≡ record_sums (session_of bytes.now))
         × (cfg ≡ (session_of bytes.now).cfg)
         × (head ≡ (session_of bytes.now).head) }
     ensures { Asked (session_of bytes.now) transfer lengths.now ring.now result }
 {
-    if verdict.bad {
-        return SubmitScan {
-            bad: true,
-            all: 0,
-            pending: 0,
-            insert: 0,
-            clash: false,
-        };
-    }
-    let all = verdict.all;
-    let pending = verdict.pending;
-    let last = plan_at(bytes, 1_320 + 7 * rest(all, 1));
+    let RequestSums { all, pending } = sums?;
+    let last = plan_at(bytes, 1_320 + 7 * all.saturating_sub(1) as usize);
     let insert = insert_of(cfg, head, transfer, last.desc_index, ring);
-    SubmitScan {
-        bad: false,
+    Some(SubmitScan {
         all,
         pending,
         insert,
         clash: clash_at(bytes, all, pending, cfg, insert, lengths.len()),
-    }
+    })
 }

@@ -3,15 +3,14 @@
 ghost use Rattle.std.specs.Prelude.{◌≡◌, length};
 ghost use Rattle.words.specs.Words.{packets};
 ghost use Rattle.plan.specs.Planning.{split_of};
-ghost use Rattle.port.specs.Planning.{split_numbers, kind_of, data_request_of, is_bad_data, data_numbers, unnamed_data, data_plan_numbers, data_array_after};
-ghost use Rattle.port.specs.Planning.{control_request_of, control_numbers, unnamed_control, control_plan_numbers, control_array_after};
+ghost use Rattle.port.specs.Planning.{split_numbers, kind_of, data_request_of, is_bad_data, data_numbers, refused_data, data_plan_numbers, data_array_after};
+ghost use Rattle.port.specs.Planning.{control_request_of, some_numbers, control_numbers, refused_control, control_plan_numbers, control_array_after};
 
-use crate::answers::flag;
-use crate::ring_sums::{is_bad_direction, is_bad_speed};
-use crate::stages::{PortStage, blank_stage, plan_number, stage_numbers};
-use crate::tags::{direction_of, speed_of};
+use crate::stages::{PortStage, blank_stage, stage_numbers};
+use crate::tags::{direction_of, is_bad_direction, is_bad_speed, speed_of};
 use plan::{
     ControlRequest, DataKind, DataRequest, DataToggle, DmaSplit, Dwc2ControlPlan, Dwc2DataPlan,
+    Dwc2TransferStage,
 };
 
 #[repr(C)]
@@ -37,6 +36,7 @@ pub struct PortDataRequest {
     pub toggle: u8,
 }
 
+// As C has it: 0 or the refusal number, and a table beside its count.
 #[repr(C)]
 #[derive(Clone, Copy)]
 pub struct PortDataPlan {
@@ -58,6 +58,7 @@ pub struct PortControlRequest {
     pub device: u8,
 }
 
+// As C has it: 0 or the refusal number, and a blank stage where there is no data.
 #[repr(C)]
 #[derive(Clone, Copy)]
 pub struct PortControlPlan {
@@ -90,13 +91,15 @@ pub fn dwc2_packet_count(len: u64, max_packet_size: u16) -> u64
     plan::packet_count(len, max_packet_size)
 }
 
+// As C has it, by USB's number: one that names no kind is refused before it is read.
 fn kind_of(n: u8) -> DataKind
     ensures { result ≡ kind_of n }
 {
     if n == 2 {
-        return DataKind::Bulk;
+        DataKind::Bulk
+    } else {
+        DataKind::Interrupt
     }
-    DataKind::Interrupt
 }
 
 fn data_request_of(r: PortDataRequest) -> DataRequest
@@ -109,8 +112,8 @@ fn data_request_of(r: PortDataRequest) -> DataRequest
         device: r.device,
         endpoint: r.endpoint,
         max_packet_size: r.max_packet_size,
-        odd_frame: !(r.odd_frame == 0),
-        toggle: DataToggle(!(r.toggle == 0)),
+        odd_frame: r.odd_frame != 0,
+        toggle: DataToggle(r.toggle != 0),
         base: r.base,
         len: r.len,
     }
@@ -125,30 +128,22 @@ fn is_bad_data(r: PortDataRequest) -> bool
 fn data_numbers(p: Dwc2DataPlan) -> PortDataPlan
     ensures { result ≡ data_numbers p }
 {
-    let answer = p.answer;
-    let toggle = p.toggle;
     PortDataPlan {
-        refusal: plan_number(answer),
-        toggle: flag(toggle.0),
+        refusal: 0,
+        toggle: u32::from(p.toggle.0),
         count: p.count,
-        stages: [
-            stage_numbers(p.stages[0]),
-            stage_numbers(p.stages[1]),
-            stage_numbers(p.stages[2]),
-            stage_numbers(p.stages[3]),
-        ],
+        stages: p.stages.map(stage_numbers),
     }
 }
 
-fn unnamed_data() -> PortDataPlan
-    ensures { result ≡ unnamed_data }
+fn refused_data(refusal: u32, toggle: u32) -> PortDataPlan
+    ensures { result ≡ refused_data refusal toggle }
 {
-    let blank = blank_stage();
     PortDataPlan {
-        refusal: 18,
-        toggle: 0,
+        refusal,
+        toggle,
         count: 0,
-        stages: [blank; 4],
+        stages: [blank_stage(); 4],
     }
 }
 
@@ -156,9 +151,13 @@ pub fn dwc2_data_stages(request: PortDataRequest, array: &mut [u32]) -> PortData
     ensures { (result ≡ data_plan_numbers request (length array.old)) × (array.new ≡ data_array_after request array.old) }
 {
     if is_bad_data(request) {
-        return unnamed_data();
+        return refused_data(18, 0);
     }
-    data_numbers(plan::data_stages(data_request_of(request), array))
+    let named = data_request_of(request);
+    match plan::data_stages(named, array) {
+        Ok(p) => data_numbers(p),
+        Err(refusal) => refused_data(u32::from(refusal), u32::from(named.toggle.0)),
+    }
 }
 
 fn control_request_of(r: PortControlRequest) -> ControlRequest
@@ -175,25 +174,33 @@ fn control_request_of(r: PortControlRequest) -> ControlRequest
     }
 }
 
+fn some_numbers(stage: Option<Dwc2TransferStage>) -> PortStage
+    ensures { result ≡ some_numbers stage }
+{
+    match stage {
+        Some(s) => stage_numbers(s),
+        None => blank_stage(),
+    }
+}
+
 fn control_numbers(p: Dwc2ControlPlan) -> PortControlPlan
     ensures { result ≡ control_numbers p }
 {
-    let answer = p.answer;
     PortControlPlan {
-        refusal: plan_number(answer),
-        has_data: flag(p.has_data),
+        refusal: 0,
+        has_data: u32::from(p.data.is_some()),
         setup: stage_numbers(p.setup),
-        data: stage_numbers(p.data),
+        data: some_numbers(p.data),
         status: stage_numbers(p.status),
     }
 }
 
-fn unnamed_control() -> PortControlPlan
-    ensures { result ≡ unnamed_control }
+fn refused_control(refusal: u32) -> PortControlPlan
+    ensures { result ≡ refused_control refusal }
 {
     let blank = blank_stage();
     PortControlPlan {
-        refusal: 18,
+        refusal,
         has_data: 0,
         setup: blank,
         data: blank,
@@ -205,7 +212,10 @@ pub fn dwc2_build_control_plan(request: PortControlRequest, array: &mut [u32]) -
     ensures { (result ≡ control_plan_numbers request (length array.old)) × (array.new ≡ control_array_after request array.old) }
 {
     if is_bad_direction(request.direction) {
-        return unnamed_control();
+        return refused_control(18);
     }
-    control_numbers(plan::build_control_plan(control_request_of(request), array))
+    match plan::build_control_plan(control_request_of(request), array) {
+        Ok(p) => control_numbers(p),
+        Err(refusal) => refused_control(u32::from(refusal)),
+    }
 }

@@ -1,14 +1,14 @@
 // Reclaiming on the session's bytes: document 01, "Reclaim". A completed request is handed out once; the tables close up behind it where they stand.
-ghost use Rattle.std.specs.Prelude.{◌≡◌, ℕ, ◌+◌, ◌*◌, ◌<◌, ◌≤◌, Bool, false, map, length, drop, if◌then◌else◌, slice_index_or};
+// A run of entries is told by the number of its first and of the one behind its last: a part of the bytes is no slice of entries.
+ghost use Rattle.std.specs.Prelude.{◌≡◌, ℕ, ◌+◌, ◌*◌, ◌<◌, ◌≤◌, Bool, false, map, length, drop, cond, slice_index_or};
 ghost use Rattle.std.proofs.Math.Seq.{slice};
 ghost use Rattle.std.proofs.lemmas.List.Edits.{sets};
 ghost use Rattle.session.specs.Session.{blank_request, ring_words, all_packets};
-ghost use Rattle.session.specs.Record.{is_bad_record};
-ghost use Rattle.session.specs.Reclaim.{result_word, looked_at, looked_ring_at, plans_begin, plans_end, closed_up, one_less, removed, handed_answer, handed_results, reclaim_reply, looked_again_at, looked_results_at, reclaimed, reclaimed_ring, reclaimed_results};
+ghost use Rattle.session.specs.Reclaim.{is_done, result_word, looked_at, looked_ring_at, plans_begin, plans_end, closed_up, one_less, removed, handed_answer, handed_results, reclaim_reply, looked_again_at, looked_results_at, is_short, reclaimed, reclaimed_ring, reclaimed_results};
 ghost use Rattle.port.specs.Layout.{plan_of, is_bad_plan_bytes, layout_number, session_of, requests_in, plans_in};
 ghost use Rattle.port.specs.Calls.{reclaimed_port};
-ghost use Rattle.port.specs.Scan.{Told};
-ghost use Rattle.port.specs.Places.{requests_of, plans_of, with_requests, with_plans, Left, Acted};
+ghost use Rattle.port.specs.Scan.{record_sums};
+ghost use Rattle.port.specs.Places.{Good, requests_of, plans_of, with_requests, with_plans, Left, Acted};
 
 use crate::answers::{PortReclaimed, reclaim_port, reclaim_refused};
 use crate::cancel::place_at;
@@ -19,10 +19,13 @@ use crate::load::{config_at, head_at};
 use crate::numbers::{byte_at, move_down, u16_at};
 use crate::poll::{PollSaid, poll_at};
 use crate::save::put_head;
-use crate::verdict::Verdict;
-use session::{IsoEvent, IsoHead, ReclaimAnswer, handed_answer, is_done, ring_words};
+use crate::scan::RequestSums;
+use session::{
+    IsoCompletion, IsoEvent, IsoHead, IsoOutcome, IsoRefusal, handed_answer, ring_words,
+};
 
 // The entries from `from` to `to` move down to `into`, as plain bytes: an entry in use is written as it was read. So for requests and for plans.
+// Two functions: what moves the bytes is one, and each says what becomes of its own table, which is a field of the session.
 pub(crate) fn close_requests_at(bytes: &mut [u8], into: usize, from: usize, to: usize)
     requires { (layout_number bytes.old ≡ 0) × (into ≤ from) × (to ≤ requests_in (session_of bytes.old)) }
     ensures { Left bytes.old bytes.new
@@ -48,20 +51,16 @@ fn one_less(head: IsoHead) -> IsoHead
     ensures { result ≡ one_less head }
 {
     IsoHead {
-        next_request_id: head.next_request_id,
-        live: head.live,
-        td_last: head.td_last,
-        start_full_frame: head.start_full_frame,
         done: head.done - 1,
         count: head.count - 1,
+        ..head
     }
 }
 
 // Takes out the request at `at` and its plans, which are those from `from` to `to` of `all`: plans first, while the requests still tell how
 // many are in use.
 fn remove_at(bytes: &mut [u8], at: u16, from: usize, to: usize, all: usize)
-    requires { (layout_number bytes.old ≡ 0)
-        × (is_bad_record (session_of bytes.old) ≡ false)
+    requires { Good bytes.old
         × (at < (session_of bytes.old).head.done)
         × (from ≡ plans_begin at (session_of bytes.old))
         × (to ≡ plans_end at (session_of bytes.old))
@@ -86,30 +85,26 @@ fn result_at(bytes: &[u8], at: usize) -> u64
 }
 
 // The results of the plans from `from` to `to`, unless their request ended in an error; those behind them stay.
-fn hand_results_at(bytes: &[u8], done: bool, from: usize, to: usize, results: &mut [u64])
+fn hand_results_at(bytes: &[u8], outcome: IsoOutcome, from: usize, to: usize, results: &mut [u64])
     requires { (8488 ≤ length bytes.now)
         × (from ≤ to)
         × (to ≤ 1024)
         × (to ≤ from + length results.old)
         × ((k : ℕ) → k < to → is_bad_plan_bytes (drop (1320 + 7 * k) bytes.now) ≡ false) }
     ensures { results.new
-        ≡ (if done then sets results.old 0 (map result_word (slice from to (plans_of bytes.now))) else results.old) }
+        ≡ cond (is_done outcome) (sets results.old 0 (map result_word (slice from to (plans_of bytes.now)))) results.old }
 {
-    if !done {
+    if outcome != IsoOutcome::Done {
         return;
     }
-    let n = to - from;
-    let mut at: usize = 0;
-    while at < n {
+    for at in 0..to - from {
         results[at] = result_at(bytes, 1_320 + 7 * (from + at));
-        at += 1;
     }
 }
 
 // Hands out the completed request at `at`: what it answers, its results, and the session without it.
-fn hand_out_at(bytes: &mut [u8], at: u16, all: usize, results: &mut [u64]) -> ReclaimAnswer
-    requires { (layout_number bytes.old ≡ 0)
-        × (is_bad_record (session_of bytes.old) ≡ false)
+fn hand_out_at(bytes: &mut [u8], at: u16, all: usize, results: &mut [u64]) -> IsoCompletion
+    requires { Good bytes.old
         × (at < (session_of bytes.old).head.done)
         × (255 ≤ length results.old)
         × (all ≡ all_packets (session_of bytes.old)) }
@@ -119,18 +114,21 @@ fn hand_out_at(bytes: &mut [u8], at: u16, all: usize, results: &mut [u64]) -> Re
 {
     let place = at as usize;
     let request = request_at(bytes, 40 + 20 * place);
-    let outcome = request.outcome;
     let from = packets_before(bytes, at);
     let to = from + packets_at(bytes, place);
-    hand_results_at(bytes, is_done(outcome), from, to, results);
+    hand_results_at(bytes, request.outcome, from, to, results);
     remove_at(bytes, at, from, to, all);
     handed_answer(request)
 }
 
 // Hands the request at `at` out where it is completed. What it answers goes with whether the look took the event and asks for a halt.
-fn look_again_at(bytes: &mut [u8], at: u16, all: usize, results: &mut [u64]) -> ReclaimAnswer
-    requires { (layout_number bytes.old ≡ 0)
-        × (is_bad_record (session_of bytes.old) ≡ false)
+fn look_again_at(
+    bytes: &mut [u8],
+    at: u16,
+    all: usize,
+    results: &mut [u64],
+) -> Result<Option<IsoCompletion>, IsoRefusal>
+    requires { Good bytes.old
         × (255 ≤ length results.old)
         × (all ≡ all_packets (session_of bytes.old)) }
     ensures { ((taken halt : Bool)
@@ -141,18 +139,17 @@ fn look_again_at(bytes: &mut [u8], at: u16, all: usize, results: &mut [u64]) -> 
 {
     let head = head_at(bytes);
     if at < head.done {
-        return hand_out_at(bytes, at, all, results);
+        return Ok(Some(hand_out_at(bytes, at, all, results)));
     }
     if at < head.count {
-        return ReclaimAnswer::NotYet;
+        return Ok(None);
     }
-    ReclaimAnswer::Refused(15)
+    Err(IsoRefusal::UnknownRequest)
 }
 
 // Polls, unless the request at `at` is completed already.
-fn look_at(bytes: &mut [u8], at: u16, event: IsoEvent, ring: &mut [u32]) -> PollSaid
-    requires { (layout_number bytes.old ≡ 0)
-        × (is_bad_record (session_of bytes.old) ≡ false)
+fn look_at(bytes: &mut [u8], at: u16, event: Option<IsoEvent>, ring: &mut [u32]) -> PollSaid
+    requires { Good bytes.old
         × (ring_words (session_of bytes.old).cfg ≤ length ring.old) }
     ensures { Acted bytes.old bytes.new result (looked_at at event (session_of bytes.old) ring.old)
         × (ring.new ≡ looked_ring_at at event (session_of bytes.old) ring.old) }
@@ -167,17 +164,45 @@ fn look_at(bytes: &mut [u8], at: u16, event: IsoEvent, ring: &mut [u32]) -> Poll
     poll_at(bytes, event, ring)
 }
 
-// Hands out the completed request with the number: its outcome and, unless that is an error, a result for each packet. The poll between the two
-// looks leaves every request at its place, so that it is looked for once.
-pub(crate) fn reclaim_at(
+// The request with the number, on a good record and with lent arrays that are long enough. The poll between the two looks leaves every request at its
+// place, so that it is looked for once.
+fn reclaim_good(
     bytes: &mut [u8],
-    verdict: Verdict,
+    all: usize,
     id: u64,
-    event: IsoEvent,
+    event: Option<IsoEvent>,
     ring: &mut [u32],
     results: &mut [u64],
 ) -> PortReclaimed
-    requires { (layout_number bytes.old ≡ 0) × Told bytes.old verdict }
+    requires { Good bytes.old
+        × (all ≡ all_packets (session_of bytes.old))
+        × (is_short (session_of bytes.old) (length ring.old) (length results.old) ≡ false) }
+    ensures { (result ≡ reclaimed_port (reclaimed (session_of bytes.old) id event ring.old (length results.old)))
+        × (Left bytes.old bytes.new
+        (reclaimed (session_of bytes.old) id event ring.old (length results.old)).session)
+        × (ring.new ≡ reclaimed_ring (session_of bytes.old) id event ring.old (length results.old))
+        × (results.new ≡ reclaimed_results (session_of bytes.old) id event ring.old results.old) }
+{
+    let head = head_at(bytes);
+    let at = place_at(bytes, head.count, id);
+    if is_first_only(bytes, at, all, event, ring) {
+        return reclaim_first(bytes, all, ring, results);
+    }
+    let look = look_at(bytes, at, event, ring);
+    let answer = look_again_at(bytes, at, all, results);
+    reclaim_port(answer, look.taken, look.halt)
+}
+
+// Hands out the completed request with the number: its outcome and, unless that is an error, a result for each packet.
+pub(crate) fn reclaim_at(
+    bytes: &mut [u8],
+    sums: Option<RequestSums>,
+    id: u64,
+    event: Option<IsoEvent>,
+    ring: &mut [u32],
+    results: &mut [u64],
+) -> PortReclaimed
+    requires { (layout_number bytes.old ≡ 0) × (sums ≡ record_sums (session_of bytes.old)) }
     ensures { (result ≡ reclaimed_port (reclaimed (session_of bytes.old) id event ring.old (length results.old)))
         × (Left bytes.old bytes.new
         (reclaimed (session_of bytes.old) id event ring.old (length results.old)).session)
@@ -186,18 +211,10 @@ pub(crate) fn reclaim_at(
 {
     let words = ring_words(config_at(bytes));
     if (ring.len() < words) | (results.len() < 255) {
-        return reclaim_refused(17);
+        return reclaim_refused(IsoRefusal::ShortBuffer);
     }
-    if verdict.bad {
-        return reclaim_refused(18);
+    match sums {
+        None => reclaim_refused(IsoRefusal::BadRecord),
+        Some(sums) => reclaim_good(bytes, sums.all as usize, id, event, ring, results),
     }
-    let head = head_at(bytes);
-    let at = place_at(bytes, head.count, id);
-    let all = verdict.all as usize;
-    if is_first_only(bytes, at, all, event, ring) {
-        return reclaim_first(bytes, all, ring, results);
-    }
-    let look = look_at(bytes, at, event, ring);
-    let answer = look_again_at(bytes, at, all, results);
-    reclaim_port(answer, look.taken, look.halt)
 }

@@ -1,15 +1,16 @@
 // Opening and submitting by bytes.
-ghost use Rattle.std.specs.Prelude.{◌≡◌, length};
+ghost use Rattle.std.specs.Prelude.{◌≡◌, cond, Some, None, length};
 ghost use Rattle.port.specs.Calls.{open_by, open_bytes, open_ring, is_bad_names, config_by, submit_by, submit_bytes, submit_ring};
 
-use crate::answers::{PortSubmitted, PortTransfer, submit_refused, transfer_of};
+use crate::answers::{PortSubmitted, PortTransfer, refusal_number, submit_refused, transfer_of};
 use crate::save::put_idle;
 use crate::submit::submit_at;
-use crate::tags::{direction_of, mode_of, speed_of};
+use crate::tags::{named_direction, named_mode, named_speed};
 use crate::verdict::verdict_at;
-use session::{IsoConfig, clear_first, is_bad_config, ring_words};
+use session::{IsoConfig, IsoRefusal, clear_first, is_bad_config, ring_words};
 
-fn config_of(
+// The configuration that numbers name. There are eight, as C gives them one by one.
+fn config_named(
     speed: u8,
     direction: u8,
     mode: u8,
@@ -18,19 +19,21 @@ fn config_of(
     endpoint: u8,
     device: u8,
     mult: u8,
-) -> IsoConfig
-    ensures { result ≡ config_by speed direction mode interval max_packet_size endpoint device mult }
+) -> Option<IsoConfig>
+    ensures { result
+        ≡ cond (is_bad_names speed direction mode) None
+        (Some (config_by speed direction mode interval max_packet_size endpoint device mult)) }
 {
-    IsoConfig {
-        speed: speed_of(speed),
-        direction: direction_of(direction),
+    Some(IsoConfig {
+        speed: named_speed(speed)?,
+        direction: named_direction(direction)?,
         interval,
         endpoint,
         device,
         max_packet_size,
         mult,
-        mode: mode_of(mode),
-    }
+        mode: named_mode(mode)?,
+    })
 }
 
 // Refused or not, the session becomes an idle one of what was offered; it is written where it stands and made nowhere else.
@@ -57,12 +60,9 @@ pub fn dwc2_iso_open(
         (config_by speed direction mode interval max_packet_size endpoint device mult) ring.old) }
 {
     if session.len() < 8_488 {
-        return 17;
+        return refusal_number(IsoRefusal::ShortBuffer);
     }
-    if (speed > 2) | ((direction > 1) | (mode > 1)) {
-        return 18;
-    }
-    let cfg = config_of(
+    let Some(cfg) = config_named(
         speed,
         direction,
         mode,
@@ -71,14 +71,16 @@ pub fn dwc2_iso_open(
         endpoint,
         device,
         mult,
-    );
+    ) else {
+        return refusal_number(IsoRefusal::BadRecord);
+    };
     put_idle(session, cfg);
     let words = ring_words(cfg);
     if ring.len() < words {
-        return 17;
+        return refusal_number(IsoRefusal::ShortBuffer);
     }
     if is_bad_config(cfg) {
-        return 18;
+        return refusal_number(IsoRefusal::BadRecord);
     }
     clear_first(ring, words);
     0
@@ -94,13 +96,13 @@ pub fn dwc2_iso_submit(
         × (session.new ≡ submit_bytes session.old transfer lengths.now ring.old)
         × (ring.new ≡ submit_ring session.old transfer lengths.now ring.old) }
 {
-    let verdict = verdict_at(session);
-    if verdict.refusal != 0 {
-        return submit_refused(verdict.refusal);
+    match verdict_at(session) {
+        Err(refusal) => submit_refused(refusal),
+        Ok(sums) => {
+            if transfer.kind > 3 {
+                return submit_refused(IsoRefusal::BadRecord);
+            }
+            submit_at(session, sums, transfer_of(transfer), lengths, ring)
+        }
     }
-    if transfer.kind > 3 {
-        return submit_refused(18);
-    }
-    let t = transfer_of(transfer);
-    submit_at(session, verdict, t, lengths, ring)
 }

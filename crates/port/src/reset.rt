@@ -9,7 +9,7 @@ ghost use Rattle.port.specs.Places.{Left};
 use crate::answers::{PortReply, reply_port, reply_refused};
 use crate::load::{head_at, reason_at};
 use crate::numbers::put_u16;
-use session::{IsoAnswer, has_reason};
+use session::IsoRefusal;
 
 pub(crate) fn reset_at(bytes: &mut [u8], bad: bool) -> PortReply
     requires { (layout_number bytes.old ≡ 0) × (bad ≡ is_bad_record (session_of bytes.old)) }
@@ -17,13 +17,12 @@ pub(crate) fn reset_at(bytes: &mut [u8], bad: bool) -> PortReply
         × (Left bytes.old bytes.new (reset_reply (session_of bytes.old)).session) }
 {
     if bad {
-        return reply_refused(18);
+        return reply_refused(IsoRefusal::BadRecord);
     }
     let head = head_at(bytes);
-    let fatal = reason_at(bytes);
-    if !(head.count == 0) | has_reason(fatal) {
-        return reply_refused(16);
+    if (head.count != 0) | reason_at(bytes).is_some() {
+        return reply_refused(IsoRefusal::NotEmpty);
     }
     put_u16(bytes, 28, 0);
-    reply_port(IsoAnswer::Done, false, false)
+    reply_port(Ok(()), false, false)
 }

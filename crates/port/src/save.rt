@@ -5,7 +5,7 @@ ghost use Rattle.session.specs.Session.{idle_session};
 ghost use Rattle.port.specs.Bytes.{zeros};
 ghost use Rattle.port.specs.Layout.{mark_bytes, config_bytes, head_bytes, saved};
 
-use crate::numbers::{put_byte, put_three, put_u16, put_u32, put_u64};
+use crate::numbers::{put, put_u16, put_u32, put_u64};
 use crate::tags::{direction_tag, flag_tag, mode_tag, speed_tag};
 use session::{IsoConfig, IsoHead};
 
@@ -13,7 +13,7 @@ fn put_mark(bytes: &mut [u8])
     requires { 8488 ≤ length bytes.old }
     ensures { bytes.new ≡ sets bytes.old 0 mark_bytes }
 {
-    put_three(bytes, 0, 68, 87, 83);
+    put(bytes, 0, [68, 87, 83]);
     put_u16(bytes, 3, 1);
 }
 
@@ -21,26 +21,25 @@ fn put_config(bytes: &mut [u8], cfg: IsoConfig)
     requires { 8488 ≤ length bytes.old }
     ensures { bytes.new ≡ sets bytes.old 5 (config_bytes cfg) }
 {
-    let speed = cfg.speed;
-    let direction = cfg.direction;
-    let mode = cfg.mode;
-    put_three(
+    put(
         bytes,
         5,
-        speed_tag(speed),
-        direction_tag(direction),
-        mode_tag(mode),
+        [
+            speed_tag(cfg.speed),
+            direction_tag(cfg.direction),
+            mode_tag(cfg.mode),
+        ],
     );
     put_u16(bytes, 8, cfg.interval);
     put_u16(bytes, 10, cfg.max_packet_size);
-    put_three(bytes, 12, cfg.endpoint, cfg.device, cfg.mult);
+    put(bytes, 12, [cfg.endpoint, cfg.device, cfg.mult]);
 }
 
 pub(crate) fn put_head(bytes: &mut [u8], head: IsoHead)
     requires { 8488 ≤ length bytes.old }
     ensures { bytes.new ≡ sets bytes.old 15 (head_bytes head) }
 {
-    put_byte(bytes, 15, flag_tag(head.live));
+    put(bytes, 15, [flag_tag(head.live)]);
     put_u64(bytes, 16, head.next_request_id);
     put_u32(bytes, 24, head.start_full_frame);
     put_u16(bytes, 28, head.td_last);
@@ -52,11 +51,7 @@ fn put_zeros(bytes: &mut [u8], from: usize, n: usize)
     requires { from + n ≤ length bytes.old }
     ensures { bytes.new ≡ sets bytes.old from (zeros n) }
 {
-    let mut i: usize = 0;
-    while i < n {
-        bytes[from + i] = 0;
-        i += 1;
-    }
+    bytes[from..from + n].fill(0);
 }
 
 // An idle session where it is to stand: no reason to end and tables without an entry in use are zeros. The bytes behind the session stay as they were.

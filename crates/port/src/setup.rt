@@ -4,8 +4,9 @@ ghost use Rattle.plan.specs.ControlPlan.{request_type_byte};
 ghost use Rattle.port.specs.Planning.{request_type_of, recipient_of, is_bad_setup, setup_words, setup_packet_numbers};
 ghost use Rattle.port.specs.Tags.{direction_of};
 
-use crate::ring_sums::is_bad_direction;
+use crate::tags::is_bad_direction;
 
+// As C has it: 0 or the refusal number, and zeros where refused.
 #[repr(C)]
 #[derive(Clone, Copy)]
 pub struct PortSetupPacket {

@@ -1,11 +1,10 @@
 // A stage of a plan by numbers, for C: as planning hands it out, and as it is read back. Each answers as crate `plan` does for what the
 // numbers name; 18 and 0 where the role names nothing.
 ghost use Rattle.std.specs.Prelude.{◌≡◌};
-ghost use Rattle.plan.specs.Numbers.{answer_number};
-ghost use Rattle.port.specs.Planning.{role_number, role_of, stage_numbers, stage_of, blank_numbers, length_number, stage_moved_number};
+ghost use Rattle.port.specs.Planning.{role_of, stage_numbers, stage_of, blank_numbers, length_number, stage_moved_number};
 
 use crate::ring_sums::PortNumber;
-use plan::{Dwc2StageRole, Dwc2TransferStage, PlanAnswer, StageLength};
+use plan::{Dwc2StageRole, Dwc2TransferStage, PlanRefusal};
 
 #[repr(C)]
 #[derive(Clone, Copy)]
@@ -19,51 +18,23 @@ pub struct PortStage {
     pub len: u32,
 }
 
-pub(crate) fn plan_number(answer: PlanAnswer) -> u32
-    ensures { result ≡ answer_number answer }
-{
-    match answer {
-        PlanAnswer::Planned => 0,
-        PlanAnswer::ShortBuffer => 17,
-        PlanAnswer::BadEndpoint => 18,
-        PlanAnswer::ControlTooLong => 19,
-        PlanAnswer::TooManyDescriptors => 20,
-        PlanAnswer::AddressLimit => 11,
-    }
-}
-
-fn role_number(role: Dwc2StageRole) -> u32
-    ensures { result ≡ role_number role }
-{
-    match role {
-        Dwc2StageRole::Data => 0,
-        Dwc2StageRole::ControlSetup => 1,
-        Dwc2StageRole::ControlData => 2,
-        Dwc2StageRole::ControlStatus => 3,
-    }
-}
-
+// As C has it, by number: a number that names no role is refused before it is read.
 fn role_of(n: u32) -> Dwc2StageRole
     ensures { result ≡ role_of n }
 {
-    if n == 0 {
-        return Dwc2StageRole::Data;
+    match n {
+        0 => Dwc2StageRole::Data,
+        1 => Dwc2StageRole::ControlSetup,
+        2 => Dwc2StageRole::ControlData,
+        _ => Dwc2StageRole::ControlStatus,
     }
-    if n == 1 {
-        return Dwc2StageRole::ControlSetup;
-    }
-    if n == 2 {
-        return Dwc2StageRole::ControlData;
-    }
-    Dwc2StageRole::ControlStatus
 }
 
 pub(crate) fn stage_numbers(s: Dwc2TransferStage) -> PortStage
     ensures { result ≡ stage_numbers s }
 {
-    let role = s.role;
     PortStage {
-        role: role_number(role),
+        role: u32::from(s.role),
         hcchar: s.hcchar,
         hctsiz: s.hctsiz,
         dma_addr: s.dma_addr,
@@ -87,6 +58,7 @@ fn stage_of(s: PortStage) -> Dwc2TransferStage
     }
 }
 
+// A C struct has no stage that is not there: one of zeros stands for it.
 pub(crate) fn blank_stage() -> PortStage
     ensures { result ≡ blank_numbers }
 {
@@ -101,16 +73,13 @@ pub(crate) fn blank_stage() -> PortStage
     }
 }
 
-fn length_number(length: StageLength) -> PortNumber
+fn length_number(length: Result<u32, PlanRefusal>) -> PortNumber
     ensures { result ≡ length_number length }
 {
     match length {
-        StageLength::Moved(bytes) => PortNumber {
-            refusal: 0,
-            value: bytes,
-        },
-        StageLength::Refused(answer) => PortNumber {
-            refusal: plan_number(answer),
+        Ok(value) => PortNumber { refusal: 0, value },
+        Err(refusal) => PortNumber {
+            refusal: u32::from(refusal),
             value: 0,
         },
     }

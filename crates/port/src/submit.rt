@@ -8,50 +8,38 @@ ghost use Rattle.session.specs.Parts.{Fitting};
 ghost use Rattle.port.specs.Layout.{plan_bytes, table_bytes, layout_number, session_of};
 ghost use Rattle.port.specs.Calls.{submitted_port, grown_bytes};
 ghost use Rattle.port.specs.Submit.{Grown};
-ghost use Rattle.port.specs.Scan.{Told};
+ghost use Rattle.port.specs.Scan.{record_sums};
 
 use crate::answers::{PortSubmitted, submit_port};
-use crate::entries::{put_plan, put_request, tagged_at};
-use crate::load::{config_at, head_at};
+use crate::entries::{put_plan, put_request};
+use crate::load::{config_at, head_at, reason_at};
 use crate::marks::scan_of;
 use crate::save::put_head;
-use crate::tags::fatal_of;
-use crate::verdict::Verdict;
+use crate::scan::RequestSums;
 use ring::next_slot;
 use session::{
     IsoHead, IsoPacketPlan, IsoTransfer, SubmitParts, TransferStatus, new_request, submit_parts,
 };
 
-// The plans of `n` packets, behind one another from `at` on.
-fn put_packets(
-    bytes: &mut [u8],
-    at: usize,
-    lengths: &[u32],
-    n: usize,
-    insert: u16,
-    step: u16,
-    slots: u16,
-)
-    requires { (0 < slots)
-        × (at + 7 * n ≤ length bytes.old)
-        × (n ≤ length lengths.now)
+// The plans of the packets that are added, behind one another.
+fn put_packets(bytes: &mut [u8], parts: SubmitParts, lengths: &[u32])
+    requires { (0 < parts.slots)
+        × (1320 + 7 * parts.to + 7 * parts.added ≤ length bytes.old)
+        × (parts.added ≤ length lengths.now)
         × ((k : ℕ) → k < length lengths.now → slice_index lengths.now k ≤ 65535) }
-    ensures { bytes.new ≡ sets bytes.old at (table_bytes plan_bytes (plans_from slots insert step 0 (take n lengths.now))) }
+    ensures { bytes.new
+        ≡ sets bytes.old (1320 + 7 * parts.to) (table_bytes plan_bytes (plans_from parts.slots parts.insert parts.step 0 (take parts.added lengths.now))) }
 {
-    let mut slot = insert % slots;
-    let mut to = at;
-    let mut i: usize = 0;
-    while i < n {
+    let mut slot = parts.insert % parts.slots;
+    for i in 0..parts.added {
         let plan = IsoPacketPlan {
             planned: lengths[i] as u16,
             desc_index: slot,
             actual: 0,
             status: TransferStatus::Completed,
         };
-        put_plan(bytes, to, plan);
-        slot = next_slot(slot, step, slots);
-        to += 7;
-        i += 1;
+        put_plan(bytes, 1_320 + 7 * (parts.to + i), plan);
+        slot = next_slot(slot, parts.step, parts.slots);
     }
 }
 
@@ -64,24 +52,22 @@ fn put_added(bytes: &mut [u8], head: IsoHead, parts: SubmitParts, lengths: &[u32
         × (parts.added ≡ 0 → parts.head.count ≡ (session_of bytes.old).head.count) }
     ensures { Grown bytes.old bytes.new parts lengths.now }
 {
-    let n = parts.added;
-    if n == 0 {
+    if parts.added == 0 {
         return;
     }
-    let at = 1_320 + 7 * parts.to;
-    put_packets(bytes, at, lengths, n, parts.insert, parts.step, parts.slots);
-    let request = new_request(head.next_request_id, n as u16);
+    put_packets(bytes, parts, lengths);
+    let request = new_request(head.next_request_id, parts.added as u16);
     put_request(bytes, 40 + 20 * head.count as usize, request);
 }
 
 pub(crate) fn submit_at(
     bytes: &mut [u8],
-    verdict: Verdict,
+    sums: Option<RequestSums>,
     transfer: IsoTransfer,
     lengths: &[u32],
     ring: &mut [u32],
 ) -> PortSubmitted
-    requires { (layout_number bytes.old ≡ 0) × Told bytes.old verdict }
+    requires { (layout_number bytes.old ≡ 0) × (sums ≡ record_sums (session_of bytes.old)) }
     ensures { (result ≡ submitted_port (submitted (session_of bytes.old) transfer lengths.now ring.old))
         × (bytes.new
         ≡ grown_bytes bytes.old (submitted (session_of bytes.old) transfer lengths.now ring.old).session)
@@ -89,13 +75,10 @@ pub(crate) fn submit_at(
 {
     let cfg = config_at(bytes);
     let head = head_at(bytes);
-    let fatal = fatal_of(tagged_at(bytes, 34));
-    let scan = scan_of(bytes, verdict, cfg, head, transfer, lengths, ring);
+    let fatal = reason_at(bytes);
+    let scan = scan_of(bytes, sums, cfg, head, transfer, lengths, ring);
     let parts = submit_parts(cfg, head, fatal, scan, transfer, lengths, ring);
     put_added(bytes, head, parts, lengths);
-    let next = parts.head;
-    put_head(bytes, next);
-    let answer = parts.answer;
-    let start = parts.start;
-    submit_port(answer, start)
+    put_head(bytes, parts.head);
+    submit_port(parts.answer, parts.start)
 }

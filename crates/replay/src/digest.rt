@@ -4,77 +4,51 @@ ghost use Rattle.std.specs.Prelude.{◌<◌};
 
 const PRIME: u64 = 140_737_488_355_213;
 
-fn more(sum: u64, half: u16) -> u64
-    ensures { result < 140737488355213 }
-{
-    (sum % PRIME * 65_537 + half as u64) % PRIME
+#[derive(Clone, Copy)]
+pub(crate) struct Sum {
+    value: u64,
+    ghost below: { value < 140737488355213 },
 }
 
-fn more_word(sum: u64, word: u32) -> u64
-    ensures { result < 140737488355213 }
-{
-    more(more(sum, (word % 65_536) as u16), (word / 65_536) as u16)
-}
-
-fn more_byte(sum: u64, byte: u8) -> u64
-    ensures { result < 140737488355213 }
-{
-    more(sum, byte as u16)
-}
-
-pub(crate) fn of_words(words: &[u32]) -> u64
-    ensures { result < 140737488355213 }
-{
-    let mut sum: u64 = 1;
-    let mut i: usize = 0;
-    while i < words.len() {
-        sum = more_word(sum, words[i]);
-        i += 1;
+impl Sum {
+    fn half(self, half: u16) -> Sum {
+        Sum {
+            value: (self.value * 65_537 + u64::from(half)) % PRIME,
+        }
     }
-    sum
 }
 
-pub(crate) fn of_bytes(bytes: &[u8]) -> u64
-    ensures { result < 140737488355213 }
-{
-    let mut sum: u64 = 1;
-    let mut i: usize = 0;
-    while i < bytes.len() {
-        sum = more_byte(sum, bytes[i]);
-        i += 1;
+// What a sum takes in, half by half.
+pub(crate) trait Halves: Copy {
+    fn added_to(self, sum: Sum) -> Sum;
+}
+
+impl Halves for u8 {
+    fn added_to(self, sum: Sum) -> Sum {
+        sum.half(u16::from(self))
     }
-    sum
 }
 
-fn more_long(sum: u64, word: u64) -> u64
-    ensures { result < 140737488355213 }
-{
-    let low = (word % 4_294_967_296) as u32;
-    let high = (word / 4_294_967_296) as u32;
-    more_word(more_word(sum, low), high)
-}
-
-pub(crate) fn of_longs(words: &[u64]) -> u64
-    ensures { result < 140737488355213 }
-{
-    let mut sum: u64 = 1;
-    let mut i: usize = 0;
-    while i < words.len() {
-        sum = more_long(sum, words[i]);
-        i += 1;
+impl Halves for u32 {
+    fn added_to(self, sum: Sum) -> Sum {
+        sum.half((self % 65_536) as u16)
+            .half((self / 65_536) as u16)
     }
-    sum
 }
 
-// The 64 bytes of a frame list.
-pub(crate) fn of_frames(frames: &[u8; 64]) -> u64
+impl Halves for u64 {
+    fn added_to(self, sum: Sum) -> Sum {
+        let low = (self % 4_294_967_296) as u32;
+        let high = (self / 4_294_967_296) as u32;
+        high.added_to(low.added_to(sum))
+    }
+}
+
+pub(crate) fn digest_of<T: Halves>(items: &[T]) -> u64
     ensures { result < 140737488355213 }
 {
-    let mut sum: u64 = 1;
-    let mut i: usize = 0;
-    while i < 64 {
-        sum = more_byte(sum, frames[i]);
-        i += 1;
-    }
-    sum
+    items
+        .iter()
+        .fold(Sum { value: 1 }, |sum, item| item.added_to(sum))
+        .value
 }

@@ -1,65 +1,67 @@
 // The list, line by line: the call is made, and its answers are judged.
-ghost use Rattle.std.specs.Prelude.{◌≡◌, ◌<◌, length};
-
-use crate::answers::{Line, Verdict, agreed, byte_at, half_at, nth, word_at};
-use crate::figures::{Scan, scanned, start};
+use crate::answers::{Line, Verdict, put};
+use crate::kinds::{Kind, kind_of};
 use crate::session_calls::store;
-use crate::tally::{Found, bump, noted, nothing};
+use crate::tally::Tally;
 
-fn line_of(s: Scan, at: usize) -> Line
-    ensures { result.at ≡ at }
-{
-    Line {
-        at,
-        count: s.count,
-        inputs: s.inputs,
+// The value of a figure or a capital from A to F.
+fn digit(byte: u8) -> Option<u8> {
+    match byte {
+        b'0'..=b'9' => Some(byte - b'0'),
+        b'A'..=b'F' => Some(byte - b'A' + 10),
+        _ => None,
     }
 }
 
-// A line is read to its end, so that the next one begins behind it.
-fn read_line(text: &[u8], from: usize, numbers: &mut [u64]) -> Line
-    ensures { from < length text.now → from < result.at }
-{
-    let mut scan = start();
-    let mut at = from;
-    while at < text.len() {
-        let byte = text[at];
-        at += 1;
-        scan = scanned(scan, byte, numbers);
-        if byte == b'\n' {
-            return line_of(scan, at);
+// The numbers of a line, each ended by any other character. A number of more than sixteen digits keeps its last sixteen, and one that
+// the text ends in is not read: `parse` and `split_whitespace` would refuse lines that this one takes.
+fn read_line<'a>(text: &[u8], numbers: &'a mut [u64]) -> Line<'a> {
+    let mut count = 0;
+    let mut inputs = 0;
+    let mut number = None;
+    for byte in text {
+        if let Some(digit) = digit(*byte) {
+            number = Some(number.unwrap_or(0u64) << 4 | u64::from(digit));
+            continue;
+        }
+        if let Some(number) = number.take() {
+            count = put(numbers, count, number);
+        }
+        if *byte == b':' {
+            inputs = count;
         }
     }
-    line_of(scan, at)
+    Line {
+        numbers,
+        count,
+        inputs,
+    }
 }
 
-pub(crate) fn replay(text: &[u8], counts: &mut [u64]) -> Found {
+// A line that has fewer numbers than its call takes has those of the lines before it.
+pub(crate) fn replay(text: &[u8]) -> Tally {
     let mut listed = [0u64; 512];
     let mut session = [0u8; 8488];
     let mut words = [0u32; 2048];
-    let mut found = nothing();
-    let mut at: usize = 0;
-    while at < text.len() {
-        let line = read_line(text, at, &mut listed);
-        at = line.at;
-        bump(counts, nth(&listed, 0));
-        found = noted(found, made(line, &listed, &mut session, &mut words));
+    let mut tally = Tally::default();
+    for text in text.split_inclusive(|byte| *byte == b'\n') {
+        let line = read_line(text, &mut listed);
+        let number = line.byte(0);
+        let verdict = made(kind_of(number), line, &mut session, &mut words);
+        tally.note(number, verdict);
     }
-    found
+    tally
 }
 
 // The words are those of the ring or of a plan's array: in the list all plans come before the first session.
-fn made(line: Line, listed: &[u64], session: &mut [u8], words: &mut [u32]) -> Verdict {
-    let kind = byte_at(listed, 0);
-    if (kind == 6) | (kind == 24) {
-        store(words, half_at(listed, 1), word_at(listed, 2));
-        return agreed();
+fn made(kind: Kind, line: Line, session: &mut [u8], words: &mut [u32]) -> Verdict {
+    match kind {
+        Kind::Session(call) => crate::session_calls::make(call, line, session, words),
+        Kind::Ring(sum) => crate::ring_calls::make(sum, line),
+        Kind::Plan(call) => crate::plans::make(call, line, words),
+        Kind::Store => {
+            store(words, line.half(1), line.word(2));
+            Ok(())
+        }
     }
-    if kind < 6 {
-        return crate::session_calls::call(kind, line, listed, session, words);
-    }
-    if kind < 18 {
-        return crate::ring_calls::call(kind, line, listed);
-    }
-    crate::plans::call(kind, line, listed, words)
 }

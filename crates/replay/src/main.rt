@@ -9,7 +9,7 @@ ghost use Rattle.std.specs.Prelude.{IfOk, ◌≤◌, length};
 
 mod answers;
 mod digest;
-mod figures;
+mod kinds;
 mod lines;
 mod plans;
 mod ring_calls;
@@ -26,12 +26,10 @@ fn main(rt: HostRuntime) -> io::Result<()> {
 
 fn run(rt: &(impl Input + Print), text: &mut [u8]) -> io::Result<()> {
     let n = read_full(&mut rt.reader(), text)?;
-    let mut counts = [0u64; 25];
-    let found = lines::replay(&text[..n], &mut counts);
-    tally::tell(rt, &counts, found)
+    lines::replay(&text[..n]).tell(rt)
 }
 
-// Reads until the text is full or the input ends; how many bytes it read.
+// Reads until the text is full or the input ends; how many bytes it read. `read_to_end` takes a Vec, and there is no heap.
 fn read_full(input: &mut impl Read, text: &mut [u8]) -> io::Result<usize>
     ensures { IfOk result (λ n. n ≤ length text.new) }
 {

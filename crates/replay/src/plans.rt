@@ -1,253 +1,202 @@
 // The planning calls of the list.
-use crate::answers::{Line, Verdict, byte_at, flag, half_at, judge, nth, word_at};
-use crate::digest::{of_longs, of_words};
+use crate::answers::{Line, Verdict};
+use crate::digest::digest_of;
 use crate::ring_calls::{direction_of, speed_of};
-use crate::session_calls::fill;
 use plan::{
-    ControlRequest, ControlSetup, DataKind, DataRequest, DataToggle, Dwc2ControlPlan, Dwc2DataPlan,
-    Dwc2StageRole, Dwc2TransferStage, PlanAnswer, Recipient, RequestType, StageLength,
+    ControlRequest, ControlSetup, DataKind, DataRequest, DataToggle, Dwc2ControlPlan,
+    Dwc2StageRole, Dwc2TransferStage, PlanRefusal, Recipient, RequestType,
 };
 
-pub(crate) fn call(kind: u8, line: Line, listed: &[u64], array: &mut [u32]) -> Verdict {
-    if kind == 18 {
-        return data(line, listed, array);
-    }
-    if kind == 19 {
-        return control(line, listed, array);
-    }
-    if kind == 20 {
-        return moved(line, listed, array);
-    }
-    part(kind, line, listed)
+#[derive(Clone, Copy)]
+pub(crate) enum PlanCall {
+    Data,
+    Control,
+    ReadBack,
+    Setup,
+    Split,
+    Packets,
 }
 
-fn part(kind: u8, line: Line, listed: &[u64]) -> Verdict {
-    if kind == 21 {
-        return setup(line, listed);
-    }
-    let len = nth(listed, 1);
-    let size = half_at(listed, 2);
-    if kind == 22 {
-        let split = plan::split_dma_lengths(len, size);
-        return judge(
-            line,
-            listed,
-            &[split.count, split.chunk as u64, split.last as u64],
-        );
-    }
-    judge(line, listed, &[plan::packet_count(len, size)])
-}
-
-// Document 01's number of an answer.
-fn refusal(answer: PlanAnswer) -> u64 {
-    match answer {
-        PlanAnswer::Planned => 0,
-        PlanAnswer::ShortBuffer => 17,
-        PlanAnswer::BadEndpoint => 18,
-        PlanAnswer::ControlTooLong => 19,
-        PlanAnswer::TooManyDescriptors => 20,
-        PlanAnswer::AddressLimit => 11,
+pub(crate) fn make(call: PlanCall, line: Line, array: &mut [u32]) -> Verdict {
+    match call {
+        PlanCall::Data => data(line, array),
+        PlanCall::Control => control(line, array),
+        PlanCall::ReadBack => read_back(line, array),
+        PlanCall::Setup => setup(line),
+        PlanCall::Split => split(line),
+        PlanCall::Packets => packets(line),
     }
 }
 
-fn role_number(role: Dwc2StageRole) -> u64 {
-    match role {
-        Dwc2StageRole::Data => 0,
-        Dwc2StageRole::ControlSetup => 1,
-        Dwc2StageRole::ControlData => 2,
-        Dwc2StageRole::ControlStatus => 3,
-    }
+fn split(line: Line) -> Verdict {
+    let made = plan::split_dma_lengths(line.number(1), line.half(2));
+    line.judge(&[made.count, u64::from(made.chunk), u64::from(made.last)])
+}
+
+fn packets(line: Line) -> Verdict {
+    let count = plan::packet_count(line.number(1), line.half(2));
+    line.judge(&[count])
+}
+
+// Document 01's number.
+fn number_of(refusal: PlanRefusal) -> u64 {
+    u64::from(u32::from(refusal))
 }
 
 fn role_of(n: u64) -> Dwc2StageRole {
-    if n == 0 {
-        return Dwc2StageRole::Data;
+    match n {
+        0 => Dwc2StageRole::Data,
+        1 => Dwc2StageRole::ControlSetup,
+        2 => Dwc2StageRole::ControlData,
+        _ => Dwc2StageRole::ControlStatus,
     }
-    if n == 1 {
-        return Dwc2StageRole::ControlSetup;
-    }
-    if n == 2 {
-        return Dwc2StageRole::ControlData;
-    }
-    Dwc2StageRole::ControlStatus
+}
+
+fn of_stage(stage: Dwc2TransferStage) -> u64 {
+    digest_of(&[
+        u64::from(u32::from(stage.role)),
+        u64::from(stage.hcchar),
+        u64::from(stage.hctsiz),
+        u64::from(stage.dma_addr),
+        u64::from(stage.desc_base),
+        u64::from(stage.descs),
+        u64::from(stage.len),
+    ])
 }
 
 // A stage that is not there is all zeros.
-fn of_stage(stage: Dwc2TransferStage) -> u64 {
-    let role = stage.role;
-    of_longs(&[
-        role_number(role),
-        stage.hcchar as u64,
-        stage.hctsiz as u64,
-        stage.dma_addr as u64,
-        stage.desc_base as u64,
-        stage.descs as u64,
-        stage.len as u64,
-    ])
+fn of_none() -> u64 {
+    digest_of(&[0u64; 7])
 }
 
 fn kind_of(n: u64) -> DataKind {
     if n == 0 {
-        return DataKind::Bulk;
+        DataKind::Bulk
+    } else {
+        DataKind::Interrupt
     }
-    DataKind::Interrupt
 }
 
-fn data_request(listed: &[u64]) -> DataRequest {
+fn data_request(line: Line) -> DataRequest {
     DataRequest {
-        kind: kind_of(nth(listed, 4)),
-        direction: direction_of(nth(listed, 5)),
-        port_speed: speed_of(nth(listed, 6)),
-        device: byte_at(listed, 7),
-        endpoint: byte_at(listed, 8),
-        max_packet_size: half_at(listed, 3),
-        odd_frame: nth(listed, 9) != 0,
-        toggle: DataToggle(nth(listed, 10) != 0),
-        base: nth(listed, 1),
-        len: nth(listed, 2),
+        kind: kind_of(line.number(4)),
+        direction: direction_of(line.number(5)),
+        port_speed: speed_of(line.number(6)),
+        device: line.byte(7),
+        endpoint: line.byte(8),
+        max_packet_size: line.half(3),
+        odd_frame: line.number(9) != 0,
+        toggle: DataToggle(line.number(10) != 0),
+        base: line.number(1),
+        len: line.number(2),
     }
 }
 
 // The array was 0xA5 in each byte, and behind the plan it stays so.
-fn data(line: Line, listed: &[u64], array: &mut [u32]) -> Verdict {
-    fill(array, 0xa5a5_a5a5);
-    let done = plan::data_stages(data_request(listed), array);
-    planned(line, listed, done, of_words(array))
+fn data(line: Line, array: &mut [u32]) -> Verdict {
+    array.fill(0xa5a5_a5a5);
+    let request = data_request(line);
+    let (refusal, toggle, count, stages) = match plan::data_stages(request, array) {
+        Ok(made) => (0, made.toggle, made.count, made.stages.map(of_stage)),
+        Err(refusal) => (number_of(refusal), request.toggle, 0, [of_none(); 4]),
+    };
+    line.judge(&[
+        refusal,
+        u64::from(toggle.0),
+        u64::from(count),
+        stages[0],
+        stages[1],
+        stages[2],
+        stages[3],
+        digest_of(array),
+    ])
 }
 
-fn planned(line: Line, listed: &[u64], done: Dwc2DataPlan, array: u64) -> Verdict {
-    let answer = done.answer;
-    let toggle = done.toggle;
-    let stages = done.stages;
-    let first = stages[0];
-    let second = stages[1];
-    let third = stages[2];
-    let fourth = stages[3];
-    judge(
-        line,
-        listed,
-        &[
-            refusal(answer),
-            flag(toggle.0),
-            done.count as u64,
-            of_stage(first),
-            of_stage(second),
-            of_stage(third),
-            of_stage(fourth),
-            array,
-        ],
-    )
-}
-
-fn control_request(listed: &[u64]) -> ControlRequest {
+fn control_request(line: Line) -> ControlRequest {
     ControlRequest {
-        direction: direction_of(nth(listed, 6)),
-        device: byte_at(listed, 7),
-        max_packet_size: half_at(listed, 5),
-        len: nth(listed, 1),
-        setup_dma: nth(listed, 2),
-        data_dma: nth(listed, 3),
-        status_dma: nth(listed, 4),
+        direction: direction_of(line.number(6)),
+        device: line.byte(7),
+        max_packet_size: line.half(5),
+        len: line.number(1),
+        setup_dma: line.number(2),
+        data_dma: line.number(3),
+        status_dma: line.number(4),
     }
 }
 
-fn control(line: Line, listed: &[u64], array: &mut [u32]) -> Verdict {
-    fill(array, 0xa5a5_a5a5);
-    let done = plan::build_control_plan(control_request(listed), array);
-    controlled(line, listed, done, of_words(array))
-}
-
-fn controlled(line: Line, listed: &[u64], done: Dwc2ControlPlan, array: u64) -> Verdict {
-    let answer = done.answer;
-    let setup = done.setup;
-    let data = done.data;
-    let status = done.status;
-    judge(
-        line,
-        listed,
-        &[
-            refusal(answer),
-            flag(done.has_data),
-            of_stage(setup),
-            of_stage(data),
-            of_stage(status),
-            array,
-        ],
-    )
-}
-
-fn moved(line: Line, listed: &[u64], array: &[u32]) -> Verdict {
-    let stage = Dwc2TransferStage {
-        role: role_of(nth(listed, 1)),
-        hcchar: word_at(listed, 2),
-        hctsiz: word_at(listed, 3),
-        dma_addr: word_at(listed, 4),
-        desc_base: word_at(listed, 5),
-        descs: word_at(listed, 6),
-        len: word_at(listed, 7),
+fn control(line: Line, array: &mut [u32]) -> Verdict {
+    array.fill(0xa5a5_a5a5);
+    let (refusal, has_data, stages) = match plan::build_control_plan(control_request(line), array) {
+        Ok(made) => (0, made.data.is_some(), control_stages(made)),
+        Err(refusal) => (number_of(refusal), false, [of_none(); 3]),
     };
-    let length = plan::stage_actual_length(stage, array);
-    match length {
-        StageLength::Moved(bytes) => judge(line, listed, &[0, bytes as u64]),
-        StageLength::Refused(answer) => judge(line, listed, &[refusal(answer), 0]),
+    line.judge(&[
+        refusal,
+        u64::from(has_data),
+        stages[0],
+        stages[1],
+        stages[2],
+        digest_of(array),
+    ])
+}
+
+fn control_stages(made: Dwc2ControlPlan) -> [u64; 3] {
+    [
+        of_stage(made.setup),
+        made.data.map_or(of_none(), of_stage),
+        of_stage(made.status),
+    ]
+}
+
+fn read_back(line: Line, array: &[u32]) -> Verdict {
+    let stage = Dwc2TransferStage {
+        role: role_of(line.number(1)),
+        hcchar: line.word(2),
+        hctsiz: line.word(3),
+        dma_addr: line.word(4),
+        desc_base: line.word(5),
+        descs: line.word(6),
+        len: line.word(7),
+    };
+    match plan::stage_actual_length(stage, array) {
+        Ok(bytes) => line.judge(&[0, u64::from(bytes)]),
+        Err(refusal) => line.judge(&[number_of(refusal), 0]),
     }
 }
 
 fn request_type_of(n: u64) -> RequestType {
-    if n == 0 {
-        return RequestType::Standard;
+    match n {
+        0 => RequestType::Standard,
+        1 => RequestType::Class,
+        2 => RequestType::Vendor,
+        _ => RequestType::Reserved,
     }
-    if n == 1 {
-        return RequestType::Class;
-    }
-    if n == 2 {
-        return RequestType::Vendor;
-    }
-    RequestType::Reserved
 }
 
 fn recipient_of(n: u64) -> Recipient {
-    if n == 0 {
-        return Recipient::Device;
+    match n {
+        0 => Recipient::Device,
+        1 => Recipient::Interface,
+        2 => Recipient::Endpoint,
+        _ => Recipient::Other,
     }
-    if n == 1 {
-        return Recipient::Interface;
-    }
-    if n == 2 {
-        return Recipient::Endpoint;
-    }
-    Recipient::Other
 }
 
-fn setup_of(listed: &[u64]) -> ControlSetup {
+fn setup_of(line: Line) -> ControlSetup {
     ControlSetup {
-        request_type: request_type_of(nth(listed, 1)),
-        recipient: recipient_of(nth(listed, 2)),
-        request: byte_at(listed, 4),
-        value: half_at(listed, 5),
-        index: half_at(listed, 6),
+        request_type: request_type_of(line.number(1)),
+        recipient: recipient_of(line.number(2)),
+        request: line.byte(4),
+        value: line.half(5),
+        index: line.half(6),
     }
 }
 
-fn setup(line: Line, listed: &[u64]) -> Verdict {
-    let direction = direction_of(nth(listed, 3));
-    let packet = plan::setup_packet_bytes(setup_of(listed), direction, nth(listed, 7));
-    let answer = packet.answer;
-    let bytes = packet.bytes;
-    judge(line, listed, &[refusal(answer), number_of(&bytes)])
-}
-
-// Eight bytes as one number, the first byte its lowest.
-fn number_of(bytes: &[u8; 8]) -> u64 {
-    let mut number: u64 = 0;
-    let mut left: usize = 8;
-    while left > 0 {
-        left -= 1;
-        number = longer(number, bytes[left]);
+// The bytes are listed as one number, the first byte its lowest.
+fn setup(line: Line) -> Verdict {
+    let direction = direction_of(line.number(3));
+    match plan::setup_packet_bytes(setup_of(line), direction, line.number(7)) {
+        Ok(bytes) => line.judge(&[0, u64::from_le_bytes(bytes)]),
+        Err(refusal) => line.judge(&[number_of(refusal), 0]),
     }
-    number
-}
-
-fn longer(number: u64, byte: u8) -> u64 {
-    number % 72_057_594_037_927_936 * 256 + byte as u64
 }

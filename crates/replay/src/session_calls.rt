@@ -1,95 +1,66 @@
 // The session's calls of the list, through the C interface: the session crosses as bytes, and the ring lent has 2,048 words.
-ghost use Rattle.std.specs.Prelude.{◌≤◌, length};
-
-use crate::answers::{Line, Verdict, byte_at, half_at, judge, nth, word_at};
-use crate::digest::{of_bytes, of_frames, of_longs, of_words};
+use crate::answers::{Line, Verdict};
+use crate::digest::digest_of;
 use port::{PortReclaimed, PortReply, PortSubmitted, PortTransfer};
 
-const SUBMIT: u8 = 1;
-
-const POLL: u8 = 2;
-
-const RECLAIM: u8 = 3;
-
-const CANCEL: u8 = 4;
-
-const RESET: u8 = 5;
-
-pub(crate) fn call(
-    kind: u8,
-    line: Line,
-    listed: &[u64],
-    session: &mut [u8],
-    ring: &mut [u32],
-) -> Verdict {
-    if kind == SUBMIT {
-        return submit(line, listed, session, ring);
-    }
-    if kind == RECLAIM {
-        return reclaim(line, listed, session, ring);
-    }
-    let done = reply(kind, listed, session, ring);
-    replied(line, listed, session, ring, done)
+#[derive(Clone, Copy)]
+pub(crate) enum SessionCall {
+    Open,
+    Submit,
+    Poll,
+    Reclaim,
+    Cancel,
+    Reset,
 }
 
-fn reply(kind: u8, listed: &[u64], session: &mut [u8], ring: &mut [u32]) -> PortReply {
-    if kind == POLL {
-        let hcint = word_at(listed, 3);
-        return port::dwc2_iso_poll(session, ring, word_at(listed, 1), word_at(listed, 2), hcint);
-    }
-    if kind == CANCEL {
-        return port::dwc2_iso_cancel(session, nth(listed, 1));
-    }
-    if kind == RESET {
-        return port::dwc2_iso_reset(session);
-    }
-    // the ring is not zero before, and stays so behind its words
-    fill(ring, 0xdead_beef);
-    open(listed, session, ring)
+pub(crate) fn make(call: SessionCall, line: Line, session: &mut [u8], ring: &mut [u32]) -> Verdict {
+    let reply = match call {
+        SessionCall::Open => open(line, session, ring),
+        SessionCall::Submit => return submit(line, session, ring),
+        SessionCall::Poll => poll(line, session, ring),
+        SessionCall::Reclaim => return reclaim(line, session, ring),
+        SessionCall::Cancel => port::dwc2_iso_cancel(session, line.number(1)),
+        SessionCall::Reset => port::dwc2_iso_reset(session),
+    };
+    replied(line, session, ring, reply)
 }
 
-fn replied(line: Line, listed: &[u64], session: &[u8], ring: &[u32], r: PortReply) -> Verdict {
-    judge(
-        line,
-        listed,
-        &[
-            r.refusal as u64,
-            r.taken as u64,
-            r.halt as u64,
-            of_words(ring),
-            of_bytes(session),
-        ],
-    )
+fn poll(line: Line, session: &mut [u8], ring: &mut [u32]) -> PortReply {
+    let hcint = line.word(3);
+    port::dwc2_iso_poll(session, ring, line.word(1), line.word(2), hcint)
+}
+
+fn replied(line: Line, session: &[u8], ring: &[u32], r: PortReply) -> Verdict {
+    line.judge(&[
+        u64::from(r.refusal),
+        u64::from(r.taken),
+        u64::from(r.halt),
+        digest_of(ring),
+        digest_of(session),
+    ])
 }
 
 // The controller's word.
 pub(crate) fn store(words: &mut [u32], at: u16, word: u32) {
-    let place = at as usize;
-    if place < words.len() {
-        words[place] = word;
+    if let Some(place) = words.get_mut(usize::from(at)) {
+        *place = word;
     }
 }
 
-pub(crate) fn fill(words: &mut [u32], word: u32) {
-    let mut i: usize = 0;
-    while i < words.len() {
-        words[i] = word;
-        i += 1;
-    }
-}
-
-fn open(listed: &[u64], session: &mut [u8], ring: &mut [u32]) -> PortReply {
+// The ring is not zero before, and stays so behind its words.
+fn open(line: Line, session: &mut [u8], ring: &mut [u32]) -> PortReply {
+    ring.fill(0xdead_beef);
     let refusal = port::dwc2_iso_open(
         session,
         ring,
-        byte_at(listed, 1),
-        byte_at(listed, 2),
-        byte_at(listed, 3),
-        half_at(listed, 4),
-        half_at(listed, 5),
-        byte_at(listed, 6),
-        byte_at(listed, 7),
-        byte_at(listed, 8),
+        line.byte(1),
+        line.byte(2),
+        line.byte(3),
+        line.half(4),
+        line.half(5),
+        line.byte(6),
+        line.byte(7),
+        line.byte(8),
     );
     PortReply {
         refusal,
@@ -98,111 +69,77 @@ fn open(listed: &[u64], session: &mut [u8], ring: &mut [u32]) -> PortReply {
     }
 }
 
-fn transfer_of(listed: &[u64]) -> PortTransfer {
+fn transfer_of(line: Line) -> PortTransfer {
     PortTransfer {
-        base: nth(listed, 1),
-        buffer_len: word_at(listed, 2),
-        start_reading: word_at(listed, 3),
-        frame_reading: word_at(listed, 4),
-        words: word_at(listed, 5),
-        kind: byte_at(listed, 6),
-        has_buffer: byte_at(listed, 7),
-        channel_free: byte_at(listed, 8),
-        gate_program: byte_at(listed, 9),
-        gate_enable: byte_at(listed, 10),
+        base: line.number(1),
+        buffer_len: line.word(2),
+        start_reading: line.word(3),
+        frame_reading: line.word(4),
+        words: line.word(5),
+        kind: line.byte(6),
+        has_buffer: line.byte(7),
+        channel_free: line.byte(8),
+        gate_program: line.byte(9),
+        gate_enable: line.byte(10),
     }
 }
 
 // The lengths of the packets stand behind the ten other inputs.
-fn read_lengths(listed: &[u64], inputs: usize, lengths: &mut [u32]) -> usize
-    ensures { result ≤ length lengths.new }
-{
-    let mut at: usize = 11;
-    let mut i: usize = 0;
-    while i < lengths.len() {
-        if at >= inputs {
-            return i;
-        }
-        lengths[i] = word_at(listed, at);
-        at += 1;
-        i += 1;
-    }
-    i
-}
-
-fn submit(line: Line, listed: &[u64], session: &mut [u8], ring: &mut [u32]) -> Verdict {
+fn submit(line: Line, session: &mut [u8], ring: &mut [u32]) -> Verdict {
+    let given = line.numbers.get(11..line.inputs).unwrap_or(&[]);
     let mut lengths = [0u32; 512];
-    let n = read_lengths(listed, line.inputs, &mut lengths);
-    let done = port::dwc2_iso_submit(session, ring, &lengths[..n], transfer_of(listed));
-    submitted(line, listed, session, ring, done)
+    for (length, number) in lengths.iter_mut().zip(given) {
+        *length = (number & 0xffff_ffff) as u32;
+    }
+    let lengths = &lengths[..given.len().min(512)];
+    let done = port::dwc2_iso_submit(session, ring, lengths, transfer_of(line));
+    submitted(line, session, ring, done)
 }
 
-fn submitted(
-    line: Line,
-    listed: &[u64],
-    session: &[u8],
-    ring: &[u32],
-    s: PortSubmitted,
-) -> Verdict {
-    let frames = s.frames;
-    judge(
-        line,
-        listed,
-        &[
-            s.value,
-            s.refusal as u64,
-            s.cut as u64,
-            s.first as u64,
-            s.hcchar as u64,
-            s.hctsiz as u64,
-            s.hcintmsk as u64,
-            s.frame_count as u64,
-            of_frames(&frames),
-            of_words(ring),
-            of_bytes(session),
-        ],
-    )
+fn submitted(line: Line, session: &[u8], ring: &[u32], s: PortSubmitted) -> Verdict {
+    line.judge(&[
+        s.value,
+        u64::from(s.refusal),
+        u64::from(s.cut),
+        u64::from(s.first),
+        u64::from(s.hcchar),
+        u64::from(s.hctsiz),
+        u64::from(s.hcintmsk),
+        u64::from(s.frame_count),
+        digest_of(&s.frames),
+        digest_of(ring),
+        digest_of(session),
+    ])
 }
 
 // The results were 0x5A in each byte.
-fn reclaim(line: Line, listed: &[u64], session: &mut [u8], ring: &mut [u32]) -> Verdict {
+fn reclaim(line: Line, session: &mut [u8], ring: &mut [u32]) -> Verdict {
     let mut results = [0x5a5a_5a5a_5a5a_5a5au64; 255];
     let done = port::dwc2_iso_reclaim(
         session,
         ring,
         &mut results,
-        nth(listed, 1),
-        word_at(listed, 2),
-        word_at(listed, 3),
-        word_at(listed, 4),
+        line.number(1),
+        line.word(2),
+        line.word(3),
+        line.word(4),
     );
-    reclaimed(line, listed, session, ring, of_longs(&results), done)
+    reclaimed(line, session, ring, digest_of(&results), done)
 }
 
-fn reclaimed(
-    line: Line,
-    listed: &[u64],
-    session: &[u8],
-    ring: &[u32],
-    results: u64,
-    r: PortReclaimed,
-) -> Verdict {
-    judge(
-        line,
-        listed,
-        &[
-            r.refusal as u64,
-            r.completed as u64,
-            r.outcome as u64,
-            r.fault as u64,
-            r.word as u64,
-            r.length as u64,
-            r.packets as u64,
-            r.taken as u64,
-            r.halt as u64,
-            results,
-            of_words(ring),
-            of_bytes(session),
-        ],
-    )
+fn reclaimed(line: Line, session: &[u8], ring: &[u32], results: u64, r: PortReclaimed) -> Verdict {
+    line.judge(&[
+        u64::from(r.refusal),
+        u64::from(r.completed),
+        u64::from(r.outcome),
+        u64::from(r.fault),
+        u64::from(r.word),
+        u64::from(r.length),
+        u64::from(r.packets),
+        u64::from(r.taken),
+        u64::from(r.halt),
+        results,
+        digest_of(ring),
+        digest_of(session),
+    ])
 }

@@ -5,3 +5,4 @@ pub mod RingFacts
 pub mod Steps
 pub mod Stores
 pub mod Unique
+pub mod Walk

@@ -1,9 +1,9 @@
 -- SCHINFO on bits: a sum of distinct powers of two has just their bits. The largest power stands above the sum of the others, so the word's
 -- bit there is 1, above it 0, and below it the others' own.
-use Rattle.std.proofs.Common.{◌≡◌, ℕ, zero, suc, ◌+◌, ◌-◌, ◌*◌, ◌/◌, ◌%◌, ◌^◌, ◌<◌, ◌≤◌, max, ◌↔◌, sym, ap, ◌∙◌, subst, ⊎_elim, le_refl, le_of_suc-le-suc, suc-mul, eq-or-lt_of_le, mul-lt-mul_of_pos_right, pow-suc, lt_of_not-le, le-div_iff_mul-le, arith, pow_pos, pow_mono, pow-add}
-use native.Mathlib.Nat.{add-div_left, div-eq_of_lt, zero-div, mul-add-div_right, mul-add-mod_self_right}
+use Rattle.std.proofs.Common.{◌≡◌, ℕ, zero, suc, ◌+◌, ◌-◌, ◌*◌, ◌/◌, ◌%◌, ◌^◌, ◌<◌, ◌≤◌, max, ◌↔◌, sym, ap, ◌∙◌, subst, ⊎_elim, le_refl, le_of_suc-le-suc, suc-mul, eq-or-lt_of_le, mul-lt-mul_of_pos_right, pow-suc, lt_of_not-le, le-div_iff_mul-le, arith, pow_pos, pow_mono, pow-add, zero-mul}
+use native.Mathlib.Nat.{div-eq_of_lt-le, add-div_left, div-eq_of_lt, zero-div, mul-add-div_right, mul-add-mod_self_right}
 use native.Mathlib.Decide.{dec_le}
-use Rattle.ring.specs.RingSums.{every_bit, schinfo}
+use Rattle.ring.specs.RingSums.{every_bit, microframe_bits, schinfo}
 use Rattle.ring.specs.declared.speed.Speed.TheVariants.{High}
 
 -- bit b of a word
@@ -78,3 +78,10 @@ schinfo_only interval b e =
     let pos : 0 < max 1 interval = omega arith in
     let r = every_bit_only (max 1 interval) pos ((8 + (max 1 interval - 1)) / max 1 interval) b e in
     (omega (arith, r.2, (term_below (max 1 interval) r.0 pos).0 r.1), (r.0, r.2))
+
+-- from an interval of 8 on the first bit stands alone
+pub first_alone : (interval : ℕ) → 8 ≤ interval → 1 ≡ microframe_bits interval
+first_alone interval h =
+    let i = max 1 interval in
+    let one : (8 + (i - 1)) / i ≡ 1 = div-eq_of_lt-le i (omega arith) (omega arith) in
+    sym (ap (every_bit i) one ∙ ap (λ (k : ℕ). 2 ^ k + 0) (zero-mul i))

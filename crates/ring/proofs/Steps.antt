@@ -1,12 +1,13 @@
 -- Steps of i round a ring of R slots, for any R above 0 and any i, with g their greatest common divisor: R/g steps come round, and no fewer
 -- do. If d steps lead back, R divides d·i and d·R, so it divides d·g, and R/g divides d.
-use Rattle.std.proofs.Common.{◌≡◌, ℕ, zero, suc, ◌+◌, ◌*◌, ◌/◌, ◌%◌, ◌<◌, ◌≤◌, Bool, List, ◌∷◌, length, get_or, sym, refl, ap, ◌∙◌, subst, add-zero, add_assoc, add-suc, mod-eq_of_lt, mul_assoc, suc-mul, add-mul, suc-add, one-mul, div-add-mod', le-div_iff_mul-le, zero-add, zero-mul, arith, eq-eqb, ne_eqb}
+use Rattle.std.proofs.Common.{◌≡◌, ℕ, zero, suc, ◌+◌, ◌*◌, ◌/◌, ◌%◌, ◌<◌, ◌≤◌, List, ◌∷◌, length, get_or, sym, refl, ap, ◌∙◌, subst, add-zero, add_assoc, add-suc, mod-eq_of_lt, mul_assoc, suc-mul, add-mul, suc-add, one-mul, div-add-mod', le-div_iff_mul-le, zero-add, zero-mul, arith}
 use mathlib.Core.Path.{subst⁻¹}
 use Prim.Native.Nat.{◌∣◌}
 use native.Mathlib.Nat.{mod-add-mod, dvd-mul_left, dvd-add_iff_right, dvd_of_mul-dvd-mul_right, div-mul_cancel, mul-div_cancel', le_of_dvd, add-mul-mod_self_left}
 use Rattle.ring.specs.Gcd.{gcd}
-use Rattle.ring.specs.RingSums.{slot_at, slots_from, walk, unless_back}
+use Rattle.ring.specs.RingSums.{slot_at, slots_from, walk}
 use Rattle.ring.proofs.Euclid.{gcd_pos, gcd_divides, gcd_greatest}
+use Rattle.ring.proofs.Walk.{walk_back, walk_on}
 
 -- what leaves the remainder as it is, is a multiple of the divisor
 pub same_remainder : (R x d : ℕ) → x % R ≡ (x + d) % R → R ∣ d
@@ -59,19 +60,18 @@ module _ (R i : ℕ) (pos : 0 < R) where
   -- a walk from a slot, by i until the slot comes again, visits the slots of R/g packets: fuel above what is left changes nothing
   pub walk_visits :
       (s : ℕ) → s < R → (fuel k left : ℕ) → k + left ≡ R / gcd i R → 0 < left → left ≤ fuel → walk R i s fuel (slot_at R s i k) ≡ slots_from R s i k left
-  unfolding walk
   walk_visits s below zero k left e h l = absurd (omega arith)
   walk_visits s below (suc fuel) k zero e h l = absurd (omega arith)
   walk_visits s below (suc fuel) k (suc zero) e h l =
       let last : suc k ≡ R / gcd i R = omega arith in
       let back : (slot_at R s i k + i) % R ≡ s = next_slot R s i k ∙ ap (slot_at R s i) last ∙ steps_round s ∙ mod-eq_of_lt below in
-      ap (λ (b : Bool). slot_at R s i k ∷ unless_back b (walk R i s fuel ((slot_at R s i k + i) % R))) (eq-eqb _ _ back)
+      walk_back R i s fuel (slot_at R s i k) back
   walk_visits s below (suc fuel) k (suc (suc left)) e h l =
       let on : (slot_at R s i k + i) % R ≡ s → ⊥ =
       λ back.
       steps_apart s 0 (suc k) (omega arith) (omega arith)
       (first_slot R s i ∙ mod-eq_of_lt below ∙ sym back ∙ next_slot R s i k ∙ ap (slot_at R s i) (sym (zero-add (suc k)))) in
-      ap (λ (b : Bool). slot_at R s i k ∷ unless_back b (walk R i s fuel ((slot_at R s i k + i) % R))) (ne_eqb _ _ on)
+      walk_on R i s fuel (slot_at R s i k) on
       ∙ ap (λ (x : ℕ). slot_at R s i k ∷ walk R i s fuel x) (next_slot R s i k)
       ∙ ap (λ (l : List ℕ). slot_at R s i k ∷ l) (walk_visits s below fuel (suc k) (suc left) (omega arith) (omega arith) (omega arith))
 

@@ -66,22 +66,12 @@ status_fits len false = omega arith
 abbrev pub slot_words : ℕ → DmaDescriptor → List Store
 slot_words slot d = record { word = 2 * slot + 1; value = d.paddr } ∷ record { word = 2 * slot; value = d.status } ∷ []
 
--- the first of them alone, and both
+-- the first of them alone
 pub first_word : (slot : ℕ) (d : DmaDescriptor) (words : ℕ) (ring one : List ℕ) → words ≡ 1 → one ≡ set ring (2 * slot + 1) d.paddr
     → one ≡ stored (take words (slot_words slot d)) ring
 first_word slot d words ring one e p = rw (p, e)
 
-pub both_words : (slot : ℕ) (d : DmaDescriptor) (words : ℕ) (ring one two : List ℕ) → 2 ≤ words → one ≡ set ring (2 * slot + 1) d.paddr
-    → two ≡ set one (2 * slot) d.status
-    → two ≡ stored (take words (slot_words slot d)) ring
-both_words slot d words ring one two l p q = rw (q, p, take_all words (slot_words slot d) l)
-
 module _ (R insert step i addr : ℕ) (lengths : List ℕ) where
-  -- no packet is left: the ring stays
-  pub stored_end :
-      (left : ℕ) (ring : List ℕ) → length lengths ≤ i → ring ≡ stored (take left (map as_word (stores_from R insert step i addr (drop i lengths)))) ring
-  stored_end left ring h = rw (drop_of_length-le lengths h, take-nil {A = Store} left)
-
   module _ (slot low : ℕ) (d : DmaDescriptor) (at : slot ≡ slot_at R insert step i) (wraps : low ≡ addr % 4_294_967_296) where
     -- packet i is not the last, and both its words may be stored: what is left of the plan after them
     pub stored_whole : i + 1 < length lengths → d ≡ record { status = iso_status (get_or lengths i 0) false; paddr = low }

@@ -42,7 +42,7 @@ iso_pid_unique κs a x y u v = equal refl
 pub next_request_id_unique : Unique 0 request.next_request_id.Kinds.ps request.next_request_id.Kinds.r request.next_request_id.Reads.Post
 next_request_id_unique κs a x y u v = equal refl
 
-pub next_slot_unique : Unique 0 store.next_slot.Kinds.ps store.next_slot.Kinds.r store.next_slot.Reads.Post
+pub next_slot_unique : Unique 0 grid.next_slot.Kinds.ps grid.next_slot.Kinds.r grid.next_slot.Reads.Post
 next_slot_unique κs a x y u v = equal refl
 
 pub store_packets_unique : Unique 2 store.store_packets.Kinds.ps store.store_packets.Kinds.r store.store_packets.Reads.Post

@@ -10,15 +10,10 @@ use Rattle.ring.specs.declared.speed.Speed.TheVariants.{High, Full, Low}
 use Rattle.ring.specs.declared.frames.IsoServiceFrames.{IsoServiceFrames}
 
 -- "low counts as full here"
-abbrev pub at_speed : Speed → ℕ → ℕ → ℕ
+abbrev pub at_speed : {A : Type 0} → Speed → A → A → A
 at_speed High high full = high
 at_speed Full high full = full
 at_speed Low high full = full
-
-abbrev pub is_high : Speed → Bool
-is_high High = true
-is_high Full = false
-is_high Low = false
 
 -- "Ring R: 256 slots at high speed, 64 at full"
 abbrev pub ring_size : Speed → ℕ

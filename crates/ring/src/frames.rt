@@ -1,11 +1,11 @@
 // Frames, the slots that stand for them, and what the periodic schedule is told of them: document 01, "Ring sums".
-ghost use Rattle.std.specs.Prelude.{◌≡◌, ◌^◌, ◌<◌};
+ghost use Rattle.std.specs.Prelude.{◌≡◌, ◌<◌};
 ghost use Rattle.ring.specs.RingSums.{microframes_ahead, starting_frame, frame_slot, schinfo, microframe_bits, frame_step, walk, service_frames, frame_table};
 
-use crate::grid::at_least_one;
 use crate::speed::{Speed, at_speed};
 
-// The frame list has 64 entries. The first `count` bytes are the entries of one channel, in the order of service.
+// The frame list has 64 entries. The first `count` bytes are the entries of one channel, in the order of service: a fixed table
+// beside its count, since there is no heap.
 #[derive(Clone, Copy)]
 pub struct IsoServiceFrames {
     pub count: u16,
@@ -17,8 +17,8 @@ pub struct IsoServiceFrames {
 pub fn iso_starting_frame(raw_frame: u32, speed: Speed) -> u32
     ensures { result ≡ starting_frame speed raw_frame }
 {
-    let high = std::num::wrapping_add_u32(raw_frame, microframes_ahead(raw_frame)) / 8;
-    let full = std::num::wrapping_add_u32(raw_frame, 2) % 0x1_0000;
+    let high = raw_frame.wrapping_add(microframes_ahead(raw_frame)) / 8;
+    let full = raw_frame.wrapping_add(2) % 0x1_0000;
     at_speed(speed, high, full)
 }
 
@@ -44,6 +44,7 @@ pub fn iso_schinfo(speed: Speed, interval: u16) -> u32
 
 // The bits 0, i, 2i, .. below 8 at high speed. An interval of 0 counts as 1, and has an arm of its own: with one number to each arm the
 // compiler makes one table of the eight.
+#[tactic(auto, using(crate::proofs::Microframes::first_alone))]
 fn microframes(interval: u16) -> u32
     ensures { result ≡ microframe_bits interval }
 {
@@ -56,19 +57,20 @@ fn microframes(interval: u16) -> u32
         5 => 0b0010_0001,
         6 => 0b0100_0001,
         7 => 0b1000_0001,
-        _ => 0b0000_0001,
+        8.. => 0b0000_0001,
     }
 }
 
 // How many frames lie between two services.
-fn frame_step(speed: Speed, interval: u16) -> u32
-    ensures { (result ≡ frame_step speed interval) × (result < 2 ^ 16) }
+fn frame_step(speed: Speed, interval: u16) -> u16
+    ensures { result ≡ frame_step speed interval }
 {
-    let i = at_least_one(interval) as u32;
-    at_speed(speed, (i + 7) / 8, i)
+    let i = interval.max(1);
+    at_speed(speed, i.div_ceil(8), i)
 }
 
 // The entries of the frame list that name the channel, from its start on until the first comes again.
+#[tactic(auto, unfolding(crate::specs::RingSums::service_frames))]
 pub fn iso_service_frames(
     start_full_frame: u32,
     interval_slots: u16,
@@ -76,25 +78,25 @@ pub fn iso_service_frames(
 ) -> IsoServiceFrames
     ensures { result ≡ frame_table (service_frames start_full_frame interval_slots speed) }
 {
-    let step = frame_step(speed, interval_slots);
-    walk_frames(start_full_frame % 64, step)
+    walk_frames(start_full_frame % 64, frame_step(speed, interval_slots))
 }
 
-fn walk_frames(first: u32, step: u32) -> IsoServiceFrames
-    requires { (first < 64) × (step < 2 ^ 16) }
+// One pass over the 64 places: the walk comes round by then.
+fn walk_frames(first: u32, step: u16) -> IsoServiceFrames
+    requires { first < 64 }
     ensures { result ≡ frame_table (walk 64 step first 64 first) }
 {
-    let mut frames = [0u8; 64];
-    let mut count: u16 = 0;
+    let mut frames = [0; 64];
     let mut frame = first;
-    loop {
-        let at = count as usize;
-        frames[at] = frame as u8;
-        count += 1;
-        frame = (frame + step) % 64;
+    for i in 0..64u16 {
+        frames[usize::from(i)] = frame as u8;
+        frame = (frame + u32::from(step)) % 64;
         if frame == first {
-            break;
+            return IsoServiceFrames {
+                count: i + 1,
+                frames,
+            };
         }
     }
-    IsoServiceFrames { count, frames }
+    IsoServiceFrames { count: 64, frames }
 }

@@ -1,5 +1,5 @@
 // The sums of the descriptor ring, and the packets of a submission stored into it: document 01, "Ring sums" and "Submit".
-// Every function answers for every input, and none has a `requires`.
+// Every public function answers for every input, and none has a `requires`.
 #![tactic(auto)]
 
 mod frames;
@@ -12,8 +12,8 @@ mod store;
 pub use frames::{
     IsoServiceFrames, frame_to_desc_idx, iso_schinfo, iso_service_frames, iso_starting_frame,
 };
-pub use grid::{advance_along_grid, gcd, iso_max_packets};
+pub use grid::{advance_along_grid, gcd, iso_max_packets, next_slot};
 pub use pid::iso_pid;
 pub use request::next_request_id;
 pub use speed::{Speed, iso_max_xfer_size, iso_ring_size};
-pub use store::{next_slot, store_packets};
+pub use store::store_packets;

@@ -1,6 +1,6 @@
 // The packet that begins a microframe: document 01, "Ring sums", from USB 2.0, 5.9.2 (high-bandwidth endpoints).
 ghost use Rattle.std.specs.Prelude.{◌≡◌, ◌<◌};
-ghost use Rattle.ring.specs.RingSums.{is_high, pid_of, pid_high};
+ghost use Rattle.ring.specs.RingSums.{pid_of, pid_high};
 
 use crate::speed::Speed;
 use words::{Direction, Dwc2Pid};
@@ -10,20 +10,10 @@ use words::{Direction, Dwc2Pid};
 pub fn iso_pid(speed: Speed, direction: Direction, mult: u8) -> Dwc2Pid
     ensures { result ≡ pid_of speed direction mult }
 {
-    if is_high(speed) & (mult > 1) {
+    if (speed == Speed::High) & (mult > 1) {
         return pid_of_many(direction, mult);
     }
     Dwc2Pid::Data0
-}
-
-fn is_high(speed: Speed) -> bool
-    ensures { result ≡ is_high speed }
-{
-    match speed {
-        Speed::High => true,
-        Speed::Full => false,
-        Speed::Low => false,
-    }
 }
 
 // The first of two or more packets: IN counts them down to DATA0, OUT marks all but the last as MDATA.
@@ -32,12 +22,8 @@ fn pid_of_many(direction: Direction, mult: u8) -> Dwc2Pid
     ensures { result ≡ pid_high direction mult }
 {
     match direction {
-        Direction::In => {
-            if mult == 2 {
-                return Dwc2Pid::Data1;
-            }
-            Dwc2Pid::Data2
-        }
+        Direction::In if mult == 2 => Dwc2Pid::Data1,
+        Direction::In => Dwc2Pid::Data2,
         Direction::Out => Dwc2Pid::MData,
     }
 }

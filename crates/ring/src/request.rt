@@ -6,6 +6,5 @@ ghost use Rattle.ring.specs.RingSums.{next_number};
 pub fn next_request_id(id: u64) -> u64
     ensures { result ≡ next_number id }
 {
-    let next = std::num::wrapping_add_u64(id, 1);
-    if next == 0 { 1 } else { next }
+    id.wrapping_add(1).max(1)
 }

@@ -16,5 +16,6 @@ pub mod Settled
 pub mod Stores
 pub mod Submits
 pub mod Sums
+pub mod Tables
 pub mod Tests
 pub mod Ways

@@ -10,6 +10,7 @@ use Rattle.session.proofs.open
 use Rattle.session.proofs.place
 use Rattle.session.proofs.poll
 use Rattle.session.proofs.reclaim
+use Rattle.session.proofs.refusal
 use Rattle.session.proofs.record
 use Rattle.session.proofs.submit
 use Rattle.session.proofs.tables
@@ -18,7 +19,7 @@ use Rattle.session.proofs.way
 pub open_unique : Unique 1 functions.open.Kinds.ps functions.open.Kinds.r functions.open.Reads.Post
 open_unique κs a x y u v = equal_both (λ (words : List ℕ). (tt, (words, tt)))
 
-pub is_bad_record_unique : Unique 0 functions.is_bad_record.Kinds.ps functions.is_bad_record.Kinds.r functions.is_bad_record.Reads.Post
+pub is_bad_record_unique : Unique 1 functions.is_bad_record.Kinds.ps functions.is_bad_record.Kinds.r functions.is_bad_record.Reads.Post
 is_bad_record_unique κs a x y u v = equal refl
 
 pub submit_unique : Unique 2 functions.submit.Kinds.ps functions.submit.Kinds.r functions.submit.Reads.Post
@@ -53,9 +54,6 @@ is_bad_request_unique κs a x y u v = equal refl
 pub is_bad_plan_unique : Unique 0 record.is_bad_plan.Kinds.ps record.is_bad_plan.Kinds.r record.is_bad_plan.Reads.Post
 is_bad_plan_unique κs a x y u v = equal refl
 
-pub has_reason_unique : Unique 0 record.has_reason.Kinds.ps record.has_reason.Kinds.r record.has_reason.Reads.Post
-has_reason_unique κs a x y u v = equal refl
-
 pub is_bad_state_unique : Unique 0 record.is_bad_state.Kinds.ps record.is_bad_state.Kinds.r record.is_bad_state.Reads.Post
 is_bad_state_unique κs a x y u v = equal refl
 
@@ -68,20 +66,11 @@ with_outcome_unique κs a x y u v = equal refl
 pub way_of_unique : Unique 0 poll.way_of.Kinds.ps poll.way_of.Kinds.r poll.way_of.Reads.Post
 way_of_unique κs a x y u v = equal refl
 
-pub is_done_unique : Unique 0 reclaim.is_done.Kinds.ps reclaim.is_done.Kinds.r reclaim.is_done.Reads.Post
-is_done_unique κs a x y u v = equal refl
-
 pub handed_answer_unique : Unique 0 reclaim.handed_answer.Kinds.ps reclaim.handed_answer.Kinds.r reclaim.handed_answer.Reads.Post
 handed_answer_unique κs a x y u v = equal refl
 
-pub rest_unique : Unique 0 tables.rest.Kinds.ps tables.rest.Kinds.r tables.rest.Reads.Post
-rest_unique κs a x y u v = equal refl
-
 pub insert_of_unique : Unique 1 place.insert_of.Kinds.ps place.insert_of.Kinds.r place.insert_of.Reads.Post
 insert_of_unique κs a x y u v = equal refl
-
-pub is_guarded_unique : Unique 0 way.is_guarded.Kinds.ps way.is_guarded.Kinds.r way.is_guarded.Reads.Post
-is_guarded_unique κs a x y u v = equal refl
 
 pub clash_unique : Unique 1 way.clash.Kinds.ps way.clash.Kinds.r way.clash.Reads.Post
 clash_unique κs a x y u v = equal refl
@@ -91,3 +80,23 @@ clear_first_unique κs a x y u v = equal_lent (λ (words : List ℕ). (words, (t
 
 pub new_request_unique : Unique 0 submit.new_request.Kinds.ps submit.new_request.Kinds.r submit.new_request.Reads.Post
 new_request_unique κs a x y u v = equal refl
+
+-- ---- the numbers and the outcomes
+
+pub refusal_number_unique : Unique 0 refusal.U16FromIsoRefusal.from.Kinds.ps refusal.U16FromIsoRefusal.from.Kinds.r refusal.U16FromIsoRefusal.from.Reads.Post
+refusal_number_unique κs a x y u v = equal refl
+
+pub outcome_of_unique : Unique 0 poll.IsoOutcomeFromIsoHaltReason.from.Kinds.ps poll.IsoOutcomeFromIsoHaltReason.from.Kinds.r poll.IsoOutcomeFromIsoHaltReason.from.Reads.Post
+outcome_of_unique κs a x y u v = equal refl
+
+pub has_reason_unique : Unique 0 record.has_reason.Kinds.ps record.has_reason.Kinds.r record.has_reason.Reads.Post
+has_reason_unique κs a x y u v = equal refl
+
+pub is_done_unique : Unique 0 reclaim.is_done.Kinds.ps reclaim.is_done.Kinds.r reclaim.is_done.Reads.Post
+is_done_unique κs a x y u v = equal refl
+
+pub rest_unique : Unique 0 tables.rest.Kinds.ps tables.rest.Kinds.r tables.rest.Reads.Post
+rest_unique κs a x y u v = equal refl
+
+pub is_guarded_unique : Unique 0 way.is_guarded.Kinds.ps way.is_guarded.Kinds.r way.is_guarded.Reads.Post
+is_guarded_unique κs a x y u v = equal refl

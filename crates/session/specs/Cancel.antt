@@ -1,12 +1,12 @@
 -- Cancelling: document 01, "Cancel". "Cancel turns a completed result into cancelled; on a pending one it sets the reason and asks for a halt, and
 -- does nothing when a reason stands."
-use Rattle.std.specs.Prelude.{true, false, cond, List, [], ◌∷◌, ℕ, suc, eqb, ltb, get_or, set}
+use Rattle.std.specs.Prelude.{true, false, Ok, cond, List, [], ◌∷◌, ℕ, suc, eqb, ltb, get_or, set}
 use Rattle.std.proofs.Math.Seq.{slice}
 use Rattle.session.specs.declared.types.IsoHaltReason.TheVariants as reason
 use Rattle.session.specs.declared.types.IsoOutcome.TheVariants as outcome
 use Rattle.session.specs.declared.types.IsoRequest.{IsoRequest}
 use Rattle.session.specs.declared.types.IsoChannelState.{IsoChannelState}
-use Rattle.session.specs.declared.reply.IsoAnswer.TheVariants as answer
+use Rattle.session.specs.declared.refusal.IsoRefusal.TheVariants.{UnknownRequest, BadRecord}
 use Rattle.session.specs.declared.reply.IsoReply.{IsoReply}
 use Rattle.session.specs.Session.{blank_request, has_reason}
 use Rattle.session.specs.Record.{is_bad_record}
@@ -36,8 +36,8 @@ with_cancelled at s =
 -- 15: unknown number
 abbrev pub cancelled : IsoChannelState → ℕ → IsoReply
 cancelled s id =
-    cond (is_bad_record s) (refused_reply 18 s)
-    (cond (ltb (request_at id s) s.head.done) (reply answer.Done false false (with_cancelled (request_at id s) s))
+    cond (is_bad_record s) (refused_reply BadRecord s)
+    (cond (ltb (request_at id s) s.head.done) (reply (Ok tt) false false (with_cancelled (request_at id s) s))
     (cond (ltb (request_at id s) s.head.count)
-    (cond (has_reason s.fatal) (reply answer.Done false false s) (reply answer.Done false true (with_reason reason.Cancelled s)))
-    (refused_reply 15 s)))
+    (cond (has_reason s.fatal) (reply (Ok tt) false false s) (reply (Ok tt) false true (with_reason reason.Cancelled s)))
+    (refused_reply UnknownRequest s)))

@@ -1,8 +1,7 @@
 -- The end of a session: document 01, "Poll" and "Recovery". "A session that ends reports every pending request in order and leaves the ring, cursor
 -- and start zero, no reason and no live channel."
-use Rattle.std.specs.Prelude.{false, List, map, ℕ}
+use Rattle.std.specs.Prelude.{false, None, List, map, ℕ}
 use Rattle.std.proofs.lemmas.List.Edits.{sets}
-use Rattle.session.specs.declared.types.IsoFatal.TheVariants.{Nothing}
 use Rattle.session.specs.declared.types.IsoOutcome.{IsoOutcome}
 use Rattle.session.specs.declared.types.IsoRequest.{IsoRequest}
 use Rattle.session.specs.declared.types.IsoChannelState.{IsoChannelState}
@@ -28,7 +27,7 @@ ended outcome s =
             done = s.head.count;
             count = s.head.count;
           };
-      fatal = Nothing;
+      fatal = None;
       requests = ended_requests outcome s;
       plans = s.plans;
     }

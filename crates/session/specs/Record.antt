@@ -1,5 +1,6 @@
 -- Refusal 18: document 01, "Refusal numbers". What a configuration and a record must keep to, test by test.
-use Rattle.std.specs.Prelude.{Bool, false, not, ◌||◌, ◌&&◌, List, [], ◌∷◌, ℕ, eqb, leb, ltb}
+use Rattle.std.specs.Prelude.{Bool, not, ◌||◌, ◌&&◌, List, ℕ, eqb, leb, ltb}
+use Rattle.std.specs.List.{list_any}
 use Rattle.std.proofs.Math.Seq.{slice}
 use Rattle.ring.specs.RingSums.{packet_limit}
 use Rattle.session.specs.declared.types.IsoConfig.{IsoConfig}
@@ -18,16 +19,14 @@ abbrev pub is_bad_request : IsoRequest → Bool
 is_bad_request r = eqb r.packets 0 || ltb 255 r.packets
 
 abbrev pub any_bad_request : List IsoRequest → Bool
-any_bad_request [] = false
-any_bad_request (r ∷ rs) = is_bad_request r || any_bad_request rs
+any_bad_request rs = list_any is_bad_request rs
 
 -- "lengths, slots": at most the packet limit, moved at most what was planned, a slot of the ring
 abbrev pub is_bad_plan : ℕ → ℕ → IsoPacketPlan → Bool
 is_bad_plan limit slots p = ltb limit p.planned || (ltb p.planned p.actual || leb slots p.desc_index)
 
 abbrev pub any_bad_plan : ℕ → ℕ → List IsoPacketPlan → Bool
-any_bad_plan limit slots [] = false
-any_bad_plan limit slots (p ∷ ps) = is_bad_plan limit slots p || any_bad_plan limit slots ps
+any_bad_plan limit slots ps = list_any (is_bad_plan limit slots) ps
 
 -- "counts": at most 64 requests, the completed ones among them
 abbrev pub is_bad_counts : IsoChannelState → Bool

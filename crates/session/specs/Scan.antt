@@ -1,11 +1,10 @@
 -- What a submission reads of the session on one walk, and what its way leaves of the small parts: results of the inner functions, which are
 -- handed parts of a session and not its tables.
-use Rattle.std.specs.Prelude.{◌≡◌, Bool, true, false, List, [], ℕ, ◌+◌, ◌≤◌, ◌<◌, length, get_or, replicate, take}
+use Rattle.std.specs.Prelude.{◌≡◌, Bool, true, false, Option, Some, None, List, [], ℕ, ◌+◌, ◌≤◌, ◌<◌, length, get_or, take}
 use Rattle.ring.specs.RingSums.{next_number}
 use Rattle.session.specs.declared.types.IsoConfig.{IsoConfig}
 use Rattle.session.specs.declared.types.IsoHead.{IsoHead}
-use Rattle.session.specs.declared.types.IsoFatal.{IsoFatal}
-use Rattle.session.specs.declared.types.IsoFatal.TheVariants.{Nothing}
+use Rattle.session.specs.declared.types.IsoHaltReason.{IsoHaltReason}
 use Rattle.session.specs.declared.types.IsoRequest.{IsoRequest}
 use Rattle.session.specs.declared.types.IsoPacketPlan.{IsoPacketPlan}
 use Rattle.session.specs.declared.types.IsoChannelState.{IsoChannelState}
@@ -22,15 +21,11 @@ use Rattle.session.specs.Way.{is_held, pending_plans, is_clash}
 use Rattle.session.specs.Submit.{spent, unplugged}
 
 -- a session by its parts, and one of which only the configuration and the numbers are read
-abbrev pub whole : IsoConfig → IsoHead → IsoFatal → List IsoRequest → List IsoPacketPlan → IsoChannelState
+abbrev pub whole : IsoConfig → IsoHead → Option IsoHaltReason → List IsoRequest → List IsoPacketPlan → IsoChannelState
 whole cfg h fatal requests plans = record { cfg = cfg; head = h; fatal = fatal; requests = requests; plans = plans }
 
 abbrev pub only : IsoConfig → IsoHead → IsoChannelState
-only cfg h = whole cfg h Nothing [] []
-
--- where a record is bad the rest is not read
-abbrev pub bad_scan : RecordScan
-bad_scan = record { bad = true; all = 0; pending = 0; tail = 0; held = replicate 256 false }
+only cfg h = whole cfg h None [] []
 
 -- what the walk finds in a good record
 pub record Walked (s : IsoChannelState) (r : RecordScan) : Type 0 where
@@ -39,9 +34,10 @@ pub record Walked (s : IsoChannelState) (r : RecordScan) : Type 0 where
   pub tail : r.tail ≡ tail_slot s
   pub held : (k : ℕ) → k < 256 → get_or r.held k false ≡ is_held (pending_plans s) k
 
-pub record Scanned (s : IsoChannelState) (r : RecordScan) : Type 0 where
-  pub bad : r.bad ≡ is_bad_record s
-  pub found : is_bad_record s ≡ false → Walked s r
+-- a record that the walk finds nothing of is bad
+abbrev pub Scanned : IsoChannelState → Option RecordScan → Type 0
+Scanned s None = is_bad_record s ≡ true
+Scanned s (Some r) = (is_bad_record s ≡ false) × Walked s r
 
 -- what a submission asks of a good record; more than 255 packets are refused before 13 is asked
 pub record Found (s : IsoChannelState) (t : IsoTransfer) (lengths ring : List ℕ) (r : SubmitScan) : Type 0 where
@@ -50,15 +46,19 @@ pub record Found (s : IsoChannelState) (t : IsoTransfer) (lengths ring : List �
   pub insert : r.insert ≡ insert_of s t ring
   pub clash : length lengths ≤ 255 → r.clash ≡ is_clash s t ring (length lengths)
 
-pub record Asked (s : IsoChannelState) (t : IsoTransfer) (lengths ring : List ℕ) (r : SubmitScan) : Type 0 where
-  pub bad : r.bad ≡ is_bad_record s
-  pub found : is_bad_record s ≡ false → Found s t lengths ring r
+-- where the record is bad nothing is asked, and nothing is read of this
+abbrev pub none_asked : SubmitScan
+none_asked = record { all = 0; pending = 0; insert = 0; clash = false }
+
+abbrev pub Asked : IsoChannelState → IsoTransfer → List ℕ → List ℕ → Option SubmitScan → Type 0
+Asked s t lengths ring None = is_bad_record s ≡ true
+Asked s t lengths ring (Some r) = (is_bad_record s ≡ false) × Found s t lengths ring r
 
 -- the ways that pass every refusal before the gates
 abbrev pub is_gate : SubmitWay → Bool
-is_gate (Refuse n) = false
+is_gate (Refuse r) = false
 is_gate (TooLong i) = false
-is_gate (Spend n) = false
+is_gate (Spend r) = false
 is_gate Early = true
 is_gate Cut = true
 is_gate Late = true
@@ -66,9 +66,9 @@ is_gate Accept = true
 
 -- the packets that an accepted submission adds; no other adds any
 abbrev pub added : SubmitWay → ℕ → ℕ
-added (Refuse n) count = 0
+added (Refuse r) count = 0
 added (TooLong i) count = 0
-added (Spend n) count = 0
+added (Spend r) count = 0
 added Early count = 0
 added Cut count = 0
 added Late count = 0
@@ -76,9 +76,9 @@ added Accept count = count
 
 -- the numbers that the way leaves, where `slot` is the slot after the last packet
 abbrev pub head_after : SubmitWay → IsoConfig → IsoHead → IsoTransfer → ℕ → IsoHead
-head_after (Refuse n) cfg h t slot = h
+head_after (Refuse r) cfg h t slot = h
 head_after (TooLong i) cfg h t slot = spent h
-head_after (Spend n) cfg h t slot = spent h
+head_after (Spend r) cfg h t slot = spent h
 head_after Early cfg h t slot = unplugged h
 head_after Cut cfg h t slot = h
 head_after Late cfg h t slot = unplugged h
@@ -94,9 +94,9 @@ head_after Accept cfg h t slot =
 
 -- the ring that it leaves, with the first packet at `insert`
 abbrev pub ring_by : SubmitWay → IsoConfig → IsoTransfer → ℕ → List ℕ → List ℕ → List ℕ
-ring_by (Refuse n) cfg t insert lengths ring = ring
+ring_by (Refuse r) cfg t insert lengths ring = ring
 ring_by (TooLong i) cfg t insert lengths ring = ring
-ring_by (Spend n) cfg t insert lengths ring = ring
+ring_by (Spend r) cfg t insert lengths ring = ring
 ring_by Early cfg t insert lengths ring = cleared (ring_words cfg) ring
 ring_by Cut cfg t insert lengths ring = stored (take t.words (stores_from (slots cfg) insert (step_of cfg) 0 t.base lengths)) ring
 ring_by Late cfg t insert lengths ring = cleared (ring_words cfg) ring

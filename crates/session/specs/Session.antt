@@ -1,10 +1,9 @@
 -- The session of document 01, "The session": blank entries, what the tables hold, and the ring's words.
-use Rattle.std.specs.Prelude.{List, [], ◌∷◌, ◌++◌, Bool, true, false, ℕ, ◌+◌, ◌*◌, drop, replicate}
+use Rattle.std.specs.Prelude.{List, [], ◌∷◌, ◌++◌, Bool, true, false, Option, Some, None, ℕ, ◌+◌, ◌*◌, drop, replicate}
 use Rattle.std.proofs.Math.Seq.{slice}
 use Rattle.ring.specs.RingSums.{ring_size, capacity}
 use Rattle.session.specs.declared.types.IsoConfig.{IsoConfig}
-use Rattle.session.specs.declared.types.IsoFatal.{IsoFatal}
-use Rattle.session.specs.declared.types.IsoFatal.TheVariants.{Nothing, Reason}
+use Rattle.session.specs.declared.types.IsoHaltReason.{IsoHaltReason}
 use Rattle.session.specs.declared.types.IsoOutcome.TheVariants.{Done}
 use Rattle.session.specs.declared.types.IsoRequest.{IsoRequest}
 use Rattle.session.specs.declared.types.IsoPacketPlan.{IsoPacketPlan}
@@ -47,9 +46,9 @@ all_packets s = packets_of (slice 0 s.head.count s.requests)
 abbrev pub pending_packets : IsoChannelState → ℕ
 pending_packets s = packets_of (pending_requests s)
 
-abbrev pub has_reason : IsoFatal → Bool
-has_reason Nothing = false
-has_reason (Reason r) = true
+abbrev pub has_reason : Option IsoHaltReason → Bool
+has_reason None = false
+has_reason (Some r) = true
 
 -- a session without requests, channel or reason
 abbrev pub idle_session : IsoConfig → IsoChannelState
@@ -57,7 +56,7 @@ idle_session cfg =
     record {
       cfg = cfg;
       head = record { next_request_id = 1; live = false; td_last = 0; start_full_frame = 0; done = 0; count = 0 };
-      fatal = Nothing;
+      fatal = None;
       requests = replicate 64 blank_request;
       plans = replicate 1024 blank_plan;
     }

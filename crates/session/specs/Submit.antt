@@ -1,5 +1,5 @@
 -- What a submission leaves, by its way: document 01, "Submit": the session, the ring's words, the answer and the words that start the channel.
-use Rattle.std.specs.Prelude.{true, false, cond, List, [], ℕ, ◌+◌, max, length, set, take}
+use Rattle.std.specs.Prelude.{true, false, cond, Option, Some, None, Result, Ok, Err, List, ℕ, ◌+◌, max, length, set, take}
 use Rattle.std.proofs.lemmas.List.Edits.{sets}
 use Rattle.words.specs.Words.{hcchar_word, hctsiz_word, iso_hcintmsk}
 use Rattle.words.specs.declared.types.Dwc2EpType.TheVariants.{Isochronous}
@@ -13,8 +13,10 @@ use Rattle.session.specs.declared.transfer.IsoTransfer.{IsoTransfer}
 use Rattle.session.specs.declared.transfer.IsoChannelStart.{IsoChannelStart}
 use Rattle.session.specs.declared.transfer.SubmitWay.{SubmitWay}
 use Rattle.session.specs.declared.transfer.SubmitWay.TheVariants.{Refuse, TooLong, Spend, Early, Cut, Late, Accept}
-use Rattle.session.specs.declared.transfer.SubmitAnswer.{SubmitAnswer}
-use Rattle.session.specs.declared.transfer.SubmitAnswer.TheVariants as answer
+use Rattle.session.specs.declared.transfer.IsoSubmission.{IsoSubmission}
+use Rattle.session.specs.declared.transfer.IsoSubmission.TheVariants as submission
+use Rattle.session.specs.declared.refusal.IsoRefusal.{IsoRefusal}
+use Rattle.session.specs.declared.refusal.IsoRefusal.TheVariants.{PacketTooLong, Unplugged}
 use Rattle.session.specs.declared.transfer.Submitted.{Submitted}
 use Rattle.session.specs.Session.{slots, ring_words, cleared, all_packets}
 use Rattle.session.specs.Place.{step_of, start_of, insert_of, stores_of, plans_from}
@@ -76,9 +78,9 @@ abbrev pub accepted : IsoChannelState → IsoTransfer → List ℕ → List ℕ 
 accepted s t lengths ring = accepted_at s t (insert_of s t ring) lengths
 
 abbrev pub session_after : SubmitWay → IsoChannelState → IsoTransfer → List ℕ → List ℕ → IsoChannelState
-session_after (Refuse n) s t lengths ring = s
+session_after (Refuse r) s t lengths ring = s
 session_after (TooLong i) s t lengths ring = with_head s (spent s.head)
-session_after (Spend n) s t lengths ring = with_head s (spent s.head)
+session_after (Spend r) s t lengths ring = with_head s (spent s.head)
 session_after Early s t lengths ring = with_head s (unplugged s.head)
 session_after Cut s t lengths ring = s
 session_after Late s t lengths ring = with_head s (unplugged s.head)
@@ -86,28 +88,27 @@ session_after Accept s t lengths ring = accepted s t lengths ring
 
 -- "Cut or whole, the same loop stores them": the first words of the planned ones
 abbrev pub ring_after : SubmitWay → IsoChannelState → IsoTransfer → List ℕ → List ℕ → List ℕ
-ring_after (Refuse n) s t lengths ring = ring
+ring_after (Refuse r) s t lengths ring = ring
 ring_after (TooLong i) s t lengths ring = ring
-ring_after (Spend n) s t lengths ring = ring
+ring_after (Spend r) s t lengths ring = ring
 ring_after Early s t lengths ring = cleared (ring_words s.cfg) ring
 ring_after Cut s t lengths ring = stored (take t.words (stores_of s t lengths ring)) ring
 ring_after Late s t lengths ring = cleared (ring_words s.cfg) ring
 ring_after Accept s t lengths ring = stored (stores_of s t lengths ring) ring
 
-abbrev pub answer_of : SubmitWay → IsoChannelState → SubmitAnswer
-answer_of (Refuse n) s = answer.Refused n
-answer_of (TooLong i) s = answer.PacketTooLong i
-answer_of (Spend n) s = answer.Refused n
-answer_of Early s = answer.Refused 14
-answer_of Cut s = answer.Cut
-answer_of Late s = answer.Refused 14
-answer_of Accept s = answer.Accepted s.head.next_request_id
+abbrev pub answer_of : SubmitWay → IsoChannelState → Result IsoSubmission IsoRefusal
+answer_of (Refuse r) s = Err r
+answer_of (TooLong i) s = Err (PacketTooLong i)
+answer_of (Spend r) s = Err r
+answer_of Early s = Err Unplugged
+answer_of Cut s = Ok submission.Cut
+answer_of Late s = Err Unplugged
+answer_of Accept s = Ok (submission.Accepted s.head.next_request_id)
 
 -- "Accepted, it hands out HCCHAR, HCTSIZ for R descriptors, the frame list and the interrupt mask"
 abbrev pub start_words : IsoChannelState → IsoTransfer → IsoChannelStart
 start_words s t =
     record {
-      first = true;
       hcchar =
           hcchar_word
           s.cfg.device
@@ -124,17 +125,14 @@ start_words s t =
       frames = frame_table (service_frames (start_of s t) s.cfg.interval s.cfg.speed);
     }
 
-abbrev pub no_start : IsoChannelStart
-no_start = record { first = false; hcchar = 0; hctsiz = 0; hcintmsk = 0; frames = frame_table [] }
-
-abbrev pub start_after : SubmitWay → IsoChannelState → IsoTransfer → IsoChannelStart
-start_after (Refuse n) s t = no_start
-start_after (TooLong i) s t = no_start
-start_after (Spend n) s t = no_start
-start_after Early s t = no_start
-start_after Cut s t = no_start
-start_after Late s t = no_start
-start_after Accept s t = cond s.head.live no_start (start_words s t)
+abbrev pub start_after : SubmitWay → IsoChannelState → IsoTransfer → Option IsoChannelStart
+start_after (Refuse r) s t = None
+start_after (TooLong i) s t = None
+start_after (Spend r) s t = None
+start_after Early s t = None
+start_after Cut s t = None
+start_after Late s t = None
+start_after Accept s t = cond s.head.live None (Some (start_words s t))
 
 abbrev pub submitted_by : SubmitWay → IsoChannelState → IsoTransfer → List ℕ → List ℕ → Submitted
 submitted_by way s t lengths ring =

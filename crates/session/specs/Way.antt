@@ -1,5 +1,5 @@
 -- Which way a submission goes: document 01, "Submit", "Guarded mode" and "Refusal numbers": the tests in their order, then the gates.
-use Rattle.std.specs.Prelude.{Bool, true, false, not, ◌||◌, ◌&&◌, cond, List, [], ◌∷◌, ℕ, suc, ◌+◌, ◌-◌, ◌*◌, eqb, ltb, length, get_or}
+use Rattle.std.specs.Prelude.{Bool, true, false, not, ◌||◌, ◌&&◌, cond, Option, Some, None, Result, Ok, Err, ⊤, List, [], ◌∷◌, ℕ, suc, ◌+◌, ◌-◌, ◌*◌, eqb, ltb, length, get_or}
 use Rattle.std.proofs.Math.Seq.{slice}
 use Rattle.words.specs.Words.{is_beyond}
 use Rattle.ring.specs.declared.speed.Speed.{Speed}
@@ -12,6 +12,8 @@ use Rattle.session.specs.declared.types.IsoChannelState.{IsoChannelState}
 use Rattle.session.specs.declared.transfer.IsoTransfer.{IsoTransfer}
 use Rattle.session.specs.declared.transfer.SubmitWay.{SubmitWay}
 use Rattle.session.specs.declared.transfer.SubmitWay.TheVariants.{Refuse, TooLong, Spend, Early, Cut, Late, Accept}
+use Rattle.session.specs.declared.refusal.IsoRefusal.{IsoRefusal}
+use Rattle.session.specs.declared.refusal.IsoRefusal.TheVariants as refusal
 use Rattle.session.specs.Session.{slots, ring_words, room, all_packets, pending_packets, has_reason}
 use Rattle.session.specs.Record.{is_bad_record}
 use Rattle.session.specs.Place.{step_of, insert_of}
@@ -33,6 +35,9 @@ sum (l ∷ ls) = l + sum ls
 abbrev pub first_long : ℕ → List ℕ → ℕ
 first_long limit [] = 0
 first_long limit (l ∷ ls) = cond (ltb limit l) 0 (suc (first_long limit ls))
+
+abbrev pub long_at : ℕ → List ℕ → Option ℕ
+long_at limit ls = cond (ltb (first_long limit ls) (length ls)) (Some (first_long limit ls)) None
 
 -- "refusal 13 exactly if a planned slot belongs to a pending request"
 abbrev pub is_held : List IsoPacketPlan → ℕ → Bool
@@ -58,44 +63,37 @@ is_clash s t ring n =
 abbrev pub is_over : IsoChannelState → ℕ → Bool
 is_over s n = ltb (room s.cfg) (pending_packets s + n)
 
--- a test and the number of its refusal
+-- a test and its refusal
 pub record Check : Type 0 where
   pub holds : Bool
-  pub number : ℕ
+  pub refusal : IsoRefusal
 
 infix 68 ◌⇒◌
-abbrev pub ◌⇒◌ : Bool → ℕ → Check
-holds ⇒ number = record { holds = holds; number = number }
+abbrev pub ◌⇒◌ : Bool → IsoRefusal → Check
+holds ⇒ refusal = record { holds = holds; refusal = refusal }
 
--- the number of the first test that holds, 0 where none does
-abbrev pub first_of : List Check → ℕ
-first_of [] = 0
-first_of (c ∷ cs) = cond c.holds c.number (first_of cs)
+-- the refusal of the first test that holds; none where none does
+abbrev pub first_of : List Check → Result ⊤ IsoRefusal
+first_of [] = Ok tt
+first_of (c ∷ cs) = cond c.holds (Err c.refusal) (first_of cs)
 
--- the first of 1 to 8, and of 10 to 13
-abbrev pub entry_number : Bool → Bool → Bool → Bool → Bool → Bool → Bool → Bool → ℕ
-entry_number reason low kind empty none alone over full =
-    first_of (reason ⇒ 1 ∷ low ⇒ 2 ∷ kind ⇒ 3 ∷ empty ⇒ 4 ∷ none ⇒ 5 ∷ alone ⇒ 6 ∷ over ⇒ 7 ∷ full ⇒ 8 ∷ [])
-
-abbrev pub spend_number : Bool → Bool → Bool → Bool → ℕ
-spend_number sums limit channel clash = first_of (sums ⇒ 10 ∷ limit ⇒ 11 ∷ channel ⇒ 12 ∷ clash ⇒ 13 ∷ [])
-
--- "Checked in this order for submit: 17, 18, 1 to 14." The first ten alter nothing
-abbrev pub entry_checks : IsoChannelState → IsoTransfer → ℕ → ℕ → List Check
-entry_checks s t n words =
-    ltb words (ring_words s.cfg) ⇒ 17
-    ∷ is_bad_record s ⇒ 18
-    ∷ has_reason s.fatal ⇒ 1
-    ∷ is_low s.cfg.speed ⇒ 2
-    ∷ not t.isochronous ⇒ 3
-    ∷ eqb n 0 ⇒ 4
-    ∷ not t.has_buffer ⇒ 5
-    ∷ (is_over s n && eqb s.head.done s.head.count) ⇒ 6
-    ∷ is_over s n ⇒ 7
-    ∷ (ltb 64 (s.head.count + 1) || ltb 1024 (all_packets s + n)) ⇒ 8
+-- "Checked in this order for submit: 17, 18, 1 to 14." The first ten alter nothing: the ring and the record, then the transfer and its room
+abbrev pub room_checks : IsoChannelState → IsoTransfer → ℕ → List Check
+room_checks s t n =
+    has_reason s.fatal ⇒ refusal.Ending
+    ∷ is_low s.cfg.speed ⇒ refusal.LowSpeed
+    ∷ not t.isochronous ⇒ refusal.NotIsochronous
+    ∷ eqb n 0 ⇒ refusal.NoPackets
+    ∷ not t.has_buffer ⇒ refusal.NoBuffer
+    ∷ (is_over s n && eqb s.head.done s.head.count) ⇒ refusal.OverCapacity
+    ∷ is_over s n ⇒ refusal.OverCapacityPending
+    ∷ (ltb 64 (s.head.count + 1) || ltb 1024 (all_packets s + n)) ⇒ refusal.TablesFull
     ∷ []
 
-abbrev pub entry_refusal : IsoChannelState → IsoTransfer → ℕ → ℕ → ℕ
+abbrev pub entry_checks : IsoChannelState → IsoTransfer → ℕ → ℕ → List Check
+entry_checks s t n words = ltb words (ring_words s.cfg) ⇒ refusal.ShortBuffer ∷ is_bad_record s ⇒ refusal.BadRecord ∷ room_checks s t n
+
+abbrev pub entry_refusal : IsoChannelState → IsoTransfer → ℕ → ℕ → Result ⊤ IsoRefusal
 entry_refusal s t n words = first_of (entry_checks s t n words)
 
 -- 9: the first packet that is too long
@@ -105,13 +103,13 @@ too_long s lengths = first_long (packet_limit s.cfg.speed) lengths
 -- 10 to 13, which spend a number as 9 does
 abbrev pub spend_checks : IsoChannelState → IsoTransfer → List ℕ → List ℕ → List Check
 spend_checks s t lengths ring =
-    not (eqb (sum lengths) t.buffer_len) ⇒ 10
-    ∷ is_beyond t.base (sum lengths) ⇒ 11
-    ∷ (not s.head.live && not t.channel_free) ⇒ 12
-    ∷ is_clash s t ring (length lengths) ⇒ 13
+    not (eqb (sum lengths) t.buffer_len) ⇒ refusal.LengthsDiffer
+    ∷ is_beyond t.base (sum lengths) ⇒ refusal.AddressLimit
+    ∷ (not s.head.live && not t.channel_free) ⇒ refusal.NoChannel
+    ∷ is_clash s t ring (length lengths) ⇒ refusal.SlotHeld
     ∷ []
 
-abbrev pub spend_refusal : IsoChannelState → IsoTransfer → List ℕ → List ℕ → ℕ
+abbrev pub spend_refusal : IsoChannelState → IsoTransfer → List ℕ → List ℕ → Result ⊤ IsoRefusal
 spend_refusal s t lengths ring = first_of (spend_checks s t lengths ring)
 
 -- "A submission that finds no live channel .. passes two connection gates, before programming and before enabling"; between them the words are
@@ -123,8 +121,17 @@ gate_at live t n =
 abbrev pub gate_way : IsoChannelState → IsoTransfer → ℕ → SubmitWay
 gate_way s t n = gate_at s.head.live t n
 
+-- refused with nothing altered, or refused with the number spent, or further on
+abbrev pub refuse_or : Result ⊤ IsoRefusal → SubmitWay → SubmitWay
+refuse_or (Ok passed) way = way
+refuse_or (Err r) way = Refuse r
+
+abbrev pub spend_or : Result ⊤ IsoRefusal → SubmitWay → SubmitWay
+spend_or (Ok passed) way = way
+spend_or (Err r) way = Spend r
+
 abbrev pub submit_way : IsoChannelState → IsoTransfer → List ℕ → List ℕ → SubmitWay
 submit_way s t lengths ring =
-    cond (not (eqb (entry_refusal s t (length lengths) (length ring)) 0)) (Refuse (entry_refusal s t (length lengths) (length ring)))
+    refuse_or (entry_refusal s t (length lengths) (length ring))
     (cond (ltb (too_long s lengths) (length lengths)) (TooLong (too_long s lengths))
-    (cond (not (eqb (spend_refusal s t lengths ring) 0)) (Spend (spend_refusal s t lengths ring)) (gate_way s t (length lengths))))
+    (spend_or (spend_refusal s t lengths ring) (gate_way s t (length lengths))))

@@ -1,58 +1,45 @@
 // Cancelling: document 01, "Cancel". A completed result is amended; for a pending one the channel has to halt first.
-ghost use Rattle.std.specs.Prelude.{◌≡◌, ◌≤◌, ◌<◌};
-ghost use Rattle.std.proofs.Math.Seq.{slice};
+ghost use Rattle.std.specs.Prelude.{◌≡◌, ◌≤◌, ◌<◌, nat_eq, MatchOption};
+ghost use Rattle.std.specs.List.{position_from};
 ghost use Rattle.session.specs.Poll.{with_reason};
-ghost use Rattle.session.specs.Cancel.{place_of, with_cancelled, cancelled};
+ghost use Rattle.session.specs.Cancel.{request_at, with_cancelled, cancelled};
 
 use crate::end::with_outcome;
-use crate::record::has_reason;
+use crate::refusal::IsoRefusal;
 use crate::reply::{IsoReply, done, refused};
-use crate::types::{IsoChannelState, IsoFatal, IsoHaltReason, IsoOutcome, IsoRequest};
+use crate::types::{IsoChannelState, IsoHaltReason, IsoOutcome, IsoRequest};
 
-// The place of the first request with the number, or `count`.
-pub(crate) fn place_of(requests: [IsoRequest; 64], count: u16, id: u64) -> u16
-    requires { count ≤ 64 }
-    ensures { result ≡ place_of id (slice 0 count requests) }
+// The place of the first of some requests with the number.
+fn place_of(requests: &[IsoRequest], id: u64) -> Option<usize>
+    ensures { result ≡ position_from (λ r. nat_eq r.id id) 0 requests.now }
 {
-    let mut i: u16 = 0;
-    while i < count {
-        let at = i as usize;
-        let number = requests[at].id;
-        if number == id {
-            return i;
-        }
-        i += 1;
-    }
-    i
+    requests.iter().position(|request| request.id == id)
 }
 
 impl IsoChannelState {
+    // The place of the first request with the number.
+    pub(crate) fn find(&self, id: u64) -> Option<usize>
+        requires { self.now.head.count ≤ 64 }
+        ensures { MatchOption result (request_at id self.now ≡ self.now.head.count)
+            (λ at. (request_at id self.now ≡ at) × (at < self.now.head.count)) }
+    {
+        place_of(&self.requests[..usize::from(self.head.count)], id)
+    }
+
     // The session with a reason to end.
-    pub(crate) fn with_reason(self, reason: IsoHaltReason) -> Self
+    pub(crate) fn with_reason(mut self, reason: IsoHaltReason) -> Self
         ensures { result ≡ with_reason reason self }
     {
-        let cfg = self.cfg;
-        let head = self.head;
-        let requests = self.requests;
-        let plans = self.plans;
-        IsoChannelState {
-            cfg,
-            head,
-            fatal: IsoFatal::Reason(reason),
-            requests,
-            plans,
-        }
+        self.fatal = Some(reason);
+        self
     }
 
     // The session with the result at `at` cancelled.
-    fn amend(mut self, at: u16) -> Self
+    fn amend(mut self, at: usize) -> Self
         requires { at < 64 }
         ensures { result ≡ with_cancelled at self }
     {
-        let i = at as usize;
-        let old = self.requests[i];
-        let request = with_outcome(old, IsoOutcome::Cancelled);
-        self.requests[i] = request;
+        self.requests[at] = with_outcome(self.requests[at], IsoOutcome::Cancelled);
         self
     }
 
@@ -61,21 +48,13 @@ impl IsoChannelState {
         ensures { result ≡ cancelled self id }
     {
         if self.is_bad_record() {
-            return refused(18, self);
+            return refused(IsoRefusal::BadRecord, self);
         }
-        let head = self.head;
-        let requests = self.requests;
-        let at = place_of(requests, head.count, id);
-        if at < head.done {
-            return done(false, false, self.amend(at));
+        match self.find(id) {
+            None => refused(IsoRefusal::UnknownRequest, self),
+            Some(at) if at < usize::from(self.head.done) => done(false, false, self.amend(at)),
+            Some(_) if self.fatal.is_some() => done(false, false, self),
+            Some(_) => done(false, true, self.with_reason(IsoHaltReason::Cancelled)),
         }
-        if at >= head.count {
-            return refused(15, self);
-        }
-        let fatal = self.fatal;
-        if has_reason(fatal) {
-            return done(false, false, self);
-        }
-        done(false, true, self.with_reason(IsoHaltReason::Cancelled))
     }
 }

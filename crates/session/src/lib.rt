@@ -1,5 +1,5 @@
 // The camera session: document 01, "The session". One endpoint, opened once; the session goes in as a value and comes back as one,
-// the descriptor ring is lent. No public function has a `requires`: what cannot be done is refused with 01's number.
+// the descriptor ring is lent. No public function has a `requires`: what cannot be done is refused with 01's refusal.
 #![tactic(auto)]
 
 mod cancel;
@@ -10,6 +10,7 @@ mod poll;
 mod reclaim;
 mod record;
 mod recover;
+mod refusal;
 mod reply;
 mod reset;
 mod settle;
@@ -29,14 +30,15 @@ pub use reclaim::{handed_answer, is_done};
 pub use record::{
     has_reason, is_bad_config, is_bad_plan, is_bad_request, is_bad_state, is_over_room,
 };
-pub use reply::{IsoAnswer, IsoEvent, IsoReply, PollWay, ReclaimAnswer, Reclaimed};
+pub use refusal::IsoRefusal;
+pub use reply::{IsoCompletion, IsoEvent, IsoReply, PollWay, Reclaimed};
 pub use submit::{new_request, submit_parts};
 pub use tables::rest;
 pub use transfer::{
-    IsoChannelStart, IsoTransfer, SubmitAnswer, SubmitParts, SubmitScan, SubmitWay, Submitted,
+    IsoChannelStart, IsoSubmission, IsoTransfer, SubmitParts, SubmitScan, SubmitWay, Submitted,
 };
 pub use types::{
-    IsoChannelState, IsoConfig, IsoFatal, IsoHaltReason, IsoHead, IsoMode, IsoOutcome,
-    IsoPacketPlan, IsoRequest, OpenAnswer, TransferStatus,
+    IsoChannelState, IsoConfig, IsoHaltReason, IsoHead, IsoMode, IsoOutcome, IsoPacketPlan,
+    IsoRequest, TransferStatus,
 };
 pub use way::{clash, is_guarded};

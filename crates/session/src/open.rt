@@ -4,13 +4,14 @@ ghost use Rattle.session.specs.Session.{idle_session, cleared, ring_words};
 ghost use Rattle.session.specs.Open.{opened, opened_ring};
 
 use crate::record::is_bad_config;
+use crate::refusal::IsoRefusal;
 use crate::tables::{blank_plan, blank_request};
-use crate::types::{IsoChannelState, IsoConfig, IsoFatal, IsoHead, OpenAnswer};
+use crate::types::{IsoChannelState, IsoConfig, IsoHead};
 use ring::iso_ring_size;
 
 #[derive(Clone, Copy)]
 pub struct Opened {
-    pub answer: OpenAnswer,
+    pub answer: Result<(), IsoRefusal>,
     pub session: IsoChannelState,
 }
 
@@ -23,19 +24,19 @@ impl IsoChannelState {
         let session = idle_session(cfg);
         if ring.len() < words {
             return Opened {
-                answer: OpenAnswer::ShortRing,
+                answer: Err(IsoRefusal::ShortBuffer),
                 session,
             };
         }
         if is_bad_config(cfg) {
             return Opened {
-                answer: OpenAnswer::BadConfig,
+                answer: Err(IsoRefusal::BadRecord),
                 session,
             };
         }
         clear_ring(ring, words);
         Opened {
-            answer: OpenAnswer::Opened,
+            answer: Ok(()),
             session,
         }
     }
@@ -45,36 +46,28 @@ impl IsoChannelState {
 pub fn ring_words(cfg: IsoConfig) -> usize
     ensures { (result ≡ ring_words cfg) × (result ≤ 512) }
 {
-    let speed = cfg.speed;
-    iso_ring_size(speed) as usize * 2
+    usize::from(iso_ring_size(cfg.speed)) * 2
 }
 
 pub(crate) fn clear_ring(ring: &mut [u32], words: usize)
     requires { words ≤ length ring.old }
     ensures { ring.new ≡ cleared words ring.old }
 {
-    let mut i: usize = 0;
-    while i < words {
-        ring[i] = 0;
-        i += 1;
-    }
+    ring[..words].fill(0);
 }
 
 // The first words zero; a ring that has fewer stays as it was.
 pub fn clear_first(ring: &mut [u32], words: usize)
     ensures { ring.new ≡ cond (ltb (length ring.old) words) ring.old (cleared words ring.old) }
 {
-    if ring.len() < words {
-        return;
+    if ring.len() >= words {
+        clear_ring(ring, words);
     }
-    clear_ring(ring, words);
 }
 
 fn idle_session(cfg: IsoConfig) -> IsoChannelState
     ensures { result ≡ idle_session cfg }
 {
-    let request = blank_request();
-    let plan = blank_plan();
     IsoChannelState {
         cfg,
         head: IsoHead {
@@ -85,8 +78,8 @@ fn idle_session(cfg: IsoConfig) -> IsoChannelState
             done: 0,
             count: 0,
         },
-        fatal: IsoFatal::Nothing,
-        requests: [request; 64],
-        plans: [plan; 1024],
+        fatal: None,
+        requests: [blank_request(); 64],
+        plans: [blank_plan(); 1024],
     }
 }

@@ -12,43 +12,41 @@ use words::is_active_at;
 pub(crate) fn slots_of(cfg: IsoConfig) -> u16
     ensures { (result ≡ slots cfg) × (0 < result) × (result ≤ 256) }
 {
-    let speed = cfg.speed;
-    iso_ring_size(speed)
+    iso_ring_size(cfg.speed)
 }
 
 pub(crate) fn step_of(cfg: IsoConfig) -> u16
     ensures { result ≡ step_of cfg }
 {
-    let interval = cfg.interval;
-    if interval == 0 { 1 } else { interval }
+    cfg.interval.max(1)
 }
 
 // The frame in which the channel starts: as it did, or by the first reading.
 pub(crate) fn start_of(cfg: IsoConfig, head: IsoHead, transfer: IsoTransfer) -> u32
     ensures { result ≡ start_at cfg head transfer }
 {
-    let speed = cfg.speed;
     if head.live {
         return head.start_full_frame;
     }
-    iso_starting_frame(transfer.start_reading, speed)
+    iso_starting_frame(transfer.start_reading, cfg.speed)
 }
 
 fn cursor_of(cfg: IsoConfig, head: IsoHead, transfer: IsoTransfer) -> u16
     ensures { result ≡ cursor_at cfg head transfer }
 {
-    let speed = cfg.speed;
     if head.live {
         return head.td_last;
     }
-    frame_to_desc_idx(speed, start_of(cfg, head, transfer))
+    frame_to_desc_idx(cfg.speed, start_of(cfg, head, transfer))
 }
 
 fn target_of(cfg: IsoConfig, transfer: IsoTransfer) -> u16
     ensures { result ≡ target_at cfg transfer }
 {
-    let speed = cfg.speed;
-    frame_to_desc_idx(speed, iso_starting_frame(transfer.frame_reading, speed))
+    frame_to_desc_idx(
+        cfg.speed,
+        iso_starting_frame(transfer.frame_reading, cfg.speed),
+    )
 }
 
 // While the newest packet in flight is still the controller's, the next one follows it without a gap; else the first slot ahead of

@@ -1,21 +1,20 @@
-// Refusal 18: document 01, "Refusal numbers". The entries in use are walked once, where they stand: a table handed on would be
-// copied. What a submission asks of the tables is found on the same walk.
-ghost use Rattle.std.specs.Prelude.{◌≡◌, not, ◌||◌, ◌&&◌, cond, ◌≤◌, leb, ltb};
-ghost use Rattle.session.specs.Record.{is_bad_config, is_bad_request, is_bad_plan, is_bad_record};
-ghost use Rattle.session.specs.Scan.{bad_scan, Scanned};
-ghost use Rattle.session.specs.Session.{has_reason};
-ghost use Rattle.session.specs.Session.{room};
+// Refusal 18: document 01, "Refusal numbers". The entries in use are walked where they stand, by lent parts of the tables. What a
+// submission asks of the tables is found on the way.
+ghost use Rattle.std.specs.Prelude.{◌≡◌, not, ◌||◌, ◌&&◌, cond, false, ℕ, ◌≤◌, ◌<◌, leb, ltb, get_or, length};
+ghost use Rattle.session.specs.Record.{is_bad_config, is_bad_request, any_bad_request, is_bad_plan, any_bad_plan, is_bad_record};
+ghost use Rattle.session.specs.Scan.{Scanned};
+ghost use Rattle.session.specs.Session.{has_reason, room, blank_plan};
+ghost use Rattle.session.specs.Way.{is_held};
 
 use crate::place::{slots_of, step_of};
-use crate::tables::{rest, wide};
-use crate::types::{IsoChannelState, IsoConfig, IsoFatal, IsoHead, IsoPacketPlan, IsoRequest};
-use ring::{iso_max_packets, iso_max_xfer_size, iso_ring_size};
+use crate::tables::packets_of;
+use crate::types::{IsoChannelState, IsoConfig, IsoHaltReason, IsoHead, IsoPacketPlan, IsoRequest};
+use ring::{iso_max_packets, iso_max_xfer_size};
 
-// What one walk finds: whether the record is bad, and where it is not, the packets of all requests and of the pending ones, the
-// newest packet's slot, and a yes for each slot below 256 that a pending packet has.
+// What a good record holds: the packets of all requests and of the pending ones, the newest packet's slot, and a yes for each slot
+// below 256 that a pending packet has.
 #[derive(Clone, Copy)]
 pub(crate) struct RecordScan {
-    pub bad: bool,
     pub all: u32,
     pub pending: u32,
     pub tail: u16,
@@ -32,8 +31,7 @@ pub fn is_bad_config(cfg: IsoConfig) -> bool
 fn room(cfg: IsoConfig) -> u16
     ensures { result ≡ room cfg }
 {
-    let speed = cfg.speed;
-    iso_max_packets(cfg.interval, speed)
+    iso_max_packets(cfg.interval, cfg.speed)
 }
 
 // More packets than may be in flight. Those that fit with a whole interval between them fit whatever the divisor is, so none is found.
@@ -43,10 +41,10 @@ pub fn is_over_room(cfg: IsoConfig, packets: u64) -> bool
     if packets > 255 {
         return true;
     }
-    if (packets as u32 + 1) * wide(step_of(cfg)) <= wide(slots_of(cfg)) {
+    if (packets as u32 + 1) * u32::from(step_of(cfg)) <= u32::from(slots_of(cfg)) {
         return false;
     }
-    packets > room(cfg) as u64
+    packets > u64::from(room(cfg))
 }
 
 pub fn is_bad_request(request: IsoRequest) -> bool
@@ -61,108 +59,80 @@ pub fn is_bad_plan(limit: u16, slots: u16, plan: IsoPacketPlan) -> bool
     (plan.planned > limit) | ((plan.actual > plan.planned) | (plan.desc_index >= slots))
 }
 
-pub fn has_reason(fatal: IsoFatal) -> bool
+pub fn has_reason(fatal: Option<IsoHaltReason>) -> bool
     ensures { result ≡ has_reason fatal }
 {
-    match fatal {
-        IsoFatal::Nothing => false,
-        IsoFatal::Reason(_) => true,
-    }
+    fatal.is_some()
 }
 
 // The cursor beyond the ring, or requests pending or a reason without a live channel.
-pub fn is_bad_state(head: IsoHead, slots: u16, fatal: IsoFatal) -> bool
+pub fn is_bad_state(head: IsoHead, slots: u16, fatal: Option<IsoHaltReason>) -> bool
     ensures { result ≡ leb slots head.td_last || not head.live && (ltb head.done head.count || has_reason fatal) }
 {
-    (head.td_last >= slots) | (!head.live & ((head.done < head.count) | has_reason(fatal)))
+    (head.td_last >= slots) | (!head.live & ((head.done < head.count) | fatal.is_some()))
 }
 
-// The packets of the request at `at`, where it is pending.
-fn wide_from(done: u16, at: u16, packets: u16) -> u32
-    ensures { (result ≡ cond (ltb at done) 0 packets) × (result ≤ packets) }
+fn any_bad_request(requests: &[IsoRequest]) -> bool
+    ensures { result ≡ any_bad_request requests.now }
 {
-    if at < done {
-        return 0;
-    }
-    wide(packets)
+    requests.iter().any(|&request| is_bad_request(request))
 }
 
-// Where a record is bad the rest is not read.
-fn bad_scan() -> RecordScan
-    ensures { result ≡ bad_scan }
+fn any_bad_plan(limit: u16, slots: u16, plans: &[IsoPacketPlan]) -> bool
+    ensures { result ≡ any_bad_plan limit slots plans.now }
 {
-    RecordScan {
-        bad: true,
-        all: 0,
-        pending: 0,
-        tail: 0,
-        held: [false; 256],
-    }
+    plans.iter().any(|&plan| is_bad_plan(limit, slots, plan))
 }
 
-fn found(bad: bool, all: u32, pending: u32, tail: u16, held: [bool; 256]) -> RecordScan
-    ensures { (result.bad ≡ bad) × (result.all ≡ all) × (result.pending ≡ pending) × (result.tail ≡ tail) × (result.held ≡ held) }
+// A mark for each slot that one of the plans has.
+fn marks_of(plans: &[IsoPacketPlan]) -> [bool; 256]
+    requires { (i : ℕ) → i < length plans.now → (get_or plans.now i blank_plan).desc_index < 256 }
+    ensures { (k : ℕ) → k < 256 → get_or result k false ≡ is_held plans.now k }
 {
-    RecordScan {
-        bad,
-        all,
-        pending,
-        tail,
-        held,
+    let mut held = [false; 256];
+    for plan in plans {
+        held[plan.desc_index as usize] = true;
     }
+    held
 }
 
 impl IsoChannelState {
     // A record that no call leaves behind: its numbers lie beyond their limits.
-    pub fn is_bad_record(self) -> bool
-        ensures { result ≡ is_bad_record self }
+    pub fn is_bad_record(&self) -> bool
+        ensures { result ≡ is_bad_record self.now }
     {
-        let scan = self.scan();
-        scan.bad
+        self.scan().is_none()
     }
 
-    // The tests of refusal 18 in one walk over the entries in use. It is one function, long as it is: a part of it would be handed a
-    // table, which is a copy.
-    pub(crate) fn scan(self) -> RecordScan
-        ensures { Scanned self result }
+    // The tests of refusal 18. Where one holds nothing is found.
+    pub(crate) fn scan(&self) -> Option<RecordScan>
+        ensures { Scanned self.now result }
     {
-        let cfg = self.cfg;
         let head = self.head;
-        if is_bad_config(cfg) | ((head.count < head.done) | (head.count > 64)) {
-            return bad_scan();
+        let done = head.done as usize;
+        let count = head.count as usize;
+        if is_bad_config(self.cfg) | ((head.count < head.done) | (head.count > 64)) {
+            return None;
         }
-        let mut all: u32 = 0;
-        let mut pending: u32 = 0;
-        let mut i: u16 = 0;
-        while i < head.count {
-            let request = self.requests[i as usize];
-            if is_bad_request(request) {
-                return bad_scan();
-            }
-            all += wide(request.packets);
-            pending += wide_from(head.done, i, request.packets);
-            i += 1;
+        if any_bad_request(&self.requests[..count]) {
+            return None;
         }
-        if (all > 1_024) | (pending > wide(room(cfg))) {
-            return bad_scan();
+        let all = packets_of(&self.requests[..count]);
+        let pending = packets_of(&self.requests[done..count]);
+        if (all > 1_024) | (pending > room(self.cfg) as usize) {
+            return None;
         }
-        let speed = cfg.speed;
-        let slots = iso_ring_size(speed);
-        let limit = iso_max_xfer_size(speed);
-        let mut held = [false; 256];
-        let mut j: u32 = 0;
-        while j < all {
-            let plan = self.plans[j as usize];
-            if is_bad_plan(limit, slots, plan) {
-                return bad_scan();
-            }
-            if all - pending <= j {
-                held[plan.desc_index as usize] = true;
-            }
-            j += 1;
+        let slots = slots_of(self.cfg);
+        if any_bad_plan(iso_max_xfer_size(self.cfg.speed), slots, &self.plans[..all])
+            | is_bad_state(head, slots, self.fatal)
+        {
+            return None;
         }
-        let fatal = self.fatal;
-        let tail = self.plans[rest(all, 1)].desc_index;
-        found(is_bad_state(head, slots, fatal), all, pending, tail, held)
+        Some(RecordScan {
+            all: all as u32,
+            pending: pending as u32,
+            tail: self.plans[all.saturating_sub(1)].desc_index,
+            held: marks_of(&self.plans[all - pending..all]),
+        })
     }
 }

@@ -3,6 +3,7 @@ ghost use Rattle.std.specs.Prelude.{◌≡◌, length};
 ghost use Rattle.session.specs.Poll.{recovered, recovered_ring};
 
 use crate::open::ring_words;
+use crate::refusal::IsoRefusal;
 use crate::reply::{IsoReply, done, refused};
 use crate::types::{IsoChannelState, IsoOutcome};
 
@@ -11,14 +12,12 @@ impl IsoChannelState {
     pub fn recover(self, ring: &mut [u32]) -> IsoReply
         ensures { (result ≡ recovered self (length ring.old)) × (ring.new ≡ recovered_ring self ring.old) }
     {
-        let words = ring_words(self.cfg);
-        if ring.len() < words {
-            return refused(17, self);
+        if ring.len() < ring_words(self.cfg) {
+            return refused(IsoRefusal::ShortBuffer, self);
         }
         if self.is_bad_record() {
-            return refused(18, self);
+            return refused(IsoRefusal::BadRecord, self);
         }
-        let session = self.end(IsoOutcome::Disconnected, ring);
-        done(false, false, session)
+        done(false, false, self.end(IsoOutcome::Disconnected, ring))
     }
 }

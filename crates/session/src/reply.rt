@@ -1,21 +1,21 @@
 // What the calls after a submission are given and what they answer.
-ghost use Rattle.std.specs.Prelude.{◌≡◌};
-ghost use Rattle.session.specs.declared.reply.IsoAnswer.TheVariants as answer;
+ghost use Rattle.std.specs.Prelude.{◌≡◌, Ok};
 ghost use Rattle.session.specs.Poll.{reply, refused_reply};
 
+use crate::refusal::IsoRefusal;
 use crate::types::{IsoChannelState, IsoHaltReason, IsoOutcome};
 
-// What the interrupt handler left for the channel: whether there is an event, whether the port is gone, and the interrupt word.
-#[derive(Clone, Copy)]
+// What the interrupt handler left for the channel: whether the port is gone, a yes/no beside the word as document 01 has it, and the
+// interrupt word. A call is given None where it left nothing.
+#[derive(Clone, Copy, Debug, PartialEq, Eq)]
 pub struct IsoEvent {
-    pub reported: bool,
     pub unplugged: bool,
     pub hcint: u32,
 }
 
 // What a poll does: nothing, end the session, ask for a halt, wait for one, or settle; the oldest request at once where the
 // complete bit is set.
-#[derive(Clone, Copy)]
+#[derive(Clone, Copy, Debug, PartialEq, Eq)]
 pub enum PollWay {
     Nothing,
     End(IsoOutcome),
@@ -24,44 +24,38 @@ pub enum PollWay {
     Settle(bool),
 }
 
-#[derive(Clone, Copy)]
-pub enum IsoAnswer {
-    Done,
-    Refused(u16),
-}
-
 // The answer of a call, whether it took the event, whether it asks the caller to halt the channel, and the session.
 #[derive(Clone, Copy)]
 pub struct IsoReply {
-    pub answer: IsoAnswer,
+    pub answer: Result<(), IsoRefusal>,
     pub taken: bool,
     pub halt: bool,
     pub session: IsoChannelState,
 }
 
-// A completed request with its outcome, the bytes moved and its packets; or it is still pending; or a refusal.
-#[derive(Clone, Copy)]
-pub enum ReclaimAnswer {
-    Completed(IsoOutcome, u32, u16),
-    NotYet,
-    Refused(u16),
+// A completed request: its outcome, the bytes moved and its packets.
+#[derive(Clone, Copy, Debug, PartialEq, Eq)]
+pub struct IsoCompletion {
+    pub outcome: IsoOutcome,
+    pub actual_length: u32,
+    pub packets: u16,
 }
 
-// As `IsoReply`, with the answer of a reclaim.
+// As `IsoReply`, with the answer of a reclaim: the completion, or None where the request is still pending.
 #[derive(Clone, Copy)]
 pub struct Reclaimed {
-    pub answer: ReclaimAnswer,
+    pub answer: Result<Option<IsoCompletion>, IsoRefusal>,
     pub taken: bool,
     pub halt: bool,
     pub session: IsoChannelState,
 }
 
 // Nothing was altered.
-pub(crate) fn refused(number: u16, session: IsoChannelState) -> IsoReply
-    ensures { result ≡ refused_reply number session }
+pub(crate) fn refused(refusal: IsoRefusal, session: IsoChannelState) -> IsoReply
+    ensures { result ≡ refused_reply refusal session }
 {
     IsoReply {
-        answer: IsoAnswer::Refused(number),
+        answer: Err(refusal),
         taken: false,
         halt: false,
         session,
@@ -69,10 +63,10 @@ pub(crate) fn refused(number: u16, session: IsoChannelState) -> IsoReply
 }
 
 pub(crate) fn done(taken: bool, halt: bool, session: IsoChannelState) -> IsoReply
-    ensures { result ≡ reply answer.Done taken halt session }
+    ensures { result ≡ reply (Ok tt) taken halt session }
 {
     IsoReply {
-        answer: IsoAnswer::Done,
+        answer: Ok(()),
         taken,
         halt,
         session,

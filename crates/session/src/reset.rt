@@ -2,7 +2,7 @@
 ghost use Rattle.std.specs.Prelude.{◌≡◌};
 ghost use Rattle.session.specs.Poll.{reset_reply};
 
-use crate::record::has_reason;
+use crate::refusal::IsoRefusal;
 use crate::reply::{IsoReply, done, refused};
 use crate::types::IsoChannelState;
 
@@ -12,11 +12,10 @@ impl IsoChannelState {
         ensures { result ≡ reset_reply self }
     {
         if self.is_bad_record() {
-            return refused(18, self);
+            return refused(IsoRefusal::BadRecord, self);
         }
-        let fatal = self.fatal;
-        if !(self.head.count == 0) | has_reason(fatal) {
-            return refused(16, self);
+        if self.head.count != 0 || self.fatal.is_some() {
+            return refused(IsoRefusal::NotEmpty, self);
         }
         self.head.td_last = 0;
         done(false, false, self)

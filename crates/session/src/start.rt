@@ -1,65 +1,35 @@
 // What the caller programs a channel with that starts: document 01, "Submit".
-ghost use Rattle.std.specs.Prelude.{◌≡◌, cond, max};
+ghost use Rattle.std.specs.Prelude.{◌≡◌, cond, Some, None, max};
 ghost use Rattle.session.specs.Scan.{only};
-ghost use Rattle.session.specs.Submit.{start_words, no_start};
+ghost use Rattle.session.specs.Submit.{start_words};
 
 use crate::place::{slots_of, start_of};
 use crate::transfer::{IsoChannelStart, IsoTransfer};
 use crate::types::{IsoConfig, IsoHead};
-use ring::{IsoServiceFrames, iso_pid, iso_schinfo, iso_service_frames};
+use ring::{iso_pid, iso_schinfo, iso_service_frames};
 use words::Dwc2EpType;
 
-fn no_start() -> IsoChannelStart
-    ensures { result ≡ no_start }
-{
-    IsoChannelStart {
-        first: false,
-        hcchar: 0,
-        hctsiz: 0,
-        hcintmsk: 0,
-        frames: IsoServiceFrames {
-            count: 0,
-            frames: [0; 64],
-        },
-    }
-}
-
-// A camera's packet holds at least one byte.
-fn packet_size(max_packet_size: u16) -> u16
-    ensures { result ≡ max 1 max_packet_size }
-{
-    if max_packet_size == 0 {
-        1
-    } else {
-        max_packet_size
-    }
-}
-
-// What the caller programs a channel with that starts now.
+// What the caller programs a channel with that starts now. A camera's packet holds at least one byte.
 fn start_words(cfg: IsoConfig, head: IsoHead, transfer: IsoTransfer) -> IsoChannelStart
     ensures { result ≡ start_words (only cfg head) transfer }
 {
-    let speed = cfg.speed;
-    let direction = cfg.direction;
-    let mps = packet_size(cfg.max_packet_size);
     let start = start_of(cfg, head, transfer);
-    let pid = iso_pid(speed, direction, cfg.mult);
-    let schinfo = iso_schinfo(speed, cfg.interval);
+    let pid = iso_pid(cfg.speed, cfg.direction, cfg.mult);
+    let schinfo = iso_schinfo(cfg.speed, cfg.interval);
     IsoChannelStart {
-        first: true,
         hcchar: words::hcchar(
             cfg.device,
             cfg.endpoint,
-            direction,
+            cfg.direction,
             Dwc2EpType::Isochronous,
-            mps,
+            cfg.max_packet_size.max(1),
             false,
             cfg.mult,
             false,
         ),
         hctsiz: words::hctsiz_ddma(pid, slots_of(cfg) as u32, schinfo),
-        hcintmsk: words::iso_hcintmsk(direction),
-        frames: iso_service_frames(start, cfg.interval, speed),
+        hcintmsk: words::iso_hcintmsk(cfg.direction),
+        frames: iso_service_frames(start, cfg.interval, cfg.speed),
     }
 }
 
@@ -69,11 +39,8 @@ pub(crate) fn start_if(
     cfg: IsoConfig,
     head: IsoHead,
     transfer: IsoTransfer,
-) -> IsoChannelStart
-    ensures { result ≡ cond first (start_words (only cfg head) transfer) no_start }
+) -> Option<IsoChannelStart>
+    ensures { result ≡ cond first (Some (start_words (only cfg head) transfer)) None }
 {
-    if first {
-        return start_words(cfg, head, transfer);
-    }
-    no_start()
+    first.then(|| start_words(cfg, head, transfer))
 }

@@ -1,8 +1,8 @@
 // Submission: document 01, "Submit". The way is decided first; nothing is stored before the last check but gate 2. What the way does
 // to ring, numbers, answer and start is `submit_parts`, on small things; the tables are written in place, by who holds them, since a
 // method that is handed the session copies it.
-ghost use Rattle.std.specs.Prelude.{◌≡◌, List, ◌+◌, ◌≤◌, T, length, take};
-ghost use Rattle.session.specs.declared.types.IsoFatal.{IsoFatal};
+ghost use Rattle.std.specs.Prelude.{◌≡◌, Option, Some, None, List, ◌+◌, ◌≤◌, T, length, take};
+ghost use Rattle.session.specs.declared.types.IsoHaltReason.{IsoHaltReason};
 ghost use Rattle.session.specs.declared.types.IsoRequest.{IsoRequest};
 ghost use Rattle.session.specs.declared.types.IsoPacketPlan.{IsoPacketPlan};
 ghost use Rattle.session.specs.declared.transfer.SubmitWay.TheVariants.{Accept};
@@ -17,26 +17,25 @@ ghost use Rattle.session.specs.Parts.{Parted};
 use crate::open::{clear_ring, ring_words};
 use crate::place::{insert_of, slot_after, slots_of, start_of, step_of};
 use crate::record::RecordScan;
+use crate::refusal::IsoRefusal;
 use crate::start::start_if;
-use crate::transfer::{IsoTransfer, SubmitAnswer, SubmitParts, SubmitScan, SubmitWay, Submitted};
+use crate::transfer::{IsoSubmission, IsoTransfer, SubmitParts, SubmitScan, SubmitWay, Submitted};
 use crate::types::{
-    IsoChannelState, IsoConfig, IsoFatal, IsoHead, IsoOutcome, IsoPacketPlan, IsoRequest,
+    IsoChannelState, IsoConfig, IsoHaltReason, IsoHead, IsoOutcome, IsoPacketPlan, IsoRequest,
     TransferStatus,
 };
 use crate::way::{clash, submit_way};
 use ring::{next_request_id, next_slot, store_packets};
 
-fn answer_of(way: SubmitWay, cfg: IsoConfig, head: IsoHead) -> SubmitAnswer
+fn answer_of(way: SubmitWay, cfg: IsoConfig, head: IsoHead) -> Result<IsoSubmission, IsoRefusal>
     ensures { result ≡ answer_of way (only cfg head) }
 {
     match way {
-        SubmitWay::Refuse(number) => SubmitAnswer::Refused(number),
-        SubmitWay::TooLong(index) => SubmitAnswer::PacketTooLong(index),
-        SubmitWay::Spend(number) => SubmitAnswer::Refused(number),
-        SubmitWay::Early => SubmitAnswer::Refused(14),
-        SubmitWay::Cut => SubmitAnswer::Cut,
-        SubmitWay::Late => SubmitAnswer::Refused(14),
-        SubmitWay::Accept => SubmitAnswer::Accepted(head.next_request_id),
+        SubmitWay::Refuse(refusal) | SubmitWay::Spend(refusal) => Err(refusal),
+        SubmitWay::TooLong(index) => Err(IsoRefusal::PacketTooLong(index)),
+        SubmitWay::Early | SubmitWay::Late => Err(IsoRefusal::Unplugged),
+        SubmitWay::Cut => Ok(IsoSubmission::Cut),
+        SubmitWay::Accept => Ok(IsoSubmission::Accepted(head.next_request_id)),
     }
 }
 
@@ -46,11 +45,7 @@ fn spent_head(head: IsoHead) -> IsoHead
 {
     IsoHead {
         next_request_id: next_request_id(head.next_request_id),
-        live: head.live,
-        td_last: head.td_last,
-        start_full_frame: head.start_full_frame,
-        done: head.done,
-        count: head.count,
+        ..head
     }
 }
 
@@ -60,11 +55,9 @@ fn unplugged_head(head: IsoHead) -> IsoHead
 {
     IsoHead {
         next_request_id: next_request_id(head.next_request_id),
-        live: head.live,
         td_last: 0,
         start_full_frame: 0,
-        done: head.done,
-        count: head.count,
+        ..head
     }
 }
 
@@ -78,8 +71,8 @@ fn started_head(cfg: IsoConfig, head: IsoHead, transfer: IsoTransfer, slot: u16)
         live: true,
         td_last: slot,
         start_full_frame: start_of(cfg, head, transfer),
-        done: head.done,
         count: head.count + 1,
+        ..head
     }
 }
 
@@ -93,15 +86,10 @@ fn head_after(
     requires { way ≡ Accept → head.count ≤ 64 }
     ensures { result ≡ head_after way cfg head transfer slot }
 {
-    let spent = spent_head(head);
-    let unplugged = unplugged_head(head);
     match way {
-        SubmitWay::Refuse(_) => head,
-        SubmitWay::TooLong(_) => spent,
-        SubmitWay::Spend(_) => spent,
-        SubmitWay::Early => unplugged,
-        SubmitWay::Cut => head,
-        SubmitWay::Late => unplugged,
+        SubmitWay::Refuse(_) | SubmitWay::Cut => head,
+        SubmitWay::TooLong(_) | SubmitWay::Spend(_) => spent_head(head),
+        SubmitWay::Early | SubmitWay::Late => unplugged_head(head),
         SubmitWay::Accept => started_head(cfg, head, transfer, slot),
     }
 }
@@ -110,15 +98,7 @@ fn head_after(
 fn added_packets(way: SubmitWay, n: usize) -> usize
     ensures { result ≡ added way n }
 {
-    match way {
-        SubmitWay::Refuse(_) => 0,
-        SubmitWay::TooLong(_) => 0,
-        SubmitWay::Spend(_) => 0,
-        SubmitWay::Early => 0,
-        SubmitWay::Cut => 0,
-        SubmitWay::Late => 0,
-        SubmitWay::Accept => n,
-    }
+    if way == SubmitWay::Accept { n } else { 0 }
 }
 
 // Stores the packets' words, as many as may be.
@@ -151,13 +131,9 @@ fn store_by(
     ensures { ring.new ≡ ring_by way cfg transfer insert lengths.now ring.old }
 {
     match way {
-        SubmitWay::Refuse(_) => {}
-        SubmitWay::TooLong(_) => {}
-        SubmitWay::Spend(_) => {}
-        SubmitWay::Early => clear_ring(ring, ring_words(cfg)),
-        SubmitWay::Cut => store(cfg, transfer, insert, lengths, ring),
-        SubmitWay::Late => clear_ring(ring, ring_words(cfg)),
-        SubmitWay::Accept => store(cfg, transfer, insert, lengths, ring),
+        SubmitWay::Refuse(_) | SubmitWay::TooLong(_) | SubmitWay::Spend(_) => {}
+        SubmitWay::Early | SubmitWay::Late => clear_ring(ring, ring_words(cfg)),
+        SubmitWay::Cut | SubmitWay::Accept => store(cfg, transfer, insert, lengths, ring),
     }
 }
 
@@ -166,30 +142,32 @@ fn asked(
     cfg: IsoConfig,
     head: IsoHead,
     transfer: IsoTransfer,
-    scan: RecordScan,
+    scan: Option<RecordScan>,
     lengths: &[u32],
     ring: &[u32],
-) -> SubmitScan
-    ensures { (fatal : IsoFatal) (requests : List IsoRequest) (plans : List IsoPacketPlan)
+) -> Option<SubmitScan>
+    ensures { (fatal : Option IsoHaltReason) (requests : List IsoRequest) (plans : List IsoPacketPlan)
         → Scanned (whole cfg head fatal requests plans) scan
         → Asked (whole cfg head fatal requests plans) transfer lengths.now ring.now result }
 {
+    let scan = scan?;
     let insert = insert_of(cfg, head, transfer, scan.tail, ring);
-    SubmitScan {
-        bad: scan.bad,
+    Some(SubmitScan {
         all: scan.all,
         pending: scan.pending,
         insert,
         clash: (lengths.len() <= 255) && clash(cfg, insert, &scan.held, lengths.len()),
-    }
+    })
 }
 
 // A submission but for the tables of the session, which its caller holds: the ring is stored to, and the parts say what else is left.
+// The three parts of a session that it reads come one by one: port has a session in bytes and reads these alone, and a struct of them
+// would be taken apart again in each function below.
 pub fn submit_parts(
     cfg: IsoConfig,
     head: IsoHead,
-    fatal: IsoFatal,
-    scan: SubmitScan,
+    fatal: Option<IsoHaltReason>,
+    scan: Option<SubmitScan>,
     transfer: IsoTransfer,
     lengths: &[u32],
     ring: &mut [u32],
@@ -199,8 +177,9 @@ pub fn submit_parts(
         → Parted (whole cfg head fatal requests plans) transfer lengths.now ring.old result ×
         (ring.new ≡ submitted_ring (whole cfg head fatal requests plans) transfer lengths.now ring.old) }
 {
-    let insert = scan.insert;
     let way = submit_way(cfg, head, fatal, scan, transfer, lengths, ring);
+    let found = scan.unwrap_or_default();
+    let insert = found.insert;
     store_by(way, cfg, transfer, insert, lengths, ring);
     let n = added_packets(way, lengths.len());
     let slots = slots_of(cfg);
@@ -211,7 +190,7 @@ pub fn submit_parts(
         start: start_if((n > 0) & !head.live, cfg, head, transfer),
         head: head_after(way, cfg, head, transfer, slot),
         added: n,
-        to: scan.all as usize,
+        to: found.all as usize,
         insert,
         step,
         slots,
@@ -230,43 +209,42 @@ pub fn new_request(id: u64, packets: u16) -> IsoRequest
 }
 
 impl IsoChannelState {
+    // The submission but for the tables.
+    fn parts_of(&self, transfer: IsoTransfer, lengths: &[u32], ring: &mut [u32]) -> SubmitParts
+        ensures { Parted self.now transfer lengths.now ring.old result
+            × (ring.new ≡ submitted_ring self.now transfer lengths.now ring.old) }
+    {
+        let scan = asked(self.cfg, self.head, transfer, self.scan(), lengths, ring);
+        submit_parts(
+            self.cfg, self.head, self.fatal, scan, transfer, lengths, ring,
+        )
+    }
+
     // Hands a request to the ring. What it does follows from the way; the session comes back with the answer.
     pub fn submit(mut self, transfer: IsoTransfer, lengths: &[u32], ring: &mut [u32]) -> Submitted
         ensures { (result ≡ submitted self transfer lengths.now ring.old)
             × (ring.new ≡ submitted_ring self transfer lengths.now ring.old) }
     {
-        let cfg = self.cfg;
         let head = self.head;
-        let fatal = self.fatal;
-        let scan = asked(cfg, head, transfer, self.scan(), lengths, ring);
-        let parts = submit_parts(cfg, head, fatal, scan, transfer, lengths, ring);
+        let parts = self.parts_of(transfer, lengths, ring);
         let n = parts.added;
-        let slots = parts.slots;
-        let step = parts.step;
-        let mut slot = parts.insert % slots;
-        let mut to = parts.to;
-        let mut i: usize = 0;
-        while i < n {
-            self.plans[to] = IsoPacketPlan {
+        let mut slot = parts.insert % parts.slots;
+        for i in 0..n {
+            self.plans[parts.to + i] = IsoPacketPlan {
                 planned: lengths[i] as u16,
                 desc_index: slot,
                 actual: 0,
                 status: TransferStatus::Completed,
             };
-            slot = next_slot(slot, step, slots);
-            to += 1;
-            i += 1;
+            slot = next_slot(slot, parts.step, parts.slots);
         }
         if n > 0 {
             self.requests[head.count as usize] = new_request(head.next_request_id, n as u16);
         }
-        let next = parts.head;
-        let answer = parts.answer;
-        let start = parts.start;
-        self.head = next;
+        self.head = parts.head;
         Submitted {
-            answer,
-            start,
+            answer: parts.answer,
+            start: parts.start,
             session: self,
         }
     }

@@ -1,6 +1,5 @@
-// Blank tables, and sums over the entries in use.
-ghost use Rattle.std.specs.Prelude.{◌≡◌, ◌-◌, ◌≤◌};
-ghost use Rattle.std.proofs.Math.Seq.{slice};
+// Blank entries, and sums over the entries in use.
+ghost use Rattle.std.specs.Prelude.{◌-◌, ◌≡◌, ◌≤◌, length};
 ghost use Rattle.session.specs.Session.{blank_request, blank_plan, packets_of};
 
 use crate::types::{IsoOutcome, IsoPacketPlan, IsoRequest, TransferStatus};
@@ -27,33 +26,20 @@ pub(crate) fn blank_plan() -> IsoPacketPlan
     }
 }
 
-// The packets of the requests from `from` to `to`.
-pub(crate) fn packets_of(requests: [IsoRequest; 64], from: u16, to: u16) -> u32
-    requires { (from ≤ to) × (to ≤ 64) }
-    ensures { result ≡ packets_of (slice from to requests) }
+// The packets of some requests.
+pub(crate) fn packets_of(requests: &[IsoRequest]) -> usize
+    requires { length requests.now ≤ 64 }
+    ensures { result ≡ packets_of requests.now }
 {
-    let mut sum: u32 = 0;
-    let mut i = from as usize;
-    let end = to as usize;
-    while i < end {
-        sum += wide(requests[i].packets);
-        i += 1;
-    }
-    sum
-}
-
-pub(crate) fn wide(x: u16) -> u32
-    ensures { (result ≡ x) × (result ≤ 65535) }
-{
-    x as u32
+    requests
+        .iter()
+        .map(|request| usize::from(request.packets))
+        .sum()
 }
 
 // What is left of `all`.
 pub fn rest(all: u32, used: u32) -> usize
     ensures { result ≡ all - used }
 {
-    if all <= used {
-        return 0;
-    }
-    (all - used) as usize
+    all.saturating_sub(used) as usize
 }

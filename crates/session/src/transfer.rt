@@ -1,9 +1,12 @@
 // What a submission is given and what it answers.
+use crate::refusal::IsoRefusal;
 use crate::types::{IsoChannelState, IsoHead};
 use ring::IsoServiceFrames;
 
 // A request as the caller brings it, beside the lengths of its packets: what kind it is, its buffer, the frame readings, whether a
-// channel is to be had, whether the port is connected before programming and before enabling, and how many words may be stored.
+// channel is to be had, whether the port is connected before programming and before enabling, and how many words may be stored. The
+// buffer's address and length stand beside `has_buffer` and in no Option, as the C call passes them: whoever reads one past the test
+// of `has_buffer` would take the Option apart once more.
 #[derive(Clone, Copy)]
 pub struct IsoTransfer {
     pub isochronous: bool,
@@ -18,11 +21,11 @@ pub struct IsoTransfer {
     pub words: u32,
 }
 
-// What a submission asks of the session's tables: whether the record is bad, and where it is not, the packets of all requests and of
-// the pending ones, the slot of its first packet, and whether one of its slots is a pending request's. Small, since it is handed on.
-#[derive(Clone, Copy)]
+// What a submission asks of the tables of a session whose record is good: the packets of all requests and of the pending ones, the
+// slot of its first packet, and whether one of its slots is a pending request's. Small, since it is handed on; all zero where the
+// record is bad and nothing was asked.
+#[derive(Clone, Copy, Debug, Default, PartialEq, Eq)]
 pub struct SubmitScan {
-    pub bad: bool,
     pub all: u32,
     pub pending: u32,
     pub insert: u16,
@@ -31,29 +34,27 @@ pub struct SubmitScan {
 
 // The way that a submission goes: refused with nothing altered, refused with its number spent, unplugged at a gate, cut, or
 // accepted.
-#[derive(Clone, Copy)]
+#[derive(Clone, Copy, Debug, PartialEq, Eq)]
 pub enum SubmitWay {
-    Refuse(u16),
+    Refuse(IsoRefusal),
     TooLong(u32),
-    Spend(u16),
+    Spend(IsoRefusal),
     Early,
     Cut,
     Late,
     Accept,
 }
 
-#[derive(Clone, Copy)]
-pub enum SubmitAnswer {
+// A submission that is not refused: accepted with its request's number, or cut.
+#[derive(Clone, Copy, Debug, PartialEq, Eq)]
+pub enum IsoSubmission {
     Accepted(u64),
     Cut,
-    Refused(u16),
-    PacketTooLong(u32),
 }
 
-// What the caller programs where the submission was the first; else not `first`, and zeros.
+// What the caller programs where the submission was the first.
 #[derive(Clone, Copy)]
 pub struct IsoChannelStart {
-    pub first: bool,
     pub hcchar: u32,
     pub hctsiz: u32,
     pub hcintmsk: u32,
@@ -64,16 +65,17 @@ pub struct IsoChannelStart {
 #[derive(Clone, Copy)]
 pub struct Submitted {
     pub session: IsoChannelState,
-    pub answer: SubmitAnswer,
-    pub start: IsoChannelStart,
+    pub answer: Result<IsoSubmission, IsoRefusal>,
+    pub start: Option<IsoChannelStart>,
 }
 
 // A submission as small things: what it answers, the numbers that it leaves, and the packets that it adds. Packet i of them has its
-// plan at `to` + i and the slot `insert` + i × `step` in a ring of `slots`.
+// plan at `to` + i and the slot `insert` + i × `step` in a ring of `slots`; the three are no struct, since ring's functions take them
+// one by one.
 #[derive(Clone, Copy)]
 pub struct SubmitParts {
-    pub answer: SubmitAnswer,
-    pub start: IsoChannelStart,
+    pub answer: Result<IsoSubmission, IsoRefusal>,
+    pub start: Option<IsoChannelStart>,
     pub head: IsoHead,
     pub added: usize,
     pub to: usize,

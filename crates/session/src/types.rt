@@ -3,7 +3,7 @@ use ring::Speed;
 use words::{Direction, Dwc2TransferFault};
 
 // Guarded mode adds refusal 13 and nothing else.
-#[derive(Clone, Copy)]
+#[derive(Clone, Copy, Debug, PartialEq, Eq)]
 pub enum IsoMode {
     Compatible,
     Guarded,
@@ -23,20 +23,13 @@ pub struct IsoConfig {
 }
 
 // Why a session is ending.
-#[derive(Clone, Copy)]
+#[derive(Clone, Copy, Debug, PartialEq, Eq)]
 pub enum IsoHaltReason {
     Cancelled,
     Fault(Dwc2TransferFault, u32),
 }
 
-// None while the session runs.
-#[derive(Clone, Copy)]
-pub enum IsoFatal {
-    Nothing,
-    Reason(IsoHaltReason),
-}
-
-#[derive(Clone, Copy)]
+#[derive(Clone, Copy, Debug, PartialEq, Eq)]
 pub enum TransferStatus {
     Completed,
     Error,
@@ -51,8 +44,9 @@ pub struct IsoPacketPlan {
     pub status: TransferStatus,
 }
 
-// How a completed request ended; a pending one has `Done` until it does.
-#[derive(Clone, Copy)]
+// How a completed request ended; a pending one has `Done` until it does. An enum of its own and no Result: it is stored, not answered,
+// and the byte layout has a tag for each of the five.
+#[derive(Clone, Copy, Debug, PartialEq, Eq)]
 pub enum IsoOutcome {
     Done,
     Disconnected,
@@ -69,7 +63,8 @@ pub struct IsoRequest {
     pub outcome: IsoOutcome,
 }
 
-// The numbers of a session: of `count` requests the first `done` are completed, the others pending.
+// The numbers of a session: of `count` requests the first `done` are completed, the others pending. The start stands beside `live`
+// and in no Option, since the byte layout keeps one that isn't live as well.
 #[derive(Clone, Copy)]
 pub struct IsoHead {
     pub next_request_id: u64,
@@ -80,20 +75,14 @@ pub struct IsoHead {
     pub count: u16,
 }
 
-// Requests stand in the order of submission, and the plans of all of them behind one another in the same order. What stands past
-// the counts is not read.
+// `fatal` is None while the session runs. Requests stand in the order of submission, and the plans of all of them behind one another
+// in the same order. What stands past the counts is not read. Tables beside counts, since there is no heap (document 01). That the
+// record is good is a clause of the inner methods and no type of its own: between two writes of a call it is not.
 #[derive(Clone, Copy)]
 pub struct IsoChannelState {
     pub cfg: IsoConfig,
     pub head: IsoHead,
-    pub fatal: IsoFatal,
+    pub fatal: Option<IsoHaltReason>,
     pub requests: [IsoRequest; 64],
     pub plans: [IsoPacketPlan; 1024],
-}
-
-#[derive(Clone, Copy)]
-pub enum OpenAnswer {
-    Opened,
-    ShortRing,
-    BadConfig,
 }

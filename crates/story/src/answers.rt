@@ -1,92 +1,56 @@
 // The session's answers as numbers.
-ghost use Rattle.std.specs.Prelude.{◌≡◌};
-ghost use Rattle.session.specs.Numbers.{submit_number, submit_value, answer_number, reclaim_number, reclaim_length, reclaim_packets};
+ghost use Rattle.std.specs.Prelude.{◌≡◌, Ok, Err};
+ghost use Rattle.session.specs.declared.refusal.IsoRefusal.{IsoRefusal};
+ghost use Rattle.session.specs.Numbers.{refusal_number, submit_value, reclaim_length, reclaim_packets};
 
-use session::{IsoAnswer, IsoOutcome, ReclaimAnswer, SubmitAnswer};
+use session::{IsoCompletion, IsoOutcome, IsoRefusal, IsoSubmission};
 
-pub(crate) fn flag(yes: bool) -> u64 {
-    if yes {
-        return 1;
+// 0 for a call that is not refused.
+pub(crate) fn refusal_of<T: Copy>(answer: Result<T, IsoRefusal>) -> u64
+    ensures done { (given : T) → answer ≡ Ok given → result ≡ 0 }
+    ensures refused { (refusal : IsoRefusal) → answer ≡ Err refusal → result ≡ refusal_number refusal }
+{
+    match answer {
+        Ok(_) => 0,
+        Err(refusal) => u64::from(u16::from(refusal)),
     }
-    0
 }
 
-pub(crate) fn number_of(answer: SubmitAnswer) -> u64
+// The number that a submission drew, or the index of the packet that is too long.
+pub(crate) fn number_of(answer: Result<IsoSubmission, IsoRefusal>) -> u64
     ensures { result ≡ submit_value answer }
 {
     match answer {
-        SubmitAnswer::Accepted(id) => id,
-        SubmitAnswer::Cut => 0,
-        SubmitAnswer::Refused(_) => 0,
-        SubmitAnswer::PacketTooLong(index) => index as u64,
+        Ok(IsoSubmission::Accepted(id)) => id,
+        Err(IsoRefusal::PacketTooLong(index)) => u64::from(index),
+        Ok(IsoSubmission::Cut) | Err(_) => 0,
     }
 }
 
-pub(crate) fn refusal_of(answer: SubmitAnswer) -> u64
-    ensures { result ≡ submit_number answer }
-{
-    match answer {
-        SubmitAnswer::Accepted(_) => 0,
-        SubmitAnswer::Cut => 0,
-        SubmitAnswer::Refused(number) => number as u64,
-        SubmitAnswer::PacketTooLong(_) => 9,
-    }
-}
-
-pub(crate) fn is_cut(answer: SubmitAnswer) -> u64 {
-    match answer {
-        SubmitAnswer::Accepted(_) => 0,
-        SubmitAnswer::Cut => 1,
-        SubmitAnswer::Refused(_) => 0,
-        SubmitAnswer::PacketTooLong(_) => 0,
-    }
-}
-
-pub(crate) fn answer_number(answer: IsoAnswer) -> u64
-    ensures { result ≡ answer_number answer }
-{
-    match answer {
-        IsoAnswer::Done => 0,
-        IsoAnswer::Refused(number) => number as u64,
-    }
-}
-
-pub(crate) fn reclaim_number(answer: ReclaimAnswer) -> u64
-    ensures { result ≡ reclaim_number answer }
-{
-    match answer {
-        ReclaimAnswer::Completed(_, _, _) => 0,
-        ReclaimAnswer::NotYet => 0,
-        ReclaimAnswer::Refused(number) => number as u64,
-    }
-}
-
-pub(crate) fn total_of(answer: ReclaimAnswer) -> u64
+pub(crate) fn total_of(answer: Result<Option<IsoCompletion>, IsoRefusal>) -> u64
     ensures { result ≡ reclaim_length answer }
 {
     match answer {
-        ReclaimAnswer::Completed(_, total, _) => total as u64,
-        ReclaimAnswer::NotYet => 0,
-        ReclaimAnswer::Refused(_) => 0,
+        Ok(Some(completion)) => u64::from(completion.actual_length),
+        Ok(None) | Err(_) => 0,
     }
 }
 
-pub(crate) fn packets_of(answer: ReclaimAnswer) -> u64
+pub(crate) fn packets_of(answer: Result<Option<IsoCompletion>, IsoRefusal>) -> u64
     ensures { result ≡ reclaim_packets answer }
 {
     match answer {
-        ReclaimAnswer::Completed(_, _, packets) => packets as u64,
-        ReclaimAnswer::NotYet => 0,
-        ReclaimAnswer::Refused(_) => 0,
+        Ok(Some(completion)) => u64::from(completion.packets),
+        Ok(None) | Err(_) => 0,
     }
 }
 
 // Done 0, disconnected 1, cancelled 2, a fault 3, an unexpected halt 4; not yet 5, and refused 6.
-pub(crate) fn outcome_of(answer: ReclaimAnswer) -> u64 {
+pub(crate) fn outcome_of(answer: Result<Option<IsoCompletion>, IsoRefusal>) -> u64 {
     match answer {
-        ReclaimAnswer::Completed(outcome, _, _) => kind_of(outcome),
-        ReclaimAnswer::NotYet => 5,
-        ReclaimAnswer::Refused(_) => 6,
+        Ok(Some(completion)) => kind_of(completion.outcome),
+        Ok(None) => 5,
+        Err(_) => 6,
     }
 }
 
@@ -101,20 +65,16 @@ fn kind_of(outcome: IsoOutcome) -> u64 {
 }
 
 // The interrupt word of a fault or of an unexpected halt.
-pub(crate) fn word_of(answer: ReclaimAnswer) -> u64 {
+pub(crate) fn word_of(answer: Result<Option<IsoCompletion>, IsoRefusal>) -> u32 {
     match answer {
-        ReclaimAnswer::Completed(outcome, _, _) => halt_word(outcome),
-        ReclaimAnswer::NotYet => 0,
-        ReclaimAnswer::Refused(_) => 0,
+        Ok(Some(completion)) => halt_word(completion.outcome),
+        Ok(None) | Err(_) => 0,
     }
 }
 
-fn halt_word(outcome: IsoOutcome) -> u64 {
+fn halt_word(outcome: IsoOutcome) -> u32 {
     match outcome {
-        IsoOutcome::Done => 0,
-        IsoOutcome::Disconnected => 0,
-        IsoOutcome::Cancelled => 0,
-        IsoOutcome::Fault(_, word) => word as u64,
-        IsoOutcome::UnexpectedHalt(word) => word as u64,
+        IsoOutcome::Done | IsoOutcome::Disconnected | IsoOutcome::Cancelled => 0,
+        IsoOutcome::Fault(_, word) | IsoOutcome::UnexpectedHalt(word) => word,
     }
 }

@@ -2,15 +2,12 @@
 // last one of a request 0x820000C0.
 ghost use Rattle.std.specs.Prelude.{IfOk, ◌≤◌};
 
-use crate::field::{
-    COUNT, CURSOR, DONE, ENTRIES, FRAME, HALT, HCCHAR, HCTSIZ, LIVE, MASK, NUMBER, OUTCOME,
-    PACKETS, REFUSAL, RESULT_0, RESULT_1, RESULT_2, START, STARTS, TAKEN, TOTAL,
-};
-use crate::row::rows;
+use crate::play::Acts;
+use crate::row::{Row, rows};
 use std::io;
 
-pub(crate) fn all(rt: &impl Print, seen: &[u64]) -> io::Result<u32>
-    ensures { IfOk result (λ n. n ≤ 96) }
+pub(crate) fn all(rt: &impl Print, seen: &Acts) -> io::Result<usize>
+    ensures { IfOk result (λ n. n ≤ 40) }
 {
     Ok(
         programmed(rt, seen)?
@@ -25,149 +22,133 @@ pub(crate) fn all(rt: &impl Print, seen: &[u64]) -> io::Result<u32>
 }
 
 // Scene 1: both readings 8, two packets. Frame 10 is the first that can be reached.
-fn programmed(rt: &impl Print, seen: &[u64]) -> io::Result<u32>
-    ensures { IfOk result (λ n. n ≤ 16) }
-{
-    Ok(
-        rows(
-            rt,
-            1,
-            b" number; starts the channel; HCCHAR; HCTSIZ; interrupt mask; frame list entries;",
-            &[1, 1, 5_540_032, 16_383, 903, 64],
-            0,
-            &[NUMBER, STARTS, HCCHAR, HCTSIZ, MASK, ENTRIES],
-            seen,
-        )? + rows(
-            rt,
-            1,
-            b" first of the frame list;",
-            &[10],
-            0,
-            &[FRAME],
-            seen,
-        )?,
-    )
-}
-
-fn placed(rt: &impl Print, seen: &[u64]) -> io::Result<u32>
-    ensures { IfOk result (λ n. n ≤ 8) }
+fn programmed(rt: &impl Print, seen: &Acts) -> io::Result<usize>
+    ensures { IfOk result (λ n. n ≤ 7) }
 {
     rows(
         rt,
         1,
-        b" word 20; word 21; word 22; word 23; cursor; start;",
-        &[2_147_483_840, 4096, 2_181_038_272, 4288, 12, 10],
-        0,
-        &[20, 21, 22, 23, CURSOR, START],
-        seen,
+        &[
+            Row::says("number", 1, seen[0].said.number),
+            Row::says("starts the channel", 1, seen[0].said.starts),
+            Row::says("HCCHAR", 5_540_032, seen[0].said.hcchar),
+            Row::says("HCTSIZ", 16_383, seen[0].said.hctsiz),
+            Row::says("interrupt mask", 903, seen[0].said.hcintmsk),
+            Row::says("frame list entries", 64, seen[0].said.entries),
+            Row::says("first of the frame list", 10, seen[0].said.frame),
+        ],
+    )
+}
+
+fn placed(rt: &impl Print, seen: &Acts) -> io::Result<usize>
+    ensures { IfOk result (λ n. n ≤ 6) }
+{
+    rows(
+        rt,
+        1,
+        &[
+            Row::says("word 20", 2_147_483_840, seen[0].ring[20]),
+            Row::says("word 21", 4096, seen[0].ring[21]),
+            Row::says("word 22", 2_181_038_272, seen[0].ring[22]),
+            Row::says("word 23", 4288, seen[0].ring[23]),
+            Row::says("cursor", 12, seen[0].head.td_last),
+            Row::says("start", 10, seen[0].head.start_full_frame),
+        ],
     )
 }
 
 // Scene 2: request 1 is still the controller's, so the next one follows it, whatever the readings say.
-fn follows(rt: &impl Print, seen: &[u64]) -> io::Result<u32>
-    ensures { IfOk result (λ n. n ≤ 8) }
+fn follows(rt: &impl Print, seen: &Acts) -> io::Result<usize>
+    ensures { IfOk result (λ n. n ≤ 4) }
 {
     rows(
         rt,
         2,
-        b" number; starts the channel; word 24; cursor;",
-        &[2, 0, 2_181_038_272, 13],
-        1,
-        &[NUMBER, STARTS, 24, CURSOR],
-        seen,
+        &[
+            Row::says("number", 2, seen[1].said.number),
+            Row::says("starts the channel", 0, seen[1].said.starts),
+            Row::says("word 24", 2_181_038_272, seen[1].ring[24]),
+            Row::says("cursor", 13, seen[1].head.td_last),
+        ],
     )
 }
 
 // Scene 3: of the first packet 100 bytes were moved; the second failed with all of its 192 bytes left.
-fn polled(rt: &impl Print, seen: &[u64]) -> io::Result<u32>
-    ensures { IfOk result (λ n. n ≤ 8) }
+fn polled(rt: &impl Print, seen: &Acts) -> io::Result<usize>
+    ensures { IfOk result (λ n. n ≤ 3) }
 {
     rows(
         rt,
         3,
-        b" poll takes the event; poll asks for a halt; completed;",
-        &[1, 0, 1],
-        4,
-        &[TAKEN, HALT, DONE],
-        seen,
+        &[
+            Row::says("poll takes the event", 1, seen[4].said.taken),
+            Row::says("poll asks for a halt", 0, seen[4].said.halt),
+            Row::says("completed", 1, seen[4].head.done),
+        ],
     )
 }
 
-fn freed(rt: &impl Print, seen: &[u64]) -> io::Result<u32>
-    ensures { IfOk result (λ n. n ≤ 8) }
+fn freed(rt: &impl Print, seen: &Acts) -> io::Result<usize>
+    ensures { IfOk result (λ n. n ≤ 5) }
 {
     rows(
         rt,
         3,
-        b" word 20; word 21; word 22; word 23; word 24;",
-        &[0, 0, 0, 0, 2_181_038_272],
-        4,
-        &[20, 21, 22, 23, 24],
-        seen,
+        &[
+            Row::says("word 20", 0, seen[4].ring[20]),
+            Row::says("word 21", 0, seen[4].ring[21]),
+            Row::says("word 22", 0, seen[4].ring[22]),
+            Row::says("word 23", 0, seen[4].ring[23]),
+            Row::says("word 24", 2_181_038_272, seen[4].ring[24]),
+        ],
     )
 }
 
-fn handed_out(rt: &impl Print, seen: &[u64]) -> io::Result<u32>
-    ensures { IfOk result (λ n. n ≤ 16) }
+fn handed_out(rt: &impl Print, seen: &Acts) -> io::Result<usize>
+    ensures { IfOk result (λ n. n ≤ 4) }
 {
-    Ok(
-        rows(
-            rt,
-            3,
-            b" reclaim 2, not yet is 5?",
-            &[5],
-            5,
-            &[OUTCOME],
-            seen,
-        )? + rows(
-            rt,
-            3,
-            b" reclaim 1, done is 0? reclaim 1, total; reclaim 1, packets;",
-            &[0, 100, 2],
-            6,
-            &[OUTCOME, TOTAL, PACKETS],
-            seen,
-        )?,
+    rows(
+        rt,
+        3,
+        &[
+            Row::open("reclaim 2, not yet is 5", 5, seen[5].said.outcome),
+            Row::open("reclaim 1, done is 0", 0, seen[6].said.outcome),
+            Row::says("reclaim 1, total", 100, seen[6].said.total),
+            Row::says("reclaim 1, packets", 2, seen[6].said.packets),
+        ],
     )
 }
 
-fn results(rt: &impl Print, seen: &[u64]) -> io::Result<u32>
-    ensures { IfOk result (λ n. n ≤ 16) }
+fn results(rt: &impl Print, seen: &Acts) -> io::Result<usize>
+    ensures { IfOk result (λ n. n ≤ 4) }
 {
-    Ok(
-        rows(
-            rt,
-            3,
-            b" reclaim 1, result 0? reclaim 1, result 1? reclaim 1, result 2;",
-            &[786_532, 17_563_648, 7],
-            6,
-            &[RESULT_0, RESULT_1, RESULT_2],
-            seen,
-        )? + rows(rt, 3, b" reclaim 1 again;", &[15], 7, &[REFUSAL], seen)?,
+    rows(
+        rt,
+        3,
+        &[
+            Row::open("reclaim 1, result 0", 786_532, seen[6].said.results[0]),
+            Row::open("reclaim 1, result 1", 17_563_648, seen[6].said.results[1]),
+            Row::says("reclaim 1, result 2", 7, seen[6].said.results[2]),
+            Row::says("reclaim 1 again", 15, seen[7].said.refusal),
+        ],
     )
 }
 
 // Scene 4: the complete bit settles request 2 although its descriptor is active, with 192 bytes left.
-fn late(rt: &impl Print, seen: &[u64]) -> io::Result<u32>
-    ensures { IfOk result (λ n. n ≤ 16) }
+fn late(rt: &impl Print, seen: &Acts) -> io::Result<usize>
+    ensures { IfOk result (λ n. n ≤ 7) }
 {
-    Ok(
-        rows(
-            rt,
-            4,
-            b" reclaim 2, done is 0? reclaim 2, total; reclaim 2, result 0? word 24; word 25;",
-            &[0, 0, 786_432, 0, 0],
-            9,
-            &[OUTCOME, TOTAL, RESULT_0, 24, 25],
-            seen,
-        )? + rows(
-            rt,
-            4,
-            b" requests; live channel;",
-            &[0, 1],
-            9,
-            &[COUNT, LIVE],
-            seen,
-        )?,
+    rows(
+        rt,
+        4,
+        &[
+            Row::open("reclaim 2, done is 0", 0, seen[9].said.outcome),
+            Row::says("reclaim 2, total", 0, seen[9].said.total),
+            Row::open("reclaim 2, result 0", 786_432, seen[9].said.results[0]),
+            Row::says("word 24", 0, seen[9].ring[24]),
+            Row::says("word 25", 0, seen[9].ring[25]),
+            Row::says("requests", 0, seen[9].head.count),
+            Row::says("live channel", 1, seen[9].head.live),
+        ],
     )
 }

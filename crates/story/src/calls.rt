@@ -1,20 +1,41 @@
-// The story's calls on the session. Each gives back the session beside nine numbers, so that rows are printed where no session is.
+// The story's calls on the session. Each gives back the session beside what it said, so that rows are printed where no session is.
 // What a call promises is left out.
-use crate::answers::{
-    answer_number, flag, is_cut, number_of, outcome_of, packets_of, reclaim_number, refusal_of,
-    total_of, word_of,
-};
+use crate::answers::{number_of, outcome_of, packets_of, refusal_of, total_of, word_of};
 use ring::Speed;
 use session::{
-    IsoAnswer, IsoChannelStart, IsoChannelState, IsoConfig, IsoEvent, IsoHead, IsoMode, IsoReply,
-    IsoTransfer, ReclaimAnswer, SubmitAnswer,
+    IsoChannelStart, IsoChannelState, IsoCompletion, IsoConfig, IsoEvent, IsoMode, IsoRefusal,
+    IsoReply, IsoSubmission, IsoTransfer,
 };
 use words::Direction;
+
+// What a call said, in numbers; what it has no word for is 0 or no.
+#[derive(Clone, Copy, Default)]
+pub(crate) struct Said {
+    pub refusal: u64,
+    // Of a submission: the number it drew, whether it was cut, whether it starts the channel, and what with.
+    pub number: u64,
+    pub cut: bool,
+    pub starts: bool,
+    pub hcchar: u32,
+    pub hctsiz: u32,
+    pub hcintmsk: u32,
+    pub entries: u16,
+    pub frame: u8,
+    // Of a poll, cancel, reset or recovery: whether it took the event, and whether it asks for a halt.
+    pub taken: bool,
+    pub halt: bool,
+    // Of a reclaim: how the request ended, the interrupt word of a fault, and the first three results.
+    pub outcome: u64,
+    pub fault: u32,
+    pub total: u64,
+    pub packets: u64,
+    pub results: [u64; 3],
+}
 
 #[derive(Clone, Copy)]
 pub(crate) struct Step {
     pub session: IsoChannelState,
-    pub said: [u64; 9],
+    pub said: Said,
 }
 
 // Full speed, IN, interval 1, packets of 192 bytes, guarded.
@@ -29,8 +50,7 @@ pub(crate) fn open(ring: &mut [u32]) -> IsoChannelState {
         mult: 1,
         mode: IsoMode::Guarded,
     };
-    let opened = IsoChannelState::open(config, ring);
-    opened.session
+    IsoChannelState::open(config, ring).session
 }
 
 // One packet of 192 bytes, every word stored.
@@ -48,7 +68,7 @@ pub(crate) fn submit_two(
     submit(session, transfer(reading, 384, words), &[192, 192], ring)
 }
 
-// A buffer at 4096, both readings the same, nothing in its way.
+// A buffer at 4096, both readings the same, nothing in its way. Each program has its own: a crate for ten fields is no plainer.
 fn transfer(reading: u32, bytes: u32, words: u32) -> IsoTransfer {
     IsoTransfer {
         isochronous: true,
@@ -71,50 +91,50 @@ fn submit(
     ring: &mut [u32],
 ) -> Step {
     let done = session.submit(request, lengths, ring);
-    let answer = done.answer;
-    let start = done.start;
-    let session = done.session;
-    let said = sent_numbers(answer, start);
-    Step { session, said }
+    Step {
+        session: done.session,
+        said: sent(done.answer, done.start),
+    }
 }
 
-// The number it drew, 0 where it drew none; its refusal; 1 where it was cut; 1 where it starts the channel, and what with.
-fn sent_numbers(answer: SubmitAnswer, start: IsoChannelStart) -> [u64; 9] {
-    let frames = start.frames;
-    let list = frames.frames;
-    [
-        number_of(answer),
-        refusal_of(answer),
-        is_cut(answer),
-        flag(start.first),
-        start.hcchar as u64,
-        start.hctsiz as u64,
-        start.hcintmsk as u64,
-        frames.count as u64,
-        byte(list[0]),
-    ]
-}
-
-fn byte(x: u8) -> u64 {
-    x as u64
+fn sent(answer: Result<IsoSubmission, IsoRefusal>, start: Option<IsoChannelStart>) -> Said {
+    let said = Said {
+        refusal: refusal_of(answer),
+        number: number_of(answer),
+        cut: matches!(answer, Ok(IsoSubmission::Cut)),
+        ..Said::default()
+    };
+    let Some(start) = start else {
+        return said;
+    };
+    Said {
+        starts: true,
+        hcchar: start.hcchar,
+        hctsiz: start.hctsiz,
+        hcintmsk: start.hcintmsk,
+        entries: start.frames.count,
+        frame: start.frames.frames[0],
+        ..said
+    }
 }
 
 // What the controller stores into a word of the ring.
 pub(crate) fn serve(session: IsoChannelState, ring: &mut [u32], at: usize, word: u32) -> Step {
-    if at < ring.len() {
-        ring[at] = word;
+    if let Some(status) = ring.get_mut(at) {
+        *status = word;
     }
-    let said = [0u64; 9];
-    Step { session, said }
+    Step {
+        session,
+        said: Said::default(),
+    }
 }
 
 pub(crate) fn poll(session: IsoChannelState, hcint: u32, ring: &mut [u32]) -> Step {
     let event = IsoEvent {
-        reported: true,
         unplugged: false,
         hcint,
     };
-    told(session.poll_channel(event, ring))
+    told(session.poll_channel(Some(event), ring))
 }
 
 pub(crate) fn cancel(session: IsoChannelState, id: u64) -> Step {
@@ -130,65 +150,35 @@ pub(crate) fn recover(session: IsoChannelState, ring: &mut [u32]) -> Step {
 }
 
 fn told(reply: IsoReply) -> Step {
-    let answer = reply.answer;
-    let session = reply.session;
-    let said = told_numbers(answer, reply.taken, reply.halt);
-    Step { session, said }
-}
-
-// Its refusal; 1 where it took the event; 1 where it asks for a halt.
-fn told_numbers(answer: IsoAnswer, taken: bool, halt: bool) -> [u64; 9] {
-    [
-        0,
-        answer_number(answer),
-        flag(taken),
-        flag(halt),
-        0,
-        0,
-        0,
-        0,
-        0,
-    ]
+    Step {
+        session: reply.session,
+        said: Said {
+            refusal: refusal_of(reply.answer),
+            taken: reply.taken,
+            halt: reply.halt,
+            ..Said::default()
+        },
+    }
 }
 
 // With no event, and results that were all 7.
 pub(crate) fn reclaim(session: IsoChannelState, id: u64, ring: &mut [u32]) -> Step {
     let mut results = [7u64; 255];
-    let event = IsoEvent {
-        reported: false,
-        unplugged: false,
-        hcint: 0,
-    };
-    let done = session.reclaim(id, event, ring, &mut results);
-    let answer = done.answer;
-    let session = done.session;
-    let said = handed_numbers(answer, results[0], results[1], results[2]);
-    Step { session, said }
+    let done = session.reclaim(id, None, ring, &mut results);
+    Step {
+        session: done.session,
+        said: handed(done.answer, [results[0], results[1], results[2]]),
+    }
 }
 
-// How the request ended; the refusal; the interrupt word of a fault; total and packets; the first three results.
-fn handed_numbers(answer: ReclaimAnswer, first: u64, second: u64, third: u64) -> [u64; 9] {
-    [
-        outcome_of(answer),
-        reclaim_number(answer),
-        word_of(answer),
-        total_of(answer),
-        packets_of(answer),
-        first,
-        second,
-        third,
-        0,
-    ]
-}
-
-// The session's own numbers.
-pub(crate) fn head_numbers(head: IsoHead) -> [u64; 6] {
-    [
-        flag(head.live),
-        head.td_last as u64,
-        head.start_full_frame as u64,
-        head.done as u64,
-        head.count as u64,
-        head.next_request_id,
-    ]
+fn handed(answer: Result<Option<IsoCompletion>, IsoRefusal>, results: [u64; 3]) -> Said {
+    Said {
+        refusal: refusal_of(answer),
+        outcome: outcome_of(answer),
+        fault: word_of(answer),
+        total: total_of(answer),
+        packets: packets_of(answer),
+        results,
+        ..Said::default()
+    }
 }

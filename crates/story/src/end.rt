@@ -1,14 +1,12 @@
 // Scenes 6 to 8: cancel, reset, and a submission that is cut, with the recovery from it.
 ghost use Rattle.std.specs.Prelude.{IfOk, ◌≤◌};
 
-use crate::field::{
-    CURSOR, CUT, HALT, LIVE, NEXT, NUMBER, OUTCOME, REFUSAL, RESULT_0, START, STARTS, TAKEN, TOTAL,
-};
-use crate::row::rows;
+use crate::play::Acts;
+use crate::row::{Row, rows};
 use std::io;
 
-pub(crate) fn all(rt: &impl Print, seen: &[u64]) -> io::Result<u32>
-    ensures { IfOk result (λ n. n ≤ 168) }
+pub(crate) fn all(rt: &impl Print, seen: &Acts) -> io::Result<usize>
+    ensures { IfOk result (λ n. n ≤ 44) }
 {
     Ok(
         cancelled(rt, seen)?
@@ -24,207 +22,149 @@ pub(crate) fn all(rt: &impl Print, seen: &[u64]) -> io::Result<u32>
 }
 
 // Scene 6: request 4 is cancelled while it is pending. The session is ending from the first cancel on.
-fn cancelled(rt: &impl Print, seen: &[u64]) -> io::Result<u32>
-    ensures { IfOk result (λ n. n ≤ 40) }
+fn cancelled(rt: &impl Print, seen: &Acts) -> io::Result<usize>
+    ensures { IfOk result (λ n. n ≤ 6) }
 {
-    Ok(
-        rows(
-            rt,
-            6,
-            b" number; word 20;",
-            &[4, 2_181_038_272],
-            17,
-            &[NUMBER, 20],
-            seen,
-        )? + rows(
-            rt,
-            6,
-            b" cancel 4, asks for a halt;",
-            &[1],
-            18,
-            &[HALT],
-            seen,
-        )? + rows(rt, 6, b" again, asks for a halt;", &[0], 19, &[HALT], seen)?
-            + rows(rt, 6, b" cancel 99;", &[15], 20, &[REFUSAL], seen)?
-            + rows(rt, 6, b" reset;", &[16], 21, &[REFUSAL], seen)?,
+    rows(
+        rt,
+        6,
+        &[
+            Row::says("number", 4, seen[17].said.number),
+            Row::says("word 20", 2_181_038_272, seen[17].ring[20]),
+            Row::says("cancel 4, asks for a halt", 1, seen[18].said.halt),
+            Row::says("again, asks for a halt", 0, seen[19].said.halt),
+            Row::says("cancel 99", 15, seen[20].said.refusal),
+            Row::says("reset", 16, seen[21].said.refusal),
+        ],
     )
 }
 
-fn halted(rt: &impl Print, seen: &[u64]) -> io::Result<u32>
-    ensures { IfOk result (λ n. n ≤ 16) }
+fn halted(rt: &impl Print, seen: &Acts) -> io::Result<usize>
+    ensures { IfOk result (λ n. n ≤ 3) }
 {
-    Ok(
-        rows(rt, 6, b" halted, taken;", &[1], 22, &[TAKEN], seen)?
-            + rows(
-                rt,
-                6,
-                b" reclaim 4, cancelled is 2? reclaim 4, result 0;",
-                &[2, 7],
-                23,
-                &[OUTCOME, RESULT_0],
-                seen,
-            )?,
+    rows(
+        rt,
+        6,
+        &[
+            Row::says("halted, taken", 1, seen[22].said.taken),
+            Row::open("reclaim 4, cancelled is 2", 2, seen[23].said.outcome),
+            Row::says("reclaim 4, result 0", 7, seen[23].said.results[0]),
+        ],
     )
 }
 
 // Request 5 is cancelled after the controller moved all of it.
-fn cancelled_late(rt: &impl Print, seen: &[u64]) -> io::Result<u32>
-    ensures { IfOk result (λ n. n ≤ 24) }
+fn cancelled_late(rt: &impl Print, seen: &Acts) -> io::Result<usize>
+    ensures { IfOk result (λ n. n ≤ 6) }
 {
-    Ok(
-        rows(
-            rt,
-            6,
-            b" next number; next, word 20;",
-            &[5, 2_181_038_272],
-            24,
-            &[NUMBER, 20],
-            seen,
-        )? + rows(
-            rt,
-            6,
-            b" cancel 5, asks for a halt;",
-            &[0],
-            27,
-            &[HALT],
-            seen,
-        )? + rows(
-            rt,
-            6,
-            b" reclaim 5, cancelled is 2? reclaim 5, total? reclaim 5, result 0;",
-            &[2, 0, 7],
-            28,
-            &[OUTCOME, TOTAL, RESULT_0],
-            seen,
-        )?,
+    rows(
+        rt,
+        6,
+        &[
+            Row::says("next number", 5, seen[24].said.number),
+            Row::says("next, word 20", 2_181_038_272, seen[24].ring[20]),
+            Row::says("cancel 5, asks for a halt", 0, seen[27].said.halt),
+            Row::open("reclaim 5, cancelled is 2", 2, seen[28].said.outcome),
+            Row::open("reclaim 5, total", 0, seen[28].said.total),
+            Row::says("reclaim 5, result 0", 7, seen[28].said.results[0]),
+        ],
     )
 }
 
 // Scene 7: the channel is live and nothing is there.
-fn emptied(rt: &impl Print, seen: &[u64]) -> io::Result<u32>
-    ensures { IfOk result (λ n. n ≤ 16) }
+fn emptied(rt: &impl Print, seen: &Acts) -> io::Result<usize>
+    ensures { IfOk result (λ n. n ≤ 5) }
 {
-    Ok(
-        rows(
-            rt,
-            7,
-            b" live channel; cursor;",
-            &[1, 11],
-            28,
-            &[LIVE, CURSOR],
-            seen,
-        )? + rows(
-            rt,
-            7,
-            b" reset; cursor then; start;",
-            &[0, 0, 10],
-            29,
-            &[REFUSAL, CURSOR, START],
-            seen,
-        )?,
+    rows(
+        rt,
+        7,
+        &[
+            Row::says("live channel", 1, seen[28].head.live),
+            Row::says("cursor", 11, seen[28].head.td_last),
+            Row::says("reset", 0, seen[29].said.refusal),
+            Row::says("cursor then", 0, seen[29].head.td_last),
+            Row::says("start", 10, seen[29].head.start_full_frame),
+        ],
     )
 }
 
 // Scene 8: behind request 6, one of two packets is cut after three words: its second status is not stored.
-fn placed(rt: &impl Print, seen: &[u64]) -> io::Result<u32>
-    ensures { IfOk result (λ n. n ≤ 8) }
+fn placed(rt: &impl Print, seen: &Acts) -> io::Result<usize>
+    ensures { IfOk result (λ n. n ≤ 3) }
 {
     rows(
         rt,
         8,
-        b" number; word 44; cursor;",
-        &[6, 2_181_038_272, 23],
-        30,
-        &[NUMBER, 44, CURSOR],
-        seen,
+        &[
+            Row::says("number", 6, seen[30].said.number),
+            Row::says("word 44", 2_181_038_272, seen[30].ring[44]),
+            Row::says("cursor", 23, seen[30].head.td_last),
+        ],
     )
 }
 
-fn cut_short(rt: &impl Print, seen: &[u64]) -> io::Result<u32>
-    ensures { IfOk result (λ n. n ≤ 16) }
+fn cut_short(rt: &impl Print, seen: &Acts) -> io::Result<usize>
+    ensures { IfOk result (λ n. n ≤ 7) }
 {
-    Ok(
-        rows(
-            rt,
-            8,
-            b" three words, cut; cut, word 47; cut, word 46; cut, word 49; cut, word 48;",
-            &[1, 4096, 2_147_483_840, 4288, 0],
-            31,
-            &[CUT, 47, 46, 49, 48],
-            seen,
-        )? + rows(
-            rt,
-            8,
-            b" cut, next number; cut, cursor;",
-            &[7, 23],
-            31,
-            &[NEXT, CURSOR],
-            seen,
-        )?,
+    rows(
+        rt,
+        8,
+        &[
+            Row::says("three words, cut", 1, seen[31].said.cut),
+            Row::says("cut, word 47", 4096, seen[31].ring[47]),
+            Row::says("cut, word 46", 2_147_483_840, seen[31].ring[46]),
+            Row::says("cut, word 49", 4288, seen[31].ring[49]),
+            Row::says("cut, word 48", 0, seen[31].ring[48]),
+            Row::says("cut, next number", 7, seen[31].head.next_request_id),
+            Row::says("cut, cursor", 23, seen[31].head.td_last),
+        ],
     )
 }
 
-fn recovered(rt: &impl Print, seen: &[u64]) -> io::Result<u32>
-    ensures { IfOk result (λ n. n ≤ 16) }
+fn recovered(rt: &impl Print, seen: &Acts) -> io::Result<usize>
+    ensures { IfOk result (λ n. n ≤ 5) }
 {
-    Ok(
-        rows(
-            rt,
-            8,
-            b" recovery; recovered, live channel; recovered, cursor; recovered, start;",
-            &[0, 0, 0, 0],
-            32,
-            &[REFUSAL, LIVE, CURSOR, START],
-            seen,
-        )? + rows(rt, 8, b" recovered, next number;", &[7], 32, &[NEXT], seen)?,
+    rows(
+        rt,
+        8,
+        &[
+            Row::says("recovery", 0, seen[32].said.refusal),
+            Row::says("recovered, live channel", 0, seen[32].head.live),
+            Row::says("recovered, cursor", 0, seen[32].head.td_last),
+            Row::says("recovered, start", 0, seen[32].head.start_full_frame),
+            Row::says("recovered, next number", 7, seen[32].head.next_request_id),
+        ],
     )
 }
 
-fn zeroed(rt: &impl Print, seen: &[u64]) -> io::Result<u32>
-    ensures { IfOk result (λ n. n ≤ 16) }
+fn zeroed(rt: &impl Print, seen: &Acts) -> io::Result<usize>
+    ensures { IfOk result (λ n. n ≤ 6) }
 {
-    Ok(
-        rows(
-            rt,
-            8,
-            b" recovered, word 44; recovered, word 45; recovered, word 46; recovered, word 47;",
-            &[0, 0, 0, 0],
-            32,
-            &[44, 45, 46, 47],
-            seen,
-        )? + rows(
-            rt,
-            8,
-            b" recovered, word 48; recovered, word 49;",
-            &[0, 0],
-            32,
-            &[48, 49],
-            seen,
-        )?,
+    rows(
+        rt,
+        8,
+        &[
+            Row::says("recovered, word 44", 0, seen[32].ring[44]),
+            Row::says("recovered, word 45", 0, seen[32].ring[45]),
+            Row::says("recovered, word 46", 0, seen[32].ring[46]),
+            Row::says("recovered, word 47", 0, seen[32].ring[47]),
+            Row::says("recovered, word 48", 0, seen[32].ring[48]),
+            Row::says("recovered, word 49", 0, seen[32].ring[49]),
+        ],
     )
 }
 
 // The number that the cut call drew is drawn again.
-fn goes_on(rt: &impl Print, seen: &[u64]) -> io::Result<u32>
-    ensures { IfOk result (λ n. n ≤ 16) }
+fn goes_on(rt: &impl Print, seen: &Acts) -> io::Result<usize>
+    ensures { IfOk result (λ n. n ≤ 3) }
 {
-    Ok(
-        rows(
-            rt,
-            8,
-            b" reclaim 6, disconnected is 1?",
-            &[1],
-            33,
-            &[OUTCOME],
-            seen,
-        )? + rows(
-            rt,
-            8,
-            b" number after recovery; starts the channel;",
-            &[7, 1],
-            34,
-            &[NUMBER, STARTS],
-            seen,
-        )?,
+    rows(
+        rt,
+        8,
+        &[
+            Row::open("reclaim 6, disconnected is 1", 1, seen[33].said.outcome),
+            Row::says("number after recovery", 7, seen[34].said.number),
+            Row::says("starts the channel", 1, seen[34].said.starts),
+        ],
     )
 }

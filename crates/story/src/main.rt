@@ -7,15 +7,13 @@ mod begin;
 mod calls;
 mod end;
 mod fault;
-mod field;
 mod play;
 mod row;
 
 use std::io;
 
 fn main(rt: HostRuntime) -> io::Result<()> {
-    let mut seen = [0u64; 1750];
-    play::all(&play::SCRIPT, &mut seen);
+    let seen = play::all();
     row::last(
         &rt,
         begin::all(&rt, &seen)? + fault::all(&rt, &seen)? + end::all(&rt, &seen)?,

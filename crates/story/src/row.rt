@@ -1,78 +1,87 @@
 // The printed lines, one for each number.
-ghost use Rattle.std.specs.Prelude.{IfOk, ◌≤◌};
+ghost use Rattle.std.specs.Prelude.{IfOk, ◌≤◌, length};
 
-use crate::play::seen_at;
-use std::io;
+use std::{fmt, io};
 
-// Up to eight lines on what was seen after an act: their names, what each number is to be, and which of the act's numbers it is. A name
-// has a space before it, and behind it a semicolon where document 01 says the number, or a question mark where document 01 leaves it
-// open: the layout of a result, the number of an outcome, the total of an error. How many differ.
-pub(crate) fn rows(
-    rt: &impl Print,
-    scene: u64,
-    names: &[u8],
-    says: &[u64],
-    act: usize,
-    fields: &[usize],
-    seen: &[u64],
-) -> io::Result<u32>
-    ensures { IfOk result (λ n. n ≤ 8) }
+// Where the number that a call is to answer stands: document 01 says it, or leaves it open, as the layout of a result, the number of
+// an outcome and the total of an error.
+#[derive(Clone, Copy)]
+enum Source {
+    Document,
+    Open,
+}
+
+impl fmt::Display for Source {
+    fn fmt<W: fmt::Write>(&self, f: &mut fmt::Formatter<W>) -> fmt::Result {
+        f.write_str(match self {
+            Source::Document => "document 01 says",
+            Source::Open => "expected",
+        })
+    }
+}
+
+// A number by its name, what it is to be and what the code answers.
+#[derive(Clone, Copy)]
+pub(crate) struct Row {
+    name: &'static str,
+    source: Source,
+    wanted: u64,
+    answers: u64,
+}
+
+impl Row {
+    pub(crate) fn says(name: &'static str, wanted: u64, answers: impl Into<u64>) -> Row {
+        Row {
+            name,
+            source: Source::Document,
+            wanted,
+            answers: answers.into(),
+        }
+    }
+
+    pub(crate) fn open(name: &'static str, wanted: u64, answers: impl Into<u64>) -> Row {
+        Row {
+            name,
+            source: Source::Open,
+            wanted,
+            answers: answers.into(),
+        }
+    }
+
+    fn differs(&self) -> bool {
+        self.wanted != self.answers
+    }
+}
+
+impl fmt::Display for Row {
+    fn fmt<W: fmt::Write>(&self, f: &mut fmt::Formatter<W>) -> fmt::Result {
+        let Row {
+            name,
+            source,
+            wanted,
+            answers,
+        } = *self;
+        let mark = if self.differs() { ": WRONG" } else { "" };
+        write!(
+            f,
+            "{name}: {source} {wanted}, the code answers {answers}{mark}"
+        )
+    }
+}
+
+// A scene's lines. How many differ.
+pub(crate) fn rows(rt: &impl Print, scene: u8, rows: &[Row]) -> io::Result<usize>
+    ensures { IfOk result (λ n. n ≤ length rows.now) }
 {
-    let mut at: usize = 0;
-    let mut i: usize = 0;
-    let mut wrong: u32 = 0;
-    while i < 8 {
-        if i >= says.len() {
-            return Ok(wrong);
-        }
-        if i >= fields.len() {
-            return Ok(wrong);
-        }
-        begin(rt, scene)?;
-        at = name(rt, names, at)?;
-        wrong += compared(rt, says[i], seen_at(seen, act, fields[i]))?;
-        i += 1;
+    let mut wrong = 0;
+    for row in rows {
+        println!(rt; "story {scene}, {row}")?;
+        wrong += usize::from(row.differs());
     }
     Ok(wrong)
 }
 
 // The last line: how many differ.
-pub(crate) fn last(rt: &impl Print, wrong: u32) -> io::Result<()> {
+pub(crate) fn last(rt: &impl Print, wrong: usize) -> io::Result<()> {
     println!(rt; "{wrong} differ")
-}
-
-fn begin(rt: &impl Print, scene: u64) -> io::Result<()> {
-    print!(rt; "story {scene},")
-}
-
-// Prints the name that begins here and whose number follows; the place behind the name.
-fn name(rt: &impl Print, names: &[u8], from: usize) -> io::Result<usize> {
-    let mut at = from;
-    while at < names.len() {
-        let byte = names[at];
-        at += 1;
-        if byte == b';' {
-            rt.print(": document 01 says ")?;
-            return Ok(at);
-        }
-        if byte == b'?' {
-            rt.print(": expected ")?;
-            return Ok(at);
-        }
-        rt.write_all(&[byte])?;
-    }
-    Ok(at)
-}
-
-// 1 where they differ.
-fn compared(rt: &impl Print, says: u64, answers: u64) -> io::Result<u32>
-    ensures { IfOk result (λ n. n ≤ 1) }
-{
-    print!(rt; "{says}, the code answers {answers}")?;
-    if says == answers {
-        println!(rt)?;
-        return Ok(0);
-    }
-    println!(rt; ": WRONG")?;
-    Ok(1)
 }

@@ -1,4 +1,5 @@
 pub mod Fields
 pub mod Limits
+pub mod Packets
 pub mod Tests
 pub mod Words

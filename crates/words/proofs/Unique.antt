@@ -12,6 +12,7 @@ use Rattle.words.proofs.descriptor
 use Rattle.words.proofs.descriptor.DmaDescriptor
 use Rattle.words.proofs.interrupt
 use Rattle.words.proofs.lent
+use Rattle.words.proofs.numbers
 
 -- a promise fixes the result, and what lies behind each reference at the exit
 abbrev pub Unique : (n : ℕ) (ps : List (ParamKind n)) (r : ResultKind n) → Out n ps r → Type 0
@@ -112,3 +113,15 @@ is_active_at_unique κs a x y u v = equal refl
 
 pub clear_slot_unique : Unique 1 lent.clear_slot.Kinds.ps lent.clear_slot.Kinds.r lent.clear_slot.Reads.Post
 clear_slot_unique κs a x y u v = equal_lent (λ (words : List ℕ). (words, (tt, tt)))
+
+pub direction_number_unique : Unique 0 numbers.U32FromDirection.from.Kinds.ps numbers.U32FromDirection.from.Kinds.r numbers.U32FromDirection.from.Reads.Post
+direction_number_unique κs a x y u v p q = equal refl p.0 q.0
+
+pub ep_type_number_unique : Unique 0 numbers.U32FromDwc2EpType.from.Kinds.ps numbers.U32FromDwc2EpType.from.Kinds.r numbers.U32FromDwc2EpType.from.Reads.Post
+ep_type_number_unique κs a x y u v p q = equal refl p.0 q.0
+
+pub pid_number_unique : Unique 0 numbers.U32FromDwc2Pid.from.Kinds.ps numbers.U32FromDwc2Pid.from.Kinds.r numbers.U32FromDwc2Pid.from.Reads.Post
+pid_number_unique κs a x y u v p q = equal refl p.0 q.0
+
+pub fault_number_unique : Unique 0 numbers.U32FromDwc2TransferFault.from.Kinds.ps numbers.U32FromDwc2TransferFault.from.Kinds.r numbers.U32FromDwc2TransferFault.from.Reads.Post
+fault_number_unique κs a x y u v p q = equal refl p.0 q.0

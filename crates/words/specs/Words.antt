@@ -1,5 +1,5 @@
 -- Document 01, "Words": each field by its place and width, and each word by its fields, in 01's order.
-use Rattle.std.specs.Prelude.{ℕ, ◌+◌, ◌-◌, ◌*◌, ◌/◌, max, Bool, true, false, cond, List, [], ◌∷◌, eqb, ltb}
+use Rattle.std.specs.Prelude.{ℕ, ◌+◌, ◌-◌, ◌*◌, ◌/◌, max, Bool, true, false, cond, Option, Some, None, List, [], ◌∷◌, eqb, ltb}
 use Rattle.words.specs.Field.{Field, Entry, bits, bit, ◌≔◌, get, word}
 use Rattle.words.specs.Numbers.{flag_of, direction_number, ep_type_number, pid_number, fault_bit}
 use Rattle.words.specs.declared.types.Direction.{Direction}
@@ -9,8 +9,6 @@ use Rattle.words.specs.declared.types.Dwc2EpType.TheVariants.{Control, Isochrono
 use Rattle.words.specs.declared.types.Dwc2Pid.{Dwc2Pid}
 use Rattle.words.specs.declared.types.Dwc2TransferFault.{Dwc2TransferFault}
 use Rattle.words.specs.declared.types.Dwc2TransferFault.TheVariants.{Ahb, Stall, Babble, Transaction, FrameOverrun, DataToggle}
-use Rattle.words.specs.declared.types.HcintFault.{HcintFault}
-use Rattle.words.specs.declared.types.HcintFault.TheVariants.{Nothing, Fault}
 
 abbrev pub is_set : Field → ℕ → Bool
 is_set f w = eqb (get f w) 1
@@ -145,14 +143,14 @@ abbrev pub fault_field : Dwc2TransferFault → Field
 fault_field f = bit (fault_bit f)
 
 -- "The fault is the first set of 2, 3, 8, 7, 9, 10."
-abbrev pub first_fault : List Dwc2TransferFault → ℕ → HcintFault
-first_fault [] w = Nothing
-first_fault (f ∷ fs) w = cond (is_set (fault_field f) w) (Fault f) (first_fault fs w)
+abbrev pub first_fault : List Dwc2TransferFault → ℕ → Option Dwc2TransferFault
+first_fault [] w = None
+first_fault (f ∷ fs) w = cond (is_set (fault_field f) w) (Some f) (first_fault fs w)
 
 abbrev pub fault_order : List Dwc2TransferFault
 fault_order = Ahb ∷ Stall ∷ Babble ∷ Transaction ∷ FrameOverrun ∷ DataToggle ∷ []
 
-abbrev pub hcint_fault : ℕ → HcintFault
+abbrev pub hcint_fault : ℕ → Option Dwc2TransferFault
 hcint_fault w = first_fault fault_order w
 
 -- 01, "Submit": "the interrupt mask: bits 0, 1, 2, 9, for IN also 7, 8"

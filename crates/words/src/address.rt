@@ -6,8 +6,5 @@ ghost use Rattle.words.specs.Words.{is_beyond};
 pub fn is_beyond(base: u64, bytes: u64) -> bool
     ensures { result ≡ is_beyond base bytes }
 {
-    if base > 4_294_967_295 {
-        return true;
-    }
-    bytes > 4_294_967_295 - base
+    base.saturating_add(bytes) > 4_294_967_295
 }

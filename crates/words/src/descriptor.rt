@@ -3,7 +3,6 @@ ghost use Rattle.std.specs.Prelude.{◌≡◌, true, false};
 ghost use Rattle.words.specs.Words.{iso_status, chain_status, setup_status, initial_len, moved_length, is_set, is_packet_error, byte_count, iso_byte_count, active};
 ghost use Rattle.words.specs.Field.{get};
 
-use crate::numbers::{at_least_one, flag};
 use crate::types::Direction;
 
 #[derive(Clone, Copy)]
@@ -25,7 +24,7 @@ impl DmaDescriptor {
     pub fn new_iso(paddr: u32, len: u32, last: bool) -> Self
         ensures { result ≡ record { status = iso_status len last; paddr = paddr } }
     {
-        let status = iso_status(len, last);
+        let status = ACTIVE + u32::from(last) * INTERRUPT + len % 4_096;
         DmaDescriptor { status, paddr }
     }
 
@@ -41,15 +40,22 @@ impl DmaDescriptor {
     pub fn new_in(paddr: u32, len: u32, mps: u16, last: bool) -> Self
         ensures { result ≡ record { status = chain_status (initial_len len mps true) last; paddr = paddr } }
     {
-        let status = chain_status(initial_len(len, mps, true), last);
-        DmaDescriptor { status, paddr }
+        DmaDescriptor::new_link(paddr, initial_len(len, mps, true), last)
     }
 
     // A link of an OUT chain.
     pub fn new_out(paddr: u32, len: u32, mps: u16, last: bool) -> Self
         ensures { result ≡ record { status = chain_status (initial_len len mps false) last; paddr = paddr } }
     {
-        let status = chain_status(initial_len(len, mps, false), last);
+        DmaDescriptor::new_link(paddr, initial_len(len, mps, false), last)
+    }
+
+    // A link of a chain: the last ends the list and interrupts.
+    fn new_link(paddr: u32, count: u64, last: bool) -> Self
+        ensures { result ≡ record { status = chain_status count last; paddr = paddr } }
+    {
+        let bytes = (count % 131_072) as u32;
+        let status = ACTIVE + u32::from(last) * (END_OF_LIST + INTERRUPT) + bytes;
         DmaDescriptor { status, paddr }
     }
 }
@@ -89,38 +95,23 @@ impl DmaDescriptor {
 pub fn initial_len(len: u32, mps: u16, is_in: bool) -> u64
     ensures { result ≡ initial_len len mps is_in }
 {
+    let len = u64::from(len);
     if is_in {
-        let m = at_least_one(mps as u64);
-        return at_least_one((len as u64 + (m - 1)) / m) * m;
+        let size = u64::from(mps).max(1);
+        return len.div_ceil(size).max(1) * size;
     }
-    len as u64
+    len
 }
 
 // The bytes that a camera packet moved: IN what was planned without what remains, OUT what was planned.
 pub fn moved_length(direction: Direction, planned: u16, status: u32) -> u16
     ensures { result ≡ moved_length direction planned status }
 {
-    let left = DmaDescriptor { status, paddr: 0 }.iso_remaining();
     match direction {
         Direction::In => {
-            if planned as u32 <= left {
-                return 0;
-            }
-            planned - left as u16
+            let left = DmaDescriptor { status, paddr: 0 }.iso_remaining();
+            planned.saturating_sub(left as u16)
         }
         Direction::Out => planned,
     }
-}
-
-fn iso_status(len: u32, last: bool) -> u32
-    ensures { result ≡ iso_status len last }
-{
-    ACTIVE + flag(last) * INTERRUPT + len % 4_096
-}
-
-fn chain_status(count: u64, last: bool) -> u32
-    ensures { result ≡ chain_status count last }
-{
-    let bytes = (count % 131_072) as u32;
-    ACTIVE + flag(last) * (END_OF_LIST + INTERRUPT) + bytes
 }

@@ -9,6 +9,7 @@ use crate::descriptor::DmaDescriptor;
 pub fn put_word(ring: &mut [u32], at: usize, value: u32)
     ensures { ring.new ≡ set ring.old at value }
 {
+    // by index: the clause of `get_mut` speaks of no element of the slice after it
     if at < ring.len() {
         ring[at] = value;
     }
@@ -18,11 +19,7 @@ pub fn put_word(ring: &mut [u32], at: usize, value: u32)
 pub fn status_at(ring: &[u32], slot: u16) -> u32
     ensures { result ≡ get_or ring.now (2 * slot) 0 }
 {
-    let at = 2 * slot as usize;
-    if at < ring.len() {
-        return ring[at];
-    }
-    0
+    ring.get(2 * usize::from(slot)).copied().unwrap_or(0)
 }
 
 // The controller still owns the slot.
@@ -37,7 +34,7 @@ pub fn is_active_at(ring: &[u32], slot: u16) -> bool
 pub fn clear_slot(ring: &mut [u32], slot: u16)
     ensures { ring.new ≡ set (set ring.old (2 * slot) 0) (2 * slot + 1) 0 }
 {
-    let at = 2 * slot as usize;
+    let at = 2 * usize::from(slot);
     put_word(ring, at, 0);
     put_word(ring, at + 1, 0)
 }

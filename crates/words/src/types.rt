@@ -1,12 +1,12 @@
 // The kinds that the words name. Numbers.antt in specs/ has document 01's number for each.
 
-#[derive(Clone, Copy)]
+#[derive(Clone, Copy, Debug, PartialEq, Eq)]
 pub enum Direction {
     Out,
     In,
 }
 
-#[derive(Clone, Copy)]
+#[derive(Clone, Copy, Debug, PartialEq, Eq)]
 pub enum Dwc2EpType {
     Control,
     Isochronous,
@@ -14,7 +14,7 @@ pub enum Dwc2EpType {
     Interrupt,
 }
 
-#[derive(Clone, Copy)]
+#[derive(Clone, Copy, Debug, PartialEq, Eq)]
 pub enum Dwc2Pid {
     Data0,
     Data1,
@@ -23,7 +23,7 @@ pub enum Dwc2Pid {
     Setup,
 }
 
-#[derive(Clone, Copy)]
+#[derive(Clone, Copy, Debug, PartialEq, Eq)]
 pub enum Dwc2TransferFault {
     Ahb,
     Stall,
@@ -31,11 +31,4 @@ pub enum Dwc2TransferFault {
     Transaction,
     FrameOverrun,
     DataToggle,
-}
-
-// The fault of an interrupt word, if it has one.
-#[derive(Clone, Copy)]
-pub enum HcintFault {
-    Nothing,
-    Fault(Dwc2TransferFault),
 }

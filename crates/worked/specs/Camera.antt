@@ -1,5 +1,5 @@
 -- What P6 and P8 of document 01 are about: a camera's session, its requests, and what stands on its ring.
-use Rattle.std.specs.Prelude.{ℕ, zero, suc, true, List, [], ◌∷◌, ◌++◌, replicate}
+use Rattle.std.specs.Prelude.{ℕ, zero, suc, true, None, List, [], ◌∷◌, ◌++◌, replicate}
 use Rattle.words.specs.declared.types.Direction.TheVariants.{In}
 use Rattle.ring.specs.declared.speed.Speed.{Speed}
 use Rattle.ring.specs.declared.speed.Speed.TheVariants.{Full}
@@ -8,7 +8,6 @@ use Rattle.session.specs.Place.{plans_from}
 use Rattle.session.specs.Submit.{new_request}
 use Rattle.session.specs.declared.types.IsoConfig.{IsoConfig}
 use Rattle.session.specs.declared.types.IsoMode.{IsoMode}
-use Rattle.session.specs.declared.types.IsoFatal.TheVariants.{Nothing}
 use Rattle.session.specs.declared.types.IsoChannelState.{IsoChannelState}
 use Rattle.session.specs.declared.transfer.IsoTransfer.{IsoTransfer}
 
@@ -60,7 +59,7 @@ pending_session mode =
     record {
       cfg = camera_config Full 1 mode;
       head = record { next_request_id = 2; live = true; td_last = 12; start_full_frame = 10; done = 0; count = 1 };
-      fatal = Nothing;
+      fatal = None;
       requests = new_request 1 2 ∷ replicate 63 blank_request;
       plans = plans_from 64 10 1 0 (192 ∷ 192 ∷ []) ++ replicate 1022 blank_plan;
     }

@@ -7,68 +7,58 @@ ghost use Rattle.session.specs.Open.{opened_ring};
 ghost use Rattle.session.specs.Submit.{submitted, submitted_ring};
 ghost use Rattle.worked.specs.Camera.{camera_config, camera_transfer, use_mark, slots_in_use};
 
-use crate::row::row;
+use crate::row::{Line, lines};
 use ring::Speed;
-use session::{IsoChannelState, IsoConfig, IsoMode, IsoTransfer, SubmitAnswer};
+use session::{IsoChannelState, IsoConfig, IsoMode, IsoRefusal, IsoSubmission, IsoTransfer};
 use std::io;
 use words::Direction;
 
 // Words 20 and 22 are the status of slots 10 and 11. Served, they are zero here, so that the slots in use after the second call are
 // those that it wrote.
-pub(crate) fn p6(rt: &impl Print) -> io::Result<u32>
+pub(crate) fn p6(rt: &impl Print) -> io::Result<usize>
     ensures { IfOk result (λ n. n ≤ 6) }
 {
     Ok(compatible(rt)? + guarded(rt)?)
 }
 
-fn compatible(rt: &impl Print) -> io::Result<u32>
+fn compatible(rt: &impl Print) -> io::Result<usize>
     ensures { IfOk result (λ n. n ≤ 5) }
 {
     let mut ring = [0u32; 128];
     let session = pending(IsoMode::Compatible, &mut ring);
-    let given = row(
-        rt,
-        b"P6 pending, first slot",
-        10,
-        nth_in_use(&ring, 0) as u64,
-    )? + row(
-        rt,
-        b"P6 pending, second slot",
-        11,
-        nth_in_use(&ring, 1) as u64,
-    )? + row(rt, b"P6 pending, cursor", 12, session.head.td_last as u64)?;
+    let first = nth_in_use(&ring, 0);
+    let second = nth_in_use(&ring, 1);
     ring[20] = 0;
     ring[22] = 0;
-    again(session, &mut ring);
-    Ok(
-        given
-            + row(
-                rt,
-                b"P6 compatible, raw 71, first slot",
-                9,
-                nth_in_use(&ring, 0) as u64,
-            )?
-            + row(
-                rt,
-                b"P6 compatible, raw 71, second slot",
+    let _ = again(session, &mut ring);
+    lines(
+        rt,
+        &[
+            Line::new("P6 pending, first slot", 10, first),
+            Line::new("P6 pending, second slot", 11, second),
+            Line::new("P6 pending, cursor", 12, session.head.td_last),
+            Line::new("P6 compatible, raw 71, first slot", 9, nth_in_use(&ring, 0)),
+            Line::new(
+                "P6 compatible, raw 71, second slot",
                 10,
-                nth_in_use(&ring, 1) as u64,
-            )?,
+                nth_in_use(&ring, 1),
+            ),
+        ],
     )
 }
 
-fn guarded(rt: &impl Print) -> io::Result<u32>
+fn guarded(rt: &impl Print) -> io::Result<usize>
     ensures { IfOk result (λ n. n ≤ 1) }
 {
     let mut ring = [0u32; 128];
     let session = pending(IsoMode::Guarded, &mut ring);
     ring[20] = 0;
     ring[22] = 0;
-    let answer = again(session, &mut ring);
-    row(rt, b"P6 guarded, raw 71, refusal", 13, refusal_of(answer))
+    let refusal = refusal_of(again(session, &mut ring));
+    lines(rt, &[Line::new("P6 guarded, raw 71, refusal", 13, refusal)])
 }
 
-pub(crate) fn p8(rt: &impl Print) -> io::Result<u32>
+pub(crate) fn p8(rt: &impl Print) -> io::Result<usize>
     ensures { IfOk result (λ n. n ≤ 7) }
 {
     let mut ring = [0u32; 512];
@@ -76,43 +66,29 @@ pub(crate) fn p8(rt: &impl Print) -> io::Result<u32>
     let done = opened
         .session
         .submit(transfer(16, 576), &[192, 192, 192], &mut ring);
-    Ok(
-        placed(rt, &ring)?
-            + row(rt, b"P8 cursor", 48, done.session.head.td_last as u64)?
-            + statuses(rt, &ring)?,
-    )
-}
-
-fn placed(rt: &impl Print, ring: &[u32]) -> io::Result<u32>
-    ensures { IfOk result (λ n. n ≤ 3) }
-{
-    Ok(
-        row(rt, b"P8 first slot", 24, nth_in_use(ring, 0) as u64)?
-            + row(rt, b"P8 second slot", 32, nth_in_use(ring, 1) as u64)?
-            + row(rt, b"P8 third slot", 40, nth_in_use(ring, 2) as u64)?,
-    )
-}
-
-fn statuses(rt: &impl Print, ring: &[u32]) -> io::Result<u32>
-    ensures { IfOk result (λ n. n ≤ 3) }
-{
-    Ok(
-        row(
-            rt,
-            b"P8 status of slot 24, 0x800000C0",
-            2_147_483_840,
-            status_of(ring, 24),
-        )? + row(
-            rt,
-            b"P8 status of slot 32, 0x800000C0",
-            2_147_483_840,
-            status_of(ring, 32),
-        )? + row(
-            rt,
-            b"P8 status of slot 40, 0x820000C0",
-            2_181_038_272,
-            status_of(ring, 40),
-        )?,
+    lines(
+        rt,
+        &[
+            Line::new("P8 first slot", 24, nth_in_use(&ring, 0)),
+            Line::new("P8 second slot", 32, nth_in_use(&ring, 1)),
+            Line::new("P8 third slot", 40, nth_in_use(&ring, 2)),
+            Line::new("P8 cursor", 48, done.session.head.td_last),
+            Line::new(
+                "P8 status of slot 24, 0x800000C0",
+                2_147_483_840,
+                status_of(&ring, 24),
+            ),
+            Line::new(
+                "P8 status of slot 32, 0x800000C0",
+                2_147_483_840,
+                status_of(&ring, 32),
+            ),
+            Line::new(
+                "P8 status of slot 40, 0x820000C0",
+                2_181_038_272,
+                status_of(&ring, 40),
+            ),
+        ],
     )
 }
 
@@ -160,7 +136,7 @@ fn pending(mode: IsoMode, ring: &mut [u32]) -> IsoChannelState
     done.session
 }
 
-fn again(session: IsoChannelState, ring: &mut [u32]) -> SubmitAnswer
+fn again(session: IsoChannelState, ring: &mut [u32]) -> Result<IsoSubmission, IsoRefusal>
     ensures { (result ≡ (submitted session (camera_transfer 71 384) (192 ∷ 192 ∷ []) ring.old).answer)
         × (ring.new ≡ submitted_ring session (camera_transfer 71 384) (192 ∷ 192 ∷ []) ring.old) }
 {
@@ -168,57 +144,39 @@ fn again(session: IsoChannelState, ring: &mut [u32]) -> SubmitAnswer
     done.answer
 }
 
-fn refusal_of(answer: SubmitAnswer) -> u64
+fn refusal_of(answer: Result<IsoSubmission, IsoRefusal>) -> u64
     ensures { result ≡ submit_number answer }
 {
     match answer {
-        SubmitAnswer::Accepted(id) => 0,
-        SubmitAnswer::Cut => 0,
-        SubmitAnswer::Refused(number) => number as u64,
-        SubmitAnswer::PacketTooLong(index) => 9,
+        Ok(_) => 0,
+        Err(refusal) => u64::from(u16::from(refusal)),
     }
+}
+
+// Slot number n of those in use; the number of slots where there are fewer.
+fn nth_in_use(ring: &[u32], n: usize) -> u64
+    ensures { result ≡ get_or (slots_in_use 0 ring.now) n (length ring.now / 2) }
+{
+    let mut left = n;
+    for slot in 0..ring.len() / 2 {
+        let used = mark(ring[slot * 2]);
+        if left < used {
+            return slot as u64;
+        }
+        left -= used;
+    }
+    (ring.len() / 2) as u64
 }
 
 // 1 for a status word in use.
 fn mark(status: u32) -> usize
     ensures { result ≡ use_mark status }
 {
-    if status == 0 {
-        return 0;
-    }
-    1
+    usize::from(status != 0)
 }
 
-// Slot number n of those in use; the number of slots where there are fewer.
-fn nth_in_use(ring: &[u32], n: usize) -> usize
-    ensures { result ≡ get_or (slots_in_use 0 ring.now) n (length ring.now / 2) }
-{
-    let slots = ring.len() / 2;
-    let mut slot: usize = 0;
-    let mut left = n;
-    while slot < slots {
-        let used = mark(ring[slot * 2]);
-        if left < used {
-            return slot;
-        }
-        left -= used;
-        slot += 1;
-    }
-    slot
-}
-
-fn status_of(ring: &[u32], slot: u16) -> u64
+fn status_of(ring: &[u32], slot: u16) -> u32
     ensures { result ≡ get_or ring.now (2 * slot) 0 }
 {
-    let at = 2 * slot as usize;
-    if at < ring.len() {
-        return wide(ring[at]);
-    }
-    0
-}
-
-fn wide(x: u32) -> u64
-    ensures { result ≡ x }
-{
-    x as u64
+    ring.get(2 * usize::from(slot)).copied().unwrap_or(0)
 }

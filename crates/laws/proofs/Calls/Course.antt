@@ -6,6 +6,7 @@ use mathlib.Core.Bool.{Bool, true, false, ◌||◌, cond}
 use mathlib.Core.List.{List, [], map}
 use mathlib.Core.Logic.{◌≢◌, ◌⊎◌, inl, inr, ⊎_elim}
 use Prim.Native.Nat.{ℕ, ◌+◌, ◌-◌, ◌*◌, ◌/◌, ◌≤◌, ◌<◌}
+use Rattle.std.specs.Prelude.{Option, Err}
 use native.Mathlib.Omega.{arith}
 use lib.Dec.{ltb}
 use lib.ListN.{length, get_or}
@@ -14,14 +15,12 @@ use Rattle.session.specs.declared.types.IsoChannelState.{IsoChannelState}
 use Rattle.session.specs.declared.types.IsoOutcome.{IsoOutcome}
 use Rattle.session.specs.declared.types.IsoOutcome.TheVariants as outcome
 use Rattle.session.specs.declared.transfer.IsoTransfer.{IsoTransfer}
-use Rattle.session.specs.declared.transfer.SubmitAnswer.TheVariants as submit
 use Rattle.session.specs.declared.transfer.SubmitWay.{SubmitWay}
 use Rattle.session.specs.declared.transfer.SubmitWay.TheVariants as way
-use Rattle.session.specs.declared.reply.IsoAnswer.TheVariants as answer
 use Rattle.session.specs.declared.reply.IsoEvent.{IsoEvent}
-use Rattle.session.specs.declared.reply.IsoReply.{IsoReply}
 use Rattle.session.specs.declared.reply.PollWay.{PollWay}
 use Rattle.session.specs.declared.reply.PollWay.TheVariants.{Nothing, End, Halt, Wait, Settle}
+use Rattle.session.specs.declared.refusal.IsoRefusal.TheVariants as refusal
 use Rattle.session.specs.Session.{blank_request, blank_plan, slots, ring_words}
 use Rattle.session.specs.Record.{is_bad_record}
 use Rattle.session.specs.Settle.{oldest_from}
@@ -29,7 +28,7 @@ use Rattle.session.specs.End.{with_outcome, ended}
 use Rattle.session.specs.Place.{step_of, insert_of}
 use Rattle.session.specs.Way.{submit_way}
 use Rattle.session.specs.Submit.{new_request, answer_of, session_after, ring_after, submitted, submitted_ring}
-use Rattle.session.specs.Poll.{reply, refused_reply, poll_way, polled_by, polled_ring_by, polled, polled_ring, recovered, recovered_ring}
+use Rattle.session.specs.Poll.{poll_way, polled_by, polled_ring_by, polled, polled_ring, recovered, recovered_ring}
 use Rattle.session.specs.Reclaim.{is_found, reclaimed_ring}
 use Rattle.laws.proofs.Calls.WellFormed.{WellFormed, facts, Call, Submit, Poll, Reclaim, Cancel, Reset, Recover}
 use Rattle.session.proofs.Laws.Record.{Sound}
@@ -39,8 +38,8 @@ use Rattle.session.proofs.Laws.Ended.{packets, ended_packets}
 use Rattle.session.proofs.Laws.Stores.{stores_some, first_stores_some}
 use Rattle.laws.proofs.Calls.Settled.{number, slot}
 use Rattle.laws.proofs.Calls.Drained.{drained_leaves, drained_none}
+use Rattle.laws.proofs.Calls.Recovery.{recovered_picked}
 use Rattle.session.proofs.Laws.Polls.{by_way}
-use Rattle.session.proofs.Laws.Tests.{chosen}
 
 -- ---- what the theorems speak of
 
@@ -95,7 +94,7 @@ lent_after Reset s = []
 lent_after (Recover ring) s = recovered_ring s ring
 
 abbrev pub MayClear : Call → IsoChannelState → Type 0
-MayClear (Submit t lengths ring) s = (submitted s t lengths ring).answer ≡ submit.Refused 14
+MayClear (Submit t lengths ring) s = (submitted s t lengths ring).answer ≡ Err refusal.Unplugged
 MayClear (Poll e ring) s = IsStill (poll_way s e) → ⊥
 MayClear (Reclaim id e ring results) s = IsStill (poll_way s e) → ⊥
 MayClear (Cancel id) s = ⊥
@@ -106,34 +105,30 @@ MayClear (Recover ring) s = Unit
 
 submit_way_clears :
     (w : SubmitWay) (s : IsoChannelState) (t : IsoTransfer) (lengths ring : List ℕ) (at : ℕ) → IsCleared at ring (ring_after w s t lengths ring)
-    → answer_of w s ≡ submit.Refused 14
-submit_way_clears (way.Refuse n) s t lengths ring at c = absurd (c.0 c.1)
-submit_way_clears (way.TooLong i) s t lengths ring at c = absurd (c.0 c.1)
-submit_way_clears (way.Spend n) s t lengths ring at c = absurd (c.0 c.1)
+    → answer_of w s ≡ Err refusal.Unplugged
 submit_way_clears way.Early s t lengths ring at c = refl
 submit_way_clears way.Cut s t lengths ring at c =
     absurd (first_stores_some (slots s.cfg) (insert_of s t ring) (step_of s.cfg) t.words 0 t.base lengths ring at c.0 c.1)
 submit_way_clears way.Late s t lengths ring at c = refl
 submit_way_clears way.Accept s t lengths ring at c =
     absurd (stores_some (slots s.cfg) (insert_of s t ring) (step_of s.cfg) 0 t.base lengths ring at c.0 c.1)
+submit_way_clears w s t lengths ring at c = absurd (c.0 c.1)
 
 -- A submission that is not refused with 14, whole or cut, clears no slot.
 pub submit_clears_none :
-    (s : IsoChannelState) (t : IsoTransfer) (lengths ring : List ℕ) → (submitted s t lengths ring).answer ≢ submit.Refused 14
+    (s : IsoChannelState) (t : IsoTransfer) (lengths ring : List ℕ) → (submitted s t lengths ring).answer ≢ Err refusal.Unplugged
     → (at : ℕ) → IsCleared at ring (submitted_ring s t lengths ring) → ⊥
 submit_clears_none s t lengths ring h at c = h (submit_way_clears (submit_way s t lengths ring) s t lengths ring at c)
 
-module _ (s : IsoChannelState) (e : IsoEvent) (ring : List ℕ) where
+module _ (s : IsoChannelState) (e : Option IsoEvent) (ring : List ℕ) where
   -- A poll that neither ends the session nor settles leaves the ring as it is.
   pub poll_still : IsStill (poll_way s e) → polled_ring s e ring ≡ ring
   poll_still h = by_way s e ring (λ (r : IsoChannelState) (now : List ℕ). now ≡ ring) refl (go (poll_way s e) h)
     where
       go : (w : PollWay) → IsStill w → polled_ring_by w s ring ≡ ring
-      go Nothing u = refl
       go (End o) u = absurd u
-      go (Halt r) u = refl
-      go Wait u = refl
       go (Settle bit) u = absurd u
+      go w u = refl
 
   abbrev WordKept : ℕ → IsoChannelState → List ℕ → Type 0
   WordKept w r now = ((j : ℕ) → oldest_from s ≤ j → j < oldest_from r → slot (get_or s.plans j blank_plan) ≢ w / 2) → get_or now w 0 ≡ get_or ring w 0
@@ -146,11 +141,9 @@ module _ (s : IsoChannelState) (e : IsoEvent) (ring : List ℕ) where
   poll_word well h w = by_way s e ring (WordKept w) (λ apart. refl) (go (poll_way s e) h)
     where
       go : (p : PollWay) → GoesOn p → WordKept w (polled_by p s ring).session (polled_ring_by p s ring)
-      go Nothing u apart = refl
       go (End o) u apart = absurd u
-      go (Halt r) u apart = refl
-      go Wait u apart = refl
       go (Settle bit) u apart = (drained_leaves bit s ring (facts s well)).word w apart
+      go p u apart = refl
 
   -- A reclaim leaves the ring as it is, or as its poll leaves it.
   pub reclaim_ring :
@@ -185,24 +178,22 @@ only_these_clear (Recover ring) s at c = tt
 
 -- The poll goes on, and as many are completed as before it.
 pub poll_settles_none :
-    (s : IsoChannelState) (e : IsoEvent) (ring : List ℕ) → WellFormed s → GoesOn (poll_way s e)
+    (s : IsoChannelState) (e : Option IsoEvent) (ring : List ℕ) → WellFormed s → GoesOn (poll_way s e)
     → (polled s e ring).session.head.done ≡ s.head.done → polled_ring s e ring ≡ ring
 poll_settles_none s e ring well h =
     by_way s e ring (λ (r : IsoChannelState) (now : List ℕ). r.head.done ≡ s.head.done → now ≡ ring) (λ same. refl) (go (poll_way s e) h)
   where
     go : (p : PollWay) → GoesOn p → (polled_by p s ring).session.head.done ≡ s.head.done → polled_ring_by p s ring ≡ ring
-    go Nothing u same = refl
     go (End o) u same = absurd u
-    go (Halt r) u same = refl
-    go Wait u same = refl
     go (Settle bit) u same = drained_none bit s ring (facts s well) same
+    go p u same = refl
 
 -- ---- "requests complete in order of submission"
 
 pub order_same : (s : IsoChannelState) → Sound s → InOrder s s
 order_same s g = record { count = refl; done = omega arith; within = g.done_in; numbers = refl; packets = refl }
 
-ended_order : (o : IsoOutcome) (s : IsoChannelState) → Sound s → InOrder s (ended o s)
+pub ended_order : (o : IsoOutcome) (s : IsoChannelState) → Sound s → InOrder s (ended o s)
 ended_order o s g =
     let same =
     map_amend number (with_outcome o) blank_request (λ r. refl) (s.head.count - s.head.done) s.head.done s.head.count s.requests
@@ -210,22 +201,20 @@ ended_order o s g =
     record { count = refl; done = g.done_in; within = omega arith; numbers = same; packets = ended_packets o s g }
 
 pub way_order : (p : PollWay) (s : IsoChannelState) (ring : List ℕ) → Sound s → InOrder s (polled_by p s ring).session
-way_order Nothing s ring g = order_same s g
 way_order (End o) s ring g = ended_order o s g
-way_order (Halt r) s ring g = record { count = refl; done = omega arith; within = g.done_in; numbers = refl; packets = refl }
-way_order Wait s ring g = order_same s g
 way_order (Settle bit) s ring g =
     let d = drained_leaves bit s ring g in
     record { count = d.count; done = d.done; within = omega (arith, d.count, d.within); numbers = d.numbers; packets = d.packets }
+way_order p s ring g = record { count = refl; done = omega arith; within = g.done_in; numbers = refl; packets = refl }
 
 -- A poll leaves every request at its place; those completed are the first ones, before it and after it.
-pub poll_order : (s : IsoChannelState) (e : IsoEvent) (ring : List ℕ) → WellFormed s → InOrder s (polled s e ring).session
+pub poll_order : (s : IsoChannelState) (e : Option IsoEvent) (ring : List ℕ) → WellFormed s → InOrder s (polled s e ring).session
 poll_order s e ring well =
     by_way s e ring (λ (r : IsoChannelState) (now : List ℕ). InOrder s r) (order_same s (facts s well)) (way_order (poll_way s e) s ring (facts s well))
 
 -- Those that a poll leaves pending are as they were: it settles the oldest ones and touches no other.
 pub poll_pending :
-    (s : IsoChannelState) (e : IsoEvent) (ring : List ℕ) → WellFormed s → GoesOn (poll_way s e) → (i : ℕ)
+    (s : IsoChannelState) (e : Option IsoEvent) (ring : List ℕ) → WellFormed s → GoesOn (poll_way s e) → (i : ℕ)
     → (polled s e ring).session.head.done ≤ i → get_or (polled s e ring).session.requests i blank_request ≡ get_or s.requests i blank_request
 poll_pending s e ring well h i = by_way s e ring (λ (r : IsoChannelState) (now : List ℕ). AsItWas r) (λ u. refl) (go (poll_way s e) h)
   where
@@ -233,20 +222,13 @@ poll_pending s e ring well h i = by_way s e ring (λ (r : IsoChannelState) (now 
     AsItWas r = r.head.done ≤ i → get_or r.requests i blank_request ≡ get_or s.requests i blank_request
 
     go : (p : PollWay) → GoesOn p → AsItWas (polled_by p s ring).session
-    go Nothing u = λ v. refl
     go (End o) u = absurd u
-    go (Halt r) u = λ v. refl
-    go Wait u = λ v. refl
     go (Settle bit) u = (drained_leaves bit s ring (facts s well)).later i
+    go p u = λ v. refl
 
 -- Recovery leaves every request at its place too, and completes all.
 pub recover_order : (s : IsoChannelState) (words : ℕ) → WellFormed s → InOrder s (recovered s words).session
-recover_order s words well =
-    let over = reply answer.Done false false (ended outcome.Disconnected s) in
-    let same = order_same s (facts s well) in
-    let P : IsoReply → Type 0 = λ r. InOrder s r.session in
-    chosen P (ltb words (ring_words s.cfg)) (refused_reply 17 s) (cond (is_bad_record s) (refused_reply 18 s) over) (λ u. same)
-    (λ u. chosen P (is_bad_record s) (refused_reply 18 s) over (λ b. same) (λ b. ended_order outcome.Disconnected s (facts s well)))
+recover_order s words well = recovered_picked (InOrder s) s words (order_same s (facts s well)) (ended_order outcome.Disconnected s (facts s well))
 
 -- A submission changes no request in use, whatever it answers.
 pub submit_order :
@@ -255,13 +237,8 @@ pub submit_order :
 submit_order s t lengths ring i h = go (submit_way s t lengths ring)
   where
     go : (w : SubmitWay) → get_or (session_after w s t lengths ring).requests i blank_request ≡ get_or s.requests i blank_request
-    go (way.Refuse n) = refl
-    go (way.TooLong j) = refl
-    go (way.Spend n) = refl
-    go way.Early = refl
-    go way.Cut = refl
-    go way.Late = refl
     go way.Accept = get_or-set_other s.requests s.head.count i (new_request s.head.next_request_id (length lengths)) blank_request (omega arith)
+    go w = refl
 
 -- Accepted, it puts its request behind them, pending.
 pub submit_behind :

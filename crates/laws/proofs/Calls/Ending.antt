@@ -5,13 +5,13 @@ use mathlib.Core.Path.{◌≡◌, refl, ◌∙◌, sym, ap, subst⁻¹}
 use mathlib.Core.Bool.{false}
 use mathlib.Core.List.{List, map, ◌++◌}
 use Prim.Native.Nat.{ℕ, ◌+◌, ◌-◌, ◌≤◌, ◌<◌}
+use Rattle.std.specs.Prelude.{Ok}
 use native.Mathlib.Omega.{arith}
 use lib.ListN.{length, get_or, drop, replicate, length-replicate, get_or-replicate, get_or-append}
 use lib.Seq.{get_or-append-add, get_or-drop}
 use borrow.Author.Tests.{le-ltb}
 use Rattle.session.specs.declared.types.IsoChannelState.{IsoChannelState}
 use Rattle.session.specs.declared.types.IsoOutcome.TheVariants as outcome
-use Rattle.session.specs.declared.reply.IsoAnswer.TheVariants as answer
 use Rattle.session.specs.declared.reply.IsoReply.{IsoReply}
 use Rattle.session.specs.Session.{blank_request, ring_words, pending_requests}
 use Rattle.session.specs.Record.{is_bad_record}
@@ -27,7 +27,7 @@ use Rattle.laws.proofs.Calls.Recovery.{recovery}
 -- ---- recovery, where the ring is long enough and the record good
 
 module _ (s : IsoChannelState) (ring : List ℕ) (long : ring_words s.cfg ≤ length ring) (good : is_bad_record s ≡ false) where
-  pub recovery_answers : (recovered s (length ring)).answer ≡ answer.Done
+  pub recovery_answers : (recovered s (length ring)).answer ≡ Ok tt
   recovery_answers = ap (λ (r : IsoReply). r.answer) (recovery s ring long good).0
 
   pub recovery_idle : IdleAfter s (recovered s (length ring)).session
@@ -60,7 +60,7 @@ module _ (s : IsoChannelState) (ring : List ℕ) (long : ring_words s.cfg ≤ le
   -- what stands in the ring does not matter: any other gives the same session and the same answer
   pub recovery_same : (other : List ℕ) → ring_words s.cfg ≤ length other → recovered s (length other) ≡ recovered s (length ring)
   recovery_same other h =
-      (lent_done s other (reply answer.Done false false (ended outcome.Disconnected s)) (ended_ring s other) (le-ltb (length other) (ring_words s.cfg) h)
+      (lent_done s other (reply (Ok tt) false false (ended outcome.Disconnected s)) (ended_ring s other) (le-ltb (length other) (ring_words s.cfg) h)
       good).0
       ∙ sym (recovery s ring long good).0
 

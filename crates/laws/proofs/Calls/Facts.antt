@@ -5,13 +5,18 @@ use mathlib.Core.List.{List}
 use mathlib.Core.Logic.{◌⊎◌, ⊎_elim}
 use mathlib.Core.Bool.{Bool, true, false, cond}
 use Prim.Native.Nat.{ℕ, ◌*◌, ◌≤◌, ◌<◌}
+use Rattle.std.specs.Prelude.{Ok, Err}
 use lib.ListN.{length, get_or, take}
 use Rattle.ring.specs.RingSums.{packet_limit, next_number, starting_frame}
 use Rattle.session.specs.declared.types.IsoChannelState.{IsoChannelState}
 use Rattle.session.specs.declared.transfer.IsoTransfer.{IsoTransfer}
-use Rattle.session.specs.declared.transfer.SubmitAnswer.TheVariants as answer
+use Rattle.session.specs.declared.transfer.IsoSubmission.TheVariants as submission
 use Rattle.session.specs.declared.transfer.SubmitWay.{SubmitWay}
 use Rattle.session.specs.declared.transfer.SubmitWay.TheVariants.{Refuse, TooLong, Spend, Early, Cut, Late, Accept}
+use Rattle.session.specs.declared.refusal.IsoRefusal.TheVariants as refusal
+use Rattle.session.specs.declared.refusal.IsoRefusal.{IsoRefusal}
+use Rattle.session.specs.declared.refusal.IsoRefusal.TheVariants as refusal
+use Rattle.session.specs.Numbers.{refusal_number}
 use Rattle.session.specs.Session.{ring_words, cleared}
 use Rattle.ring.specs.Stores.{stored}
 use Rattle.session.specs.Place.{stores_of}
@@ -94,20 +99,20 @@ module _ (s : IsoChannelState) (t : IsoTransfer) (lengths ring : List ℕ) where
   -- ---- refused, nothing altered
 
   -- Refused by 17, 18 or one of 1 to 8, a submission hands the session back as it came.
-  pub refused_session : (n : ℕ) → submit_way s t lengths ring ≡ Refuse n → (submitted s t lengths ring).session ≡ s
-  refused_session n h = ap (λ (w : SubmitWay). session_after w s t lengths ring) h
+  pub refused_session : (r : IsoRefusal) → submit_way s t lengths ring ≡ Refuse r → (submitted s t lengths ring).session ≡ s
+  refused_session r h = ap (λ (w : SubmitWay). session_after w s t lengths ring) h
 
   -- The ring is as it came too.
-  pub refused_ring : (n : ℕ) → submit_way s t lengths ring ≡ Refuse n → submitted_ring s t lengths ring ≡ ring
-  refused_ring n h = ap (λ (w : SubmitWay). ring_after w s t lengths ring) h
+  pub refused_ring : (r : IsoRefusal) → submit_way s t lengths ring ≡ Refuse r → submitted_ring s t lengths ring ≡ ring
+  refused_ring r h = ap (λ (w : SubmitWay). ring_after w s t lengths ring) h
 
-  -- The answer is the number.
-  pub refused_answer : (n : ℕ) → submit_way s t lengths ring ≡ Refuse n → (submitted s t lengths ring).answer ≡ answer.Refused n
-  refused_answer n h = ap (λ (w : SubmitWay). answer_of w s) h
+  -- The answer is the refusal.
+  pub refused_answer : (r : IsoRefusal) → submit_way s t lengths ring ≡ Refuse r → (submitted s t lengths ring).answer ≡ Err r
+  refused_answer r h = ap (λ (w : SubmitWay). answer_of w s) h
 
-  -- The number is 17, 18 or one of 1 to 8.
-  pub refused_number_lem : (n : ℕ) → submit_way s t lengths ring ≡ Refuse n → EntryNumber n
-  refused_number_lem n h = let e = told_of s t lengths ring (Refuse n) h in entry_number_lem s t lengths ring n e.0 e.1
+  -- Its number is 17, 18 or one of 1 to 8.
+  pub refused_number_lem : (r : IsoRefusal) → submit_way s t lengths ring ≡ Refuse r → EntryNumber (refusal_number r)
+  refused_number_lem r h = entry_number_lem s t lengths ring r (told_of s t lengths ring (Refuse r) h)
 
   -- ---- refused, a number spent
 
@@ -120,7 +125,7 @@ module _ (s : IsoChannelState) (t : IsoTransfer) (lengths ring : List ℕ) where
   long_ring i h = ap (λ (w : SubmitWay). ring_after w s t lengths ring) h
 
   -- The answer is refusal 9 with the index of a packet.
-  pub long_answer : (i : ℕ) → submit_way s t lengths ring ≡ TooLong i → (submitted s t lengths ring).answer ≡ answer.PacketTooLong i
+  pub long_answer : (i : ℕ) → submit_way s t lengths ring ≡ TooLong i → (submitted s t lengths ring).answer ≡ Err (refusal.PacketTooLong i)
   long_answer i h = ap (λ (w : SubmitWay). answer_of w s) h
 
   -- That packet is too long.
@@ -136,20 +141,20 @@ module _ (s : IsoChannelState) (t : IsoTransfer) (lengths ring : List ℕ) where
       before_is_short (packet_limit s.cfg.speed) lengths k (subst (λ (j : ℕ). k < j) (told_of s t lengths ring (TooLong i) h).1 l)
 
   -- A refusal by one of 10 to 13 spends a request number and alters nothing else of the session.
-  pub spent_session : (n : ℕ) → submit_way s t lengths ring ≡ Spend n → NumberSpent s (submitted s t lengths ring).session
-  spent_session n h = subst⁻¹ (λ (w : SubmitWay). NumberSpent s (session_after w s t lengths ring)) h (number_spent s)
+  pub spent_session : (r : IsoRefusal) → submit_way s t lengths ring ≡ Spend r → NumberSpent s (submitted s t lengths ring).session
+  spent_session r h = subst⁻¹ (λ (w : SubmitWay). NumberSpent s (session_after w s t lengths ring)) h (number_spent s)
 
   -- The ring is as it came.
-  pub spent_ring : (n : ℕ) → submit_way s t lengths ring ≡ Spend n → submitted_ring s t lengths ring ≡ ring
-  spent_ring n h = ap (λ (w : SubmitWay). ring_after w s t lengths ring) h
+  pub spent_ring : (r : IsoRefusal) → submit_way s t lengths ring ≡ Spend r → submitted_ring s t lengths ring ≡ ring
+  spent_ring r h = ap (λ (w : SubmitWay). ring_after w s t lengths ring) h
 
-  -- The answer is the number.
-  pub spent_answer : (n : ℕ) → submit_way s t lengths ring ≡ Spend n → (submitted s t lengths ring).answer ≡ answer.Refused n
-  spent_answer n h = ap (λ (w : SubmitWay). answer_of w s) h
+  -- The answer is the refusal.
+  pub spent_answer : (r : IsoRefusal) → submit_way s t lengths ring ≡ Spend r → (submitted s t lengths ring).answer ≡ Err r
+  spent_answer r h = ap (λ (w : SubmitWay). answer_of w s) h
 
-  -- The number is one of 10 to 13.
-  pub spent_number : (n : ℕ) → submit_way s t lengths ring ≡ Spend n → SpendNumber n
-  spent_number n h = let e = told_of s t lengths ring (Spend n) h in spend_number_lem s t lengths ring n e.2 e.3
+  -- Its number is one of 10 to 13.
+  pub spent_number : (r : IsoRefusal) → submit_way s t lengths ring ≡ Spend r → SpendNumber (refusal_number r)
+  spent_number r h = spend_number_lem s t lengths ring r (told_of s t lengths ring (Spend r) h).2
 
   -- ---- unplugged at a gate
 
@@ -170,7 +175,7 @@ module _ (s : IsoChannelState) (t : IsoTransfer) (lengths ring : List ℕ) where
       (λ h. subst⁻¹ (λ (w : SubmitWay). Unplugged s (session_after w s t lengths ring)) h (unplugged_leaves s))
 
   -- The answer is refusal 14.
-  pub unplugged_answer : (submit_way s t lengths ring ≡ Early) ⊎ (submit_way s t lengths ring ≡ Late) → (submitted s t lengths ring).answer ≡ answer.Refused 14
+  pub unplugged_answer : (submit_way s t lengths ring ≡ Early) ⊎ (submit_way s t lengths ring ≡ Late) → (submitted s t lengths ring).answer ≡ Err refusal.Unplugged
   unplugged_answer = ⊎_elim (λ h. ap (λ (w : SubmitWay). answer_of w s) h) (λ h. ap (λ (w : SubmitWay). answer_of w s) h)
 
   -- ---- cut and whole
@@ -184,7 +189,7 @@ module _ (s : IsoChannelState) (t : IsoTransfer) (lengths ring : List ℕ) where
   cut_session h = ap (λ (w : SubmitWay). session_after w s t lengths ring) h
 
   -- It answers that it was cut.
-  pub cut_answer : submit_way s t lengths ring ≡ Cut → (submitted s t lengths ring).answer ≡ answer.Cut
+  pub cut_answer : submit_way s t lengths ring ≡ Cut → (submitted s t lengths ring).answer ≡ Ok submission.Cut
   cut_answer h = ap (λ (w : SubmitWay). answer_of w s) h
 
   -- The ring is the one that came with the first words of the plan stored into it in their order, as many as it may store.
@@ -196,7 +201,7 @@ module _ (s : IsoChannelState) (t : IsoTransfer) (lengths ring : List ℕ) where
   whole_ring h = ap (λ (w : SubmitWay). ring_after w s t lengths ring) h
 
   -- It answers with the request number that the session held.
-  pub whole_answer : submit_way s t lengths ring ≡ Accept → (submitted s t lengths ring).answer ≡ answer.Accepted s.head.next_request_id
+  pub whole_answer : submit_way s t lengths ring ≡ Accept → (submitted s t lengths ring).answer ≡ Ok (submission.Accepted s.head.next_request_id)
   whole_answer h = ap (λ (w : SubmitWay). answer_of w s) h
 
   -- It leaves the session with the request and its plans behind the others.

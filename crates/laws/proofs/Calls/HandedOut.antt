@@ -5,20 +5,18 @@ use mathlib.Core.Bool.{Bool, true, false, cond}
 use mathlib.Core.List.{List, ◌++◌}
 use mathlib.Core.Logic.{◌⊎◌, inl, inr}
 use Prim.Native.Nat.{ℕ, ◌+◌, ◌-◌, ◌≤◌, ◌<◌}
+use Rattle.std.specs.Prelude.{Option, Some, None, Result, Ok, Err}
 use native.Mathlib.Omega.{arith}
 use lib.Dec.{ltb}
 use lib.ListN.{length}
 use lib.Seq.{slice}
 use borrow.Author.Tests.{ltb-true, le-ltb}
 use Rattle.session.specs.declared.types.IsoChannelState.{IsoChannelState}
-use Rattle.session.specs.declared.types.IsoOutcome.{IsoOutcome}
-use Rattle.session.specs.declared.reply.IsoAnswer.TheVariants as answer
 use Rattle.session.specs.declared.reply.IsoEvent.{IsoEvent}
-use Rattle.session.specs.declared.reply.IsoReply.{IsoReply}
-use Rattle.session.specs.declared.reply.ReclaimAnswer.{ReclaimAnswer}
-use Rattle.session.specs.declared.reply.ReclaimAnswer.TheVariants as reclaim
+use Rattle.session.specs.declared.reply.IsoCompletion.{IsoCompletion}
 use Rattle.session.specs.declared.reply.Reclaimed.{Reclaimed}
-use Rattle.session.specs.Numbers.{reclaim_packets}
+use Rattle.session.specs.declared.refusal.IsoRefusal.{IsoRefusal}
+use Rattle.session.specs.declared.refusal.IsoRefusal.TheVariants as refusal
 use Rattle.session.specs.Session.{ring_words, packets_of, all_packets, pending_requests}
 use Rattle.session.specs.Record.{is_bad_record}
 use Rattle.session.specs.Settle.{oldest_from}
@@ -27,10 +25,10 @@ use Rattle.session.specs.Poll.{reply, poll_way, polled_by}
 use Rattle.session.specs.Cancel.{request_at}
 use Rattle.session.specs.Reclaim.{is_found, looked, request_of, plans_begin, plans_end, removed, handed_answer, reclaim_reply, looked_again, is_short, reclaimed}
 use Rattle.laws.proofs.Calls.WellFormed.{WellFormed, facts}
-use Rattle.laws.proofs.Calls.Results.{ResultsKept, results_same, way_results, reply_results}
+use Rattle.laws.proofs.Calls.Results.{ResultsKept, results_same, way_results}
 use Rattle.laws.proofs.Calls.Course.{InOrder, order_same, way_order}
 use Rattle.session.proofs.Laws.Record.{Sound, not_bad}
-use Rattle.session.proofs.Laws.Ended.{packets_kept}
+use Rattle.session.proofs.Laws.Ended.{packets_kept, picked}
 use Rattle.laws.proofs.Calls.Places.{NumbersDiffer, differ_kept, place_kept, number_at, place_gone}
 use Rattle.session.proofs.Laws.Reclaims.{looked_sound, reclaimed_sound}
 use Rattle.session.proofs.Laws.Removed.{removed_completed, removed_completed_plans, removed_pending, removed_packets}
@@ -50,10 +48,10 @@ pub record Without (at : ℕ) (s r : IsoChannelState) : Type 0 where
   pub packets : all_packets r + (request_of at s).packets ≡ all_packets s
 
 -- r is l without the request of that number, whose outcome, length and packets are those answered
-pub record HandedOut (id : ℕ) (l : IsoChannelState) (o : IsoOutcome) (total n : ℕ) (r : IsoChannelState) : Type 0 where
+pub record HandedOut (id : ℕ) (l : IsoChannelState) (c : IsoCompletion) (r : IsoChannelState) : Type 0 where
   pub without : Without (request_at id l) l r
   pub number : (request_of (request_at id l) l).id ≡ id
-  pub answer : reclaim.Completed o total n ≡ handed_answer (request_of (request_at id l) l)
+  pub answer : c ≡ handed_answer (request_of (request_at id l) l)
 
 -- ---- what they lean on
 
@@ -69,27 +67,28 @@ without at s g h =
       packets = removed_packets at s g h;
     }
 
-looked_results_lem : (id : ℕ) (e : IsoEvent) (s : IsoChannelState) (ring : List ℕ) → Sound s → ResultsKept s (looked id e s ring).session
+looked_results_lem : (id : ℕ) (e : Option IsoEvent) (s : IsoChannelState) (ring : List ℕ) → Sound s → ResultsKept s (looked id e s ring).session
 looked_results_lem id e s ring g =
-    reply_results s (is_found id s) (reply answer.Done false false s) (polled_by (poll_way s e) s ring) (results_same s) (way_results (poll_way s e) s ring g)
+    picked (ResultsKept s) (is_found id s) (reply (Ok tt) false false s) (polled_by (poll_way s e) s ring) (λ f. results_same s)
+    (λ f. way_results (poll_way s e) s ring g)
 
-looked_order : (id : ℕ) (e : IsoEvent) (s : IsoChannelState) (ring : List ℕ) → Sound s → InOrder s (looked id e s ring).session
+looked_order : (id : ℕ) (e : Option IsoEvent) (s : IsoChannelState) (ring : List ℕ) → Sound s → InOrder s (looked id e s ring).session
 looked_order id e s ring g =
-    chosen (λ (r : IsoReply). InOrder s r.session) (is_found id s) (reply answer.Done false false s) (polled_by (poll_way s e) s ring)
-    (λ f. order_same s g) (λ f. way_order (poll_way s e) s ring g)
+    picked (InOrder s) (is_found id s) (reply (Ok tt) false false s) (polled_by (poll_way s e) s ring) (λ f. order_same s g)
+    (λ f. way_order (poll_way s e) s ring g)
 
--- a refusal, "not yet" and 15 hand nothing out
-refusal_none : (k : ℕ) (o : IsoOutcome) (total n : ℕ) → reclaim.Refused k ≡ reclaim.Completed o total n → ⊥
-refusal_none k o total n e = let z : ◌≡◌ {A = ℕ} 0 1 = cc in absurd (omega arith)
+-- "not yet" and 15 hand nothing out
+abbrev left : Bool → Result (Option IsoCompletion) IsoRefusal
+left pending = cond pending (Ok None) (Err refusal.UnknownRequest)
 
-none_handed : (b : Bool) (o : IsoOutcome) (total n : ℕ) → cond b reclaim.NotYet (reclaim.Refused 15) ≡ reclaim.Completed o total n → ⊥
-none_handed true o total n e = let z : ◌≡◌ {A = ℕ} 0 1 = cc in absurd (omega arith)
-none_handed false o total n e = refusal_none 15 o total n e
+none_handed : (b : Bool) (c : IsoCompletion) → left b ≡ Ok (Some c) → ⊥
+none_handed true c e = cc
+none_handed false c e = cc
 
 -- a number that is at no place is refused with 15, whatever the poll does
 unknown :
-    (s : IsoChannelState) (id : ℕ) (e : IsoEvent) (ring : List ℕ) (results : ℕ) → Sound s → request_at id s ≡ s.head.count
-    → ring_words s.cfg ≤ length ring → 255 ≤ results → (reclaimed s id e ring results).answer ≡ reclaim.Refused 15
+    (s : IsoChannelState) (id : ℕ) (e : Option IsoEvent) (ring : List ℕ) (results : ℕ) → Sound s → request_at id s ≡ s.head.count
+    → ring_words s.cfg ≤ length ring → 255 ≤ results → (reclaimed s id e ring results).answer ≡ Err refusal.UnknownRequest
 unknown s id e ring results g gone long wide =
     let k = looked id e s ring in
     let l = k.session in
@@ -97,18 +96,18 @@ unknown s id e ring results g gone long wide =
     let order = looked_order id e s ring g in
     let none_at : at ≡ l.head.count = place_kept s l order.count order.numbers id ∙ gone ∙ sym order.count in
     let enough : is_short s (length ring) results ≡ false = none (le-ltb (length ring) (ring_words s.cfg) long) (le-ltb results 255 wide) in
-    let out = reclaim_reply (handed_answer (request_of at l)) k.taken k.halt (removed at l) in
-    let stays : ReclaimAnswer → Reclaimed = λ a. reclaim_reply a k.taken k.halt l in
+    let out = reclaim_reply (Ok (Some (handed_answer (request_of at l)))) k.taken k.halt (removed at l) in
+    let stays : Result (Option IsoCompletion) IsoRefusal → Reclaimed = λ a. reclaim_reply a k.taken k.halt l in
     let within : ℕ = l.head.count in
-    let first-refusal = reclaim_reply (reclaim.Refused 17) false false s in
-    let bad = reclaim_reply (reclaim.Refused 18) false false s in
+    let first-refusal = reclaim_reply (Err refusal.ShortBuffer) false false s in
+    let bad = reclaim_reply (Err refusal.BadRecord) false false s in
     ap (λ (x : Reclaimed). x.answer)
     (in_turn first-refusal bad (looked_again id k.taken k.halt l) enough (not_bad s g)
-    ∙ second (is_found id l) out (stays (cond (ltb at within) reclaim.NotYet (reclaim.Refused 15)))
+    ∙ second (is_found id l) out (stays (left (ltb at within)))
     (le-ltb at l.head.done (omega (arith, none_at, order.within)))
-    ∙ ap stays (second (ltb at within) reclaim.NotYet (reclaim.Refused 15) (le-ltb at within (omega (arith, none_at)))))
+    ∙ ap stays (second (ltb at within) (Ok None) (Err refusal.UnknownRequest) (le-ltb at within (omega (arith, none_at)))))
 
-module _ (s : IsoChannelState) (id : ℕ) (e : IsoEvent) (ring : List ℕ) (results : ℕ) (well : WellFormed s) where
+module _ (s : IsoChannelState) (id : ℕ) (e : Option IsoEvent) (ring : List ℕ) (results : ℕ) (well : WellFormed s) where
   -- the session after the first look and its poll, the place of the number in it, and the session after the call
   abbrev l : IsoChannelState
   l = (looked id e s ring).session
@@ -124,21 +123,21 @@ module _ (s : IsoChannelState) (id : ℕ) (e : IsoEvent) (ring : List ℕ) (resu
 
   -- what holds where the call is refused at first, where the number is found and where it is not
   by_look :
-      (P : Reclaimed → Type 0) → ((n : ℕ) → P (reclaim_reply (reclaim.Refused n) false false s))
-      → (at < l.head.done → P (reclaim_reply (handed_answer (request_of at l)) (looked id e s ring).taken (looked id e s ring).halt (removed at l)))
-      → ((b : Bool) → P (reclaim_reply (cond b reclaim.NotYet (reclaim.Refused 15)) (looked id e s ring).taken (looked id e s ring).halt l))
+      (P : Reclaimed → Type 0) → ((q : IsoRefusal) → P (reclaim_reply (Err q) false false s))
+      → (at < l.head.done → P (reclaim_reply (Ok (Some (handed_answer (request_of at l)))) (looked id e s ring).taken (looked id e s ring).halt (removed at l)))
+      → ((b : Bool) → P (reclaim_reply (left b) (looked id e s ring).taken (looked id e s ring).halt l))
       → P (reclaimed s id e ring results)
-  by_look P refused found left =
+  by_look P refused found stayed =
       let taken = (looked id e s ring).taken in
       let halt = (looked id e s ring).halt in
       let again = looked_again id taken halt l in
-      let out = reclaim_reply (handed_answer (request_of at l)) taken halt (removed at l) in
-      let stays = reclaim_reply (cond (ltb at l.head.count) reclaim.NotYet (reclaim.Refused 15)) taken halt l in
-      let bad = reclaim_reply (reclaim.Refused 18) false false s in
-      chosen P (is_short s (length ring) results) (reclaim_reply (reclaim.Refused 17) false false s) (cond (is_bad_record s) bad again)
-      (λ h. refused 17)
-      (λ h. chosen P (is_bad_record s) bad again (λ b. refused 18)
-      (λ b. chosen P (is_found id l) out stays (λ f. found (ltb-true at l.head.done f)) (λ f. left (ltb at l.head.count))))
+      let out = reclaim_reply (Ok (Some (handed_answer (request_of at l)))) taken halt (removed at l) in
+      let stays = reclaim_reply (left (ltb at l.head.count)) taken halt l in
+      let bad = reclaim_reply (Err refusal.BadRecord) false false s in
+      chosen P (is_short s (length ring) results) (reclaim_reply (Err refusal.ShortBuffer) false false s) (cond (is_bad_record s) bad again)
+      (λ h. refused refusal.ShortBuffer)
+      (λ h. chosen P (is_bad_record s) bad again (λ b. refused refusal.BadRecord)
+      (λ b. chosen P (is_found id l) out stays (λ f. found (ltb-true at l.head.done f)) (λ f. stayed (ltb at l.head.count))))
 
   -- Reclaim changes none that it leaves: it hands one out, or leaves all of them.
   pub reclaim_results : ResultsKept s r ⊎ (ResultsKept s l × Without at l r)
@@ -151,16 +150,16 @@ module _ (s : IsoChannelState) (id : ℕ) (e : IsoEvent) (ring : List ℕ) (resu
 
   -- The one that it hands out had the number, and the session is without it.
   pub reclaim_hands_out :
-      (o : IsoOutcome) (total n : ℕ) → (reclaimed s id e ring results).answer ≡ reclaim.Completed o total n → HandedOut id l o total n r
-  reclaim_hands_out o total n =
-      by_look (λ (x : Reclaimed). x.answer ≡ reclaim.Completed o total n → HandedOut id l o total n x.session)
-      (λ k u. absurd (refusal_none k o total n u))
-      (λ h u. record { without = without at l l_sound h; number = number_at l l_sound id (omega (arith, l_sound.done_in)); answer = sym u })
-      (λ b u. absurd (none_handed b o total n u))
+      (c : IsoCompletion) → (reclaimed s id e ring results).answer ≡ Ok (Some c) → HandedOut id l c r
+  reclaim_hands_out c =
+      by_look (λ (x : Reclaimed). x.answer ≡ Ok (Some c) → HandedOut id l c x.session)
+      (λ q u. cc)
+      (λ h u. record { without = without at l l_sound h; number = number_at l l_sound id (omega (arith, l_sound.done_in)); answer = cc })
+      (λ b u. absurd (none_handed b c u))
 
-  module _ (o : IsoOutcome) (total n : ℕ) (completed : (reclaimed s id e ring results).answer ≡ reclaim.Completed o total n) where
-    out : HandedOut id l o total n r
-    out = reclaim_hands_out o total n completed
+  module _ (c : IsoCompletion) (completed : (reclaimed s id e ring results).answer ≡ Ok (Some c)) where
+    out : HandedOut id l c r
+    out = reclaim_hands_out c completed
 
     order : InOrder s l
     order = looked_order id e s ring (facts s well)
@@ -169,23 +168,23 @@ module _ (s : IsoChannelState) (id : ℕ) (e : IsoEvent) (ring : List ℕ) (resu
     pub reclaim_fewer : r.head.count + 1 ≡ s.head.count
     reclaim_fewer = out.without.count ∙ order.count
 
-    pub reclaim_frees : all_packets r + n ≡ all_packets s
+    pub reclaim_frees : all_packets r + c.packets ≡ all_packets s
     reclaim_frees =
-        let its : n ≡ (request_of at l).packets = ap reclaim_packets out.answer in
+        let its : c.packets ≡ (request_of at l).packets = ap (λ (x : IsoCompletion). x.packets) out.answer in
         let all : all_packets l ≡ all_packets s =
         packets_kept s.requests l.requests order.packets 0 l.head.count ∙ ap (λ (k : ℕ). packets_of (slice 0 k s.requests)) order.count in
         ap (λ (k : ℕ). all_packets r + k) its ∙ out.without.packets ∙ all
 
     abbrev IsGone : Reclaimed → Type 0
-    IsGone x = x.answer ≡ reclaim.Completed o total n → request_at id x.session ≡ x.session.head.count
+    IsGone x = x.answer ≡ Ok (Some c) → request_at id x.session ≡ x.session.head.count
 
     -- Where the numbers in use differ, its number is at no place any more: neither completed nor pending.
     pub reclaim_gone : NumbersDiffer s → request_at id r ≡ r.head.count
     reclaim_gone differ =
-        by_look IsGone (λ k u. absurd (refusal_none k o total n u))
+        by_look IsGone (λ q u. cc)
         (λ h u. subst (λ (k : ℕ). request_at k (removed at l) ≡ l.head.count - 1) (number_at l l_sound id (omega (arith, l_sound.done_in)))
         (place_gone l l_sound at h (differ_kept s l order.count order.numbers differ)))
-        (λ b u. absurd (none_handed b o total n u))
+        (λ b u. absurd (none_handed b c u))
         completed
 
     r_sound : Sound r
@@ -196,6 +195,6 @@ module _ (s : IsoChannelState) (id : ℕ) (e : IsoEvent) (ring : List ℕ) (resu
 
     -- So reclaiming it again answers 15, whatever the event and the ring: the poll changes no number.
     pub reclaim_once :
-        NumbersDiffer s → (later : IsoEvent) (words : List ℕ) (room : ℕ) → ring_words r.cfg ≤ length words → 255 ≤ room
-        → (reclaimed r id later words room).answer ≡ reclaim.Refused 15
+        NumbersDiffer s → (later : Option IsoEvent) (words : List ℕ) (room : ℕ) → ring_words r.cfg ≤ length words → 255 ≤ room
+        → (reclaimed r id later words room).answer ≡ Err refusal.UnknownRequest
     reclaim_once differ later words room long wide = unknown r id later words room r_sound (reclaim_gone differ) long wide

@@ -2,11 +2,11 @@
 -- promise of `reset`, of the call.
 use mathlib.Core.Path.{◌≡◌, refl}
 use mathlib.Core.Bool.{Bool, true, false, cond}
-use Prim.Native.Nat.{ℕ}
-use native.Mathlib.Omega.{arith}
+use Rattle.std.specs.Prelude.{Ok, Err}
 use Rattle.session.specs.declared.types.IsoChannelState.{IsoChannelState}
-use Rattle.session.specs.declared.reply.IsoAnswer.TheVariants as answer
 use Rattle.session.specs.declared.reply.IsoReply.{IsoReply}
+use Rattle.session.specs.declared.refusal.IsoRefusal.{IsoRefusal}
+use Rattle.session.specs.declared.refusal.IsoRefusal.TheVariants as refusal
 use Rattle.session.specs.Record.{is_bad_record}
 use Rattle.session.specs.Poll.{at_start, reset_reply}
 use Rattle.session.specs.Poll.{reply, refused_reply, is_empty}
@@ -27,15 +27,13 @@ pub record CursorZero (s r : IsoChannelState) : Type 0 where
 module _ (s : IsoChannelState) where
   -- the reply by its two tests
   abbrev replied : Bool → Bool → IsoReply
-  replied bad empty = cond bad (refused_reply 18 s) (cond empty (reply answer.Done false false (at_start s)) (refused_reply 16 s))
+  replied bad empty = cond bad (refused_reply refusal.BadRecord s) (cond empty (reply (Ok tt) false false (at_start s)) (refused_reply refusal.NotEmpty s))
 
   -- Where it is done, the cursor is 0 and nothing else changes.
-  pub reset_leaves : (reset_reply s).answer ≡ answer.Done → CursorZero s (reset_reply s).session
+  pub reset_leaves : (reset_reply s).answer ≡ Ok tt → CursorZero s (reset_reply s).session
   reset_leaves = go (is_bad_record s) (is_empty s)
     where
-      go : (bad empty : Bool) → (replied bad empty).answer ≡ answer.Done → CursorZero s (replied bad empty).session
-      go true empty e = let z : ◌≡◌ {A = ℕ} 0 1 = cc in absurd (omega arith)
-      go false false e = let z : ◌≡◌ {A = ℕ} 0 1 = cc in absurd (omega arith)
+      go : (bad empty : Bool) → (replied bad empty).answer ≡ Ok tt → CursorZero s (replied bad empty).session
       go false true e =
           record {
             cursor = refl;
@@ -49,12 +47,12 @@ module _ (s : IsoChannelState) where
             requests = refl;
             plans = refl;
           }
+      go bad empty e = cc
 
   -- Refused, it hands the session back as it came.
-  pub reset_refused : (n : ℕ) → (reset_reply s).answer ≡ answer.Refused n → (reset_reply s).session ≡ s
-  reset_refused n = go (is_bad_record s) (is_empty s)
+  pub reset_refused : (r : IsoRefusal) → (reset_reply s).answer ≡ Err r → (reset_reply s).session ≡ s
+  reset_refused r = go (is_bad_record s) (is_empty s)
     where
-      go : (bad empty : Bool) → (replied bad empty).answer ≡ answer.Refused n → (replied bad empty).session ≡ s
-      go true empty e = refl
-      go false false e = refl
-      go false true e = let z : ◌≡◌ {A = ℕ} 0 1 = cc in absurd (omega arith)
+      go : (bad empty : Bool) → (replied bad empty).answer ≡ Err r → (replied bad empty).session ≡ s
+      go false true e = cc
+      go bad empty e = refl

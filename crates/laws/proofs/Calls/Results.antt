@@ -5,6 +5,7 @@ use mathlib.Core.Bool.{Bool, true, false, cond}
 use mathlib.Core.List.{List, map}
 use mathlib.Core.Logic.{◌≢◌, ◌⊎◌, inl, inr}
 use Prim.Native.Nat.{ℕ, ◌≤◌, ◌<◌}
+use Rattle.std.specs.Prelude.{Option, Ok}
 use native.Mathlib.Omega.{arith}
 use lib.Dec.{ltb}
 use lib.ListN.{length, get_or}
@@ -12,33 +13,33 @@ use lib.Seq.{get_or-set_same, get_or-set_other}
 use borrow.Author.Tests.{ltb-true}
 use Rattle.session.specs.declared.types.IsoChannelState.{IsoChannelState}
 use Rattle.session.specs.declared.types.IsoHaltReason.TheVariants as reason
-use Rattle.session.specs.declared.types.IsoHead.{IsoHead}
 use Rattle.session.specs.declared.types.IsoOutcome.{IsoOutcome}
 use Rattle.session.specs.declared.types.IsoOutcome.TheVariants as outcome
 use Rattle.session.specs.declared.transfer.IsoTransfer.{IsoTransfer}
 use Rattle.session.specs.declared.transfer.SubmitWay.{SubmitWay}
 use Rattle.session.specs.declared.transfer.SubmitWay.TheVariants as way
-use Rattle.session.specs.declared.reply.IsoAnswer.TheVariants as answer
 use Rattle.session.specs.declared.reply.IsoEvent.{IsoEvent}
 use Rattle.session.specs.declared.reply.IsoReply.{IsoReply}
 use Rattle.session.specs.declared.reply.PollWay.{PollWay}
-use Rattle.session.specs.declared.reply.PollWay.TheVariants.{Nothing, End, Halt, Wait, Settle}
-use Rattle.session.specs.Session.{blank_request, blank_plan, slots, ring_words, all_packets, pending_requests, has_reason}
+use Rattle.session.specs.declared.reply.PollWay.TheVariants.{End, Settle}
+use Rattle.session.specs.declared.refusal.IsoRefusal.TheVariants as refusal
+use Rattle.session.specs.Session.{blank_request, blank_plan, slots, all_packets, pending_requests, has_reason}
 use Rattle.session.specs.Record.{is_bad_record}
 use Rattle.session.specs.Settle.{oldest_from}
 use Rattle.session.specs.End.{with_outcome, ended}
 use Rattle.session.specs.Place.{step_of, insert_of, plans_from}
 use Rattle.session.specs.Way.{submit_way}
-use Rattle.session.specs.Submit.{with_head, spent, unplugged, new_request, accepted, session_after, submitted}
-use Rattle.session.specs.Poll.{reply, refused_reply, with_reason, poll_way, polled_by, polled, recovered, is_empty, at_start, reset_reply}
+use Rattle.session.specs.Submit.{new_request, accepted, session_after, submitted}
+use Rattle.session.specs.Poll.{reply, refused_reply, with_reason, poll_way, polled_by, polled, recovered, reset_reply}
 use Rattle.session.specs.Cancel.{request_at, with_cancelled, cancelled}
 use Rattle.laws.proofs.Calls.WellFormed.{WellFormed, facts}
 use Rattle.session.proofs.Laws.Sums.{packets_split}
 use Rattle.session.proofs.Laws.Record.{Sound}
 use Rattle.laws.proofs.Calls.Drained.{drained_leaves}
+use Rattle.laws.proofs.Calls.Recovery.{recovered_picked}
+use Rattle.session.proofs.Laws.Ended.{reset_picked}
 use Rattle.session.proofs.Laws.Lists.{get_d_sets_before}
 use Rattle.session.proofs.Laws.Polls.{by_way}
-use Rattle.session.proofs.Laws.Tests.{chosen}
 
 -- ---- what the theorems speak of
 
@@ -85,49 +86,28 @@ accepted_results s t lengths ring g =
 pub submit_results : (s : IsoChannelState) (t : IsoTransfer) (lengths ring : List ℕ) → WellFormed s → ResultsKept s (submitted s t lengths ring).session
 submit_results s t lengths ring well = go (submit_way s t lengths ring)
   where
-    spent_results : (h : IsoHead) → h.done ≡ s.head.done → ResultsKept s (with_head s h)
-    spent_results h e = record { done = omega arith; request = λ i u. refl; plan = λ j u. refl }
-
     go : (w : SubmitWay) → ResultsKept s (session_after w s t lengths ring)
-    go (way.Refuse n) = results_same s
-    go (way.TooLong i) = spent_results (spent s.head) refl
-    go (way.Spend n) = spent_results (spent s.head) refl
-    go way.Early = spent_results (unplugged s.head) refl
-    go way.Cut = results_same s
-    go way.Late = spent_results (unplugged s.head) refl
     go way.Accept = accepted_results s t lengths ring (facts s well)
+    go w = record { done = omega arith; request = λ i u. refl; plan = λ j u. refl }
 
 pub way_results : (p : PollWay) (s : IsoChannelState) (ring : List ℕ) → Sound s → ResultsKept s (polled_by p s ring).session
-way_results Nothing s ring g = results_same s
 way_results (End o) s ring g = ended_results o s g
-way_results (Halt r) s ring g = record { done = omega arith; request = λ i u. refl; plan = λ j u. refl }
-way_results Wait s ring g = results_same s
 way_results (Settle bit) s ring g =
     let d = drained_leaves bit s ring g in
     record { done = d.done; request = d.request; plan = d.plan }
+way_results p s ring g = record { done = omega arith; request = λ i u. refl; plan = λ j u. refl }
 
 -- Nor does a poll.
-pub poll_results : (s : IsoChannelState) (e : IsoEvent) (ring : List ℕ) → WellFormed s → ResultsKept s (polled s e ring).session
+pub poll_results : (s : IsoChannelState) (e : Option IsoEvent) (ring : List ℕ) → WellFormed s → ResultsKept s (polled s e ring).session
 poll_results s e ring well =
     by_way s e ring (λ (r : IsoChannelState) (now : List ℕ). ResultsKept s r) (results_same s) (way_results (poll_way s e) s ring (facts s well))
 
-pub reply_results :
-    (s : IsoChannelState) (b : Bool) (x y : IsoReply) → ResultsKept s x.session → ResultsKept s y.session
-    → ResultsKept s (cond b x y).session
-reply_results s b x y f g = chosen (λ (r : IsoReply). ResultsKept s r.session) b x y (λ u. f) (λ u. g)
-
 -- Nor does a reset, nor recovery.
 pub reset_results : (s : IsoChannelState) → ResultsKept s (reset_reply s).session
-reset_results s =
-    let empty = reply answer.Done false false (at_start s) in
-    reply_results s (is_bad_record s) (refused_reply 18 s) (cond (is_empty s) empty (refused_reply 16 s)) (results_same s)
-    (reply_results s (is_empty s) empty (refused_reply 16 s) (record { done = omega arith; request = λ i u. refl; plan = λ j u. refl }) (results_same s))
+reset_results s = reset_picked (ResultsKept s) s (results_same s) (record { done = omega arith; request = λ i u. refl; plan = λ j u. refl })
 
 pub recover_results : (s : IsoChannelState) (words : ℕ) → WellFormed s → ResultsKept s (recovered s words).session
-recover_results s words well =
-    let over = reply answer.Done false false (ended outcome.Disconnected s) in
-    reply_results s (ltb words (ring_words s.cfg)) (refused_reply 17 s) (cond (is_bad_record s) (refused_reply 18 s) over) (results_same s)
-    (reply_results s (is_bad_record s) (refused_reply 18 s) over (results_same s) (ended_results outcome.Disconnected s (facts s well)))
+recover_results s words well = recovered_picked (ResultsKept s) s words (results_same s) (ended_results outcome.Disconnected s (facts s well))
 
 -- Cancel changes at most the outcome of the one that is named.
 pub cancel_results : (s : IsoChannelState) (id : ℕ) → WellFormed s → AtMostCancelled (request_at id s) s (cancelled s id).session
@@ -137,20 +117,20 @@ cancel_results s id well = go (is_bad_record s) (ltb at s.head.done) refl (ltb a
     at = request_at id s
 
     amended : IsoReply
-    amended = reply answer.Done false false (with_cancelled at s)
+    amended = reply (Ok tt) false false (with_cancelled at s)
 
     stands : IsoReply
-    stands = reply answer.Done false false s
+    stands = reply (Ok tt) false false s
 
     halting : IsoReply
-    halting = reply answer.Done false true (with_reason reason.Cancelled s)
+    halting = reply (Ok tt) false true (with_reason reason.Cancelled s)
 
     same : AtMostCancelled at s s
     same = record { head = refl; plans = refl; other = λ i u. refl; named = inl refl }
 
     go :
         (a b : Bool) → ltb at s.head.done ≡ b → (c d : Bool)
-        → AtMostCancelled at s (cond a (refused_reply 18 s) (cond b amended (cond c (cond d stands halting) (refused_reply 15 s)))).session
+        → AtMostCancelled at s (cond a (refused_reply refusal.BadRecord s) (cond b amended (cond c (cond d stands halting) (refused_reply refusal.UnknownRequest s)))).session
     go true b e c d = same
     go false true e c d =
         let g : Sound s = facts s well in

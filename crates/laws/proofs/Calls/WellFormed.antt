@@ -1,36 +1,36 @@
 -- Well-formedness is kept: a session whose record passes the check of refusal 18 passes it after every call, whatever the call is lent and answers. So
 -- a caller who starts with an accepted opening never sees 18. Each is a fact of the session's definitions, and so, by the promises of the calls, of
 -- the code.
-use mathlib.Core.Path.{◌≡◌, refl, ap, subst⁻¹}
+use mathlib.Core.Path.{◌≡◌, refl, ◌∙◌, sym, ap, subst⁻¹}
 use mathlib.Core.Bool.{Bool, true, false, cond}
 use mathlib.Core.List.{List, [], ◌∷◌}
 use Prim.Native.Nat.{ℕ}
+use Rattle.std.specs.Prelude.{Option, Some, None, Result, Ok, Err, ⊤}
 use native.Mathlib.Omega.{arith}
 use lib.Dec.{ltb}
-use lib.ListN.{length, drop, length-replicate}
+use lib.ListN.{length, length-replicate}
 use Rattle.session.specs.declared.types.IsoChannelState.{IsoChannelState}
 use Rattle.session.specs.declared.types.IsoConfig.{IsoConfig}
 use Rattle.session.specs.declared.types.IsoPacketPlan.{IsoPacketPlan}
 use Rattle.session.specs.declared.types.IsoRequest.{IsoRequest}
-use Rattle.session.specs.declared.types.OpenAnswer.TheVariants as answer
 use Rattle.session.specs.declared.transfer.IsoTransfer.{IsoTransfer}
 use Rattle.session.specs.declared.transfer.SubmitWay.{SubmitWay}
 use Rattle.session.specs.declared.transfer.SubmitWay.TheVariants as way
 use Rattle.session.specs.declared.types.IsoHaltReason.TheVariants as reason
 use Rattle.session.specs.declared.types.IsoOutcome.TheVariants as outcome
-use Rattle.session.specs.declared.reply.IsoAnswer.TheVariants as done
 use Rattle.session.specs.declared.reply.IsoEvent.{IsoEvent}
 use Rattle.session.specs.declared.reply.IsoReply.{IsoReply}
 use Rattle.session.specs.declared.reply.PollWay.{PollWay}
 use Rattle.session.specs.declared.reply.PollWay.TheVariants as poll
-use Rattle.session.specs.declared.reply.ReclaimAnswer.{ReclaimAnswer}
-use Rattle.session.specs.declared.reply.ReclaimAnswer.TheVariants as reclaim
+use Rattle.session.specs.declared.reply.IsoCompletion.{IsoCompletion}
 use Rattle.session.specs.declared.reply.Reclaimed.{Reclaimed}
-use Rattle.session.specs.Numbers.{submit_number, answer_number, reclaim_number}
+use Rattle.session.specs.declared.refusal.IsoRefusal.{IsoRefusal}
+use Rattle.session.specs.declared.refusal.IsoRefusal.TheVariants as refusal
+use Rattle.session.specs.Numbers.{refusal_number, submit_number, answer_number, reclaim_number}
 use Rattle.session.specs.Session.{blank_request, blank_plan, ring_words, has_reason}
 use Rattle.session.specs.Record.{is_bad_config, is_bad_record}
 use Rattle.session.specs.Open.{open_answer, opened}
-use Rattle.session.specs.Way.{first_of, entry_checks, entry_refusal, submit_way}
+use Rattle.session.specs.Way.{◌⇒◌, first_of, room_checks, entry_refusal, submit_way}
 use Rattle.session.specs.Submit.{answer_of, submitted}
 use Rattle.session.specs.End.{ended}
 use Rattle.session.specs.Poll.{reply, refused_reply, with_reason, poll_way, polled_by, polled, recovered, is_empty, at_start, reset_reply}
@@ -57,8 +57,8 @@ pub record WellFormed (s : IsoChannelState) : Type 0 where
 -- the calls on a session, with what each is given and the ring that it is lent
 pub data Call : Type 0 where
   Submit : (t : IsoTransfer) (lengths ring : List ℕ) → Call
-  Poll : (e : IsoEvent) (ring : List ℕ) → Call
-  Reclaim : (id : ℕ) (e : IsoEvent) (ring results : List ℕ) → Call
+  Poll : (e : Option IsoEvent) (ring : List ℕ) → Call
+  Reclaim : (id : ℕ) (e : Option IsoEvent) (ring results : List ℕ) → Call
   Cancel : (id : ℕ) → Call
   Reset : Call
   Recover : (ring : List ℕ) → Call
@@ -114,13 +114,14 @@ all_kept [] s w = w
 all_kept (c ∷ cs) s w = all_kept cs (after c s) (kept c s w)
 
 -- where an opening is accepted, its configuration passes
-accepted_config : (short bad : Bool) → cond short answer.ShortRing (cond bad answer.BadConfig answer.Opened) ≡ answer.Opened → bad ≡ false
-accepted_config true bad e = let z : ◌≡◌ {A = ℕ} 0 1 = cc in absurd (omega arith)
-accepted_config false true e = let z : ◌≡◌ {A = ℕ} 0 1 = cc in absurd (omega arith)
+accepted_config :
+    (short bad : Bool) → ◌≡◌ {A = Result ⊤ IsoRefusal} (cond short (Err refusal.ShortBuffer) (cond bad (Err refusal.BadRecord) (Ok tt))) (Ok tt)
+    → bad ≡ false
 accepted_config false false e = refl
+accepted_config short bad e = cc
 
 -- An accepted opening gives one.
-pub opening : (cfg : IsoConfig) (ring : List ℕ) → open_answer cfg (length ring) ≡ answer.Opened → WellFormed (opened cfg (length ring)).session
+pub opening : (cfg : IsoConfig) (ring : List ℕ) → open_answer cfg (length ring) ≡ Ok tt → WellFormed (opened cfg (length ring)).session
 opening cfg ring e =
     record {
       requests = length-replicate {A = IsoRequest} 64 blank_request;
@@ -130,7 +131,7 @@ opening cfg ring e =
 
 -- A caller who starts with `open` has a record that passes the check, whatever the calls between.
 pub never_bad :
-    (cfg : IsoConfig) (ring : List ℕ) → open_answer cfg (length ring) ≡ answer.Opened
+    (cfg : IsoConfig) (ring : List ℕ) → open_answer cfg (length ring) ≡ Ok tt
     → (calls : List Call) → is_bad_record (after_all calls (opened cfg (length ring)).session) ≡ false
 never_bad cfg ring e calls = (all_kept calls (opened cfg (length ring)).session (opening cfg ring e)).good
 
@@ -141,13 +142,13 @@ abbrev Other : ℕ → Type 0
 Other n = n ≡ 18 → ⊥
 
 -- the first tests of a submission, where the record is good
-entry_other : (s : IsoChannelState) (t : IsoTransfer) (n words : ℕ) → is_bad_record s ≡ false → Other (entry_refusal s t n words)
-entry_other s t n words good =
-    let rest = drop 2 (entry_checks s t n words) in
+entry_other :
+    (s : IsoChannelState) (t : IsoTransfer) (n words : ℕ) (r : IsoRefusal) → is_bad_record s ≡ false → entry_refusal s t n words ≡ Err r
+    → Other (refusal_number r)
+entry_other s t n words r good h =
     let short = ltb words (ring_words s.cfg) in
-    subst⁻¹ Other (ap (λ (b : Bool). cond short 17 (cond b 18 (first_of rest))) good)
-    (chosen Other short 17 (first_of rest) (λ h e. omega arith)
-    (λ h. one_of Other rest
+    let left = ap (λ (b : Bool). cond short (Err refusal.ShortBuffer) (cond b (Err refusal.BadRecord) (first_of (room_checks s t n)))) good in
+    one_of (λ (q : IsoRefusal). Other (refusal_number q)) (short ⇒ refusal.ShortBuffer ∷ room_checks s t n)
     ((λ e. omega arith)
     and (λ e. omega arith)
     and (λ e. omega arith)
@@ -156,19 +157,17 @@ entry_other s t n words good =
     and (λ e. omega arith)
     and (λ e. omega arith)
     and (λ e. omega arith)
+    and (λ e. omega arith)
     and tt)
-    (λ e. omega arith)))
+    r
+    (sym left ∙ h)
 
 submit_other :
     (s : IsoChannelState) (t : IsoTransfer) (lengths ring : List ℕ) (w : SubmitWay) → is_bad_record s ≡ false → Told s t lengths ring w
     → Other (submit_number (answer_of w s))
-submit_other s t lengths ring (way.Refuse n) good h = subst⁻¹ Other h.0 (entry_other s t (length lengths) (length ring) good)
-submit_other s t lengths ring (way.TooLong i) good h = λ e. omega arith
-submit_other s t lengths ring (way.Spend n) good h = let few = spend_number_lem s t lengths ring n h.2 h.3 in λ e. omega (arith, few.to)
-submit_other s t lengths ring way.Early good h = λ e. omega arith
-submit_other s t lengths ring way.Cut good h = λ e. omega arith
-submit_other s t lengths ring way.Late good h = λ e. omega arith
-submit_other s t lengths ring way.Accept good h = λ e. omega arith
+submit_other s t lengths ring (way.Refuse r) good h = entry_other s t (length lengths) (length ring) r good h
+submit_other s t lengths ring (way.Spend r) good h = let few = spend_number_lem s t lengths ring r h.2 in λ e. omega (arith, few.to)
+submit_other s t lengths ring w good h = λ e. omega arith
 
 -- a reply that is chosen by a test, and one behind the test of the record
 reply_other :
@@ -178,15 +177,12 @@ reply_other = chosen (λ (r : IsoReply). Other (answer_number r.answer))
 
 past_record :
     (s : IsoChannelState) (r : IsoReply) → is_bad_record s ≡ false → Other (answer_number r.answer)
-    → Other (answer_number (cond (is_bad_record s) (refused_reply 18 s) r).answer)
-past_record s r good h = subst⁻¹ (λ (b : Bool). Other (answer_number (cond b (refused_reply 18 s) r).answer)) good h
+    → Other (answer_number (cond (is_bad_record s) (refused_reply refusal.BadRecord s) r).answer)
+past_record s r good h = subst⁻¹ (λ (b : Bool). Other (answer_number (cond b (refused_reply refusal.BadRecord s) r).answer)) good h
 
 poll_other : (w : PollWay) (s : IsoChannelState) (ring : List ℕ) → Other (answer_number (polled_by w s ring).answer)
 poll_other poll.Nothing s ring = λ e. omega arith
-poll_other (poll.End o) s ring = λ e. omega arith
-poll_other (poll.Halt r) s ring = λ e. omega arith
-poll_other poll.Wait s ring = λ e. omega arith
-poll_other (poll.Settle bit) s ring = λ e. omega arith
+poll_other w s ring = λ e. omega arith
 
 reclaim_other :
     (b : Bool) (x y : Reclaimed) → (b ≡ true → Other (reclaim_number x.answer)) → (b ≡ false → Other (reclaim_number y.answer))
@@ -197,10 +193,10 @@ again_other : (id : ℕ) (taken halt : Bool) (s : IsoChannelState) → Other (re
 again_other id taken halt s =
     let at : ℕ = request_at id s in
     let within = ltb at s.head.count in
-    reclaim_other (is_found id s) (reclaim_reply (handed_answer (request_of at s)) taken halt (removed at s))
-    (reclaim_reply (cond within reclaim.NotYet (reclaim.Refused 15)) taken halt s)
+    reclaim_other (is_found id s) (reclaim_reply (Ok (Some (handed_answer (request_of at s)))) taken halt (removed at s))
+    (reclaim_reply (cond within (Ok None) (Err refusal.UnknownRequest)) taken halt s)
     (λ f e. omega arith)
-    (λ f. chosen (λ (a : ReclaimAnswer). Other (reclaim_number a)) within reclaim.NotYet (reclaim.Refused 15) (λ h e. omega arith)
+    (λ f. chosen (λ (a : Result (Option IsoCompletion) IsoRefusal). Other (reclaim_number a)) within (Ok None) (Err refusal.UnknownRequest) (λ h e. omega arith)
     (λ h e. omega arith))
 
 -- No call on a record that passes the check answers 18.
@@ -208,37 +204,37 @@ pub not_refused : (call : Call) (s : IsoChannelState) → is_bad_record s ≡ fa
 not_refused (Submit t lengths ring) s good = submit_other s t lengths ring (submit_way s t lengths ring) good (told s t lengths ring)
 not_refused (Poll e ring) s good =
     let by_way = polled_by (poll_way s e) s ring in
-    reply_other (ltb (length ring) (ring_words s.cfg)) (refused_reply 17 s) (cond (is_bad_record s) (refused_reply 18 s) by_way)
+    reply_other (ltb (length ring) (ring_words s.cfg)) (refused_reply refusal.ShortBuffer s) (cond (is_bad_record s) (refused_reply refusal.BadRecord s) by_way)
     (λ h u. omega arith) (λ h. past_record s by_way good (poll_other (poll_way s e) s ring))
 not_refused (Reclaim id e ring results) s good =
     let l = looked id e s ring in
     let again = looked_again id l.taken l.halt l.session in
-    let bad = reclaim_reply (reclaim.Refused 18) false false s in
-    reclaim_other (is_short s (length ring) (length results)) (reclaim_reply (reclaim.Refused 17) false false s) (cond (is_bad_record s) bad again)
+    let bad = reclaim_reply (Err refusal.BadRecord) false false s in
+    reclaim_other (is_short s (length ring) (length results)) (reclaim_reply (Err refusal.ShortBuffer) false false s) (cond (is_bad_record s) bad again)
     (λ h u. omega arith)
     (λ h. subst⁻¹ (λ (b : Bool). Other (reclaim_number (cond b bad again).answer)) good (again_other id l.taken l.halt l.session))
 not_refused (Cancel id) s good =
     let at : ℕ = request_at id s in
-    let amended = reply done.Done false false (with_cancelled at s) in
-    let stands = reply done.Done false false s in
-    let halting = reply done.Done false true (with_reason reason.Cancelled s) in
+    let amended = reply (Ok tt) false false (with_cancelled at s) in
+    let stands = reply (Ok tt) false false s in
+    let halting = reply (Ok tt) false true (with_reason reason.Cancelled s) in
     let pending = cond (has_reason s.fatal) stands halting in
-    let known = cond (ltb at s.head.count) pending (refused_reply 15 s) in
+    let known = cond (ltb at s.head.count) pending (refused_reply refusal.UnknownRequest s) in
     past_record s (cond (ltb at s.head.done) amended known) good
     (reply_other (ltb at s.head.done) amended known (λ h u. omega arith)
-    (λ h. reply_other (ltb at s.head.count) pending (refused_reply 15 s)
+    (λ h. reply_other (ltb at s.head.count) pending (refused_reply refusal.UnknownRequest s)
     (λ k. reply_other (has_reason s.fatal) stands halting (λ f u. omega arith) (λ f u. omega arith)) (λ k u. omega arith)))
 not_refused Reset s good =
-    let empty = reply done.Done false false (at_start s) in
-    past_record s (cond (is_empty s) empty (refused_reply 16 s)) good
-    (reply_other (is_empty s) empty (refused_reply 16 s) (λ h u. omega arith) (λ h u. omega arith))
+    let empty = reply (Ok tt) false false (at_start s) in
+    past_record s (cond (is_empty s) empty (refused_reply refusal.NotEmpty s)) good
+    (reply_other (is_empty s) empty (refused_reply refusal.NotEmpty s) (λ h u. omega arith) (λ h u. omega arith))
 not_refused (Recover ring) s good =
-    let over = reply done.Done false false (ended outcome.Disconnected s) in
-    reply_other (ltb (length ring) (ring_words s.cfg)) (refused_reply 17 s) (cond (is_bad_record s) (refused_reply 18 s) over)
+    let over = reply (Ok tt) false false (ended outcome.Disconnected s) in
+    reply_other (ltb (length ring) (ring_words s.cfg)) (refused_reply refusal.ShortBuffer s) (cond (is_bad_record s) (refused_reply refusal.BadRecord s) over)
     (λ h u. omega arith) (λ h. past_record s over good (λ u. omega arith))
 
 -- So a caller who starts with `open` never sees 18.
 pub never_refused :
-    (cfg : IsoConfig) (ring : List ℕ) → open_answer cfg (length ring) ≡ answer.Opened
+    (cfg : IsoConfig) (ring : List ℕ) → open_answer cfg (length ring) ≡ Ok tt
     → (calls : List Call) (call : Call) → number call (after_all calls (opened cfg (length ring)).session) ≡ 18 → ⊥
 never_refused cfg ring e calls call = not_refused call (after_all calls (opened cfg (length ring)).session) (never_bad cfg ring e calls)

@@ -1,6 +1,7 @@
 -- The laws of a chain of descriptors: one descriptor and the rest of the chain, stored and counted back, and what a stage that a planner
 -- makes leans on. Assumes nothing.
-use Rattle.std.proofs.Common.{◌≡◌, ℕ, zero, suc, ◌+◌, ◌-◌, ◌*◌, ◌<◌, ◌≤◌, min, Bool, true, false, not, eqb, ltb, List, [], ◌∷◌, ◌++◌, length, get_or, take, drop, set, sym, refl, ap, ◌∙◌, ap₂, append_assoc, append-nil, add_assoc, suc-mul, zero-add, arith, length-drop, drop-drop, ltb-false, eqb-true}
+use Rattle.std.proofs.Common.{◌≡◌, ℕ, zero, suc, ◌+◌, ◌-◌, ◌*◌, ◌<◌, ◌≤◌, min, Bool, true, false, not, eqb, ltb, List, [], ◌∷◌, ◌++◌, length, get_or, take, drop, set, sym, refl, ap, ◌∙◌, ap₂, append_assoc, append-nil, add_assoc, add-mul, mul-le-mul_right, one-mul, zero-add, arith, length-drop, drop-drop, ltb-false, eqb-true}
+use Rattle.std.specs.Prelude.{Ok}
 use lib.Seq.{sets, sets-eq, take-length, drop-length}
 use borrow.Author.Tests.{not-false}
 use Rattle.words.specs.Field.{get}
@@ -9,7 +10,7 @@ use Rattle.words.specs.declared.descriptor.DmaDescriptor.{DmaDescriptor}
 use Rattle.plan.specs.declared.types.Dwc2TransferStage.{Dwc2TransferStage}
 use Rattle.plan.specs.declared.types.Dwc2StageRole.{Dwc2StageRole}
 use Rattle.plan.specs.declared.types.Dwc2StageRole.TheVariants.{Data, ControlSetup, ControlData, ControlStatus}
-use Rattle.plan.specs.declared.types.PlanAnswer.TheVariants.{Planned, ShortBuffer, BadEndpoint}
+use Rattle.plan.specs.declared.refusals.PlanRefusal.TheVariants.{ShortBuffer, BadEndpoint}
 use Rattle.plan.specs.Refusals.{◌⇒◌, is_short}
 use Rattle.plan.specs.Planning.{chunk_of, chain_words, role_words, stage_words}
 use Rattle.plan.specs.StageLength.{ChainFits, link_of, link_moved, chain_moved, is_forged, stage_answer}
@@ -35,21 +36,6 @@ sets_part l vs i h =
     rw (n, take-length, drop-length, append-nil, sets-eq vs (drop i l) 0 (omega (arith, length-drop i l)), sets-eq vs l i h, drop-drop, zero-add)
     (sym (append_assoc (take i l) vs (drop (i + length vs) l)))
 
--- ---- numbers
-
--- where more than one part is left to do, one whole part is there, and the others but the last after it
-pub full_more : (left rest k : ℕ) → 1 < left → (left - 1) * k ≤ rest → (k ≤ rest) × ((left - 1 - 1) * k ≤ rest - k)
-full_more zero rest k h f = absurd (omega arith)
-full_more (suc zero) rest k h f = absurd (omega arith)
-full_more (suc (suc n)) rest k h f =
-    let one : suc (suc n) - 1 ≡ suc n = omega arith in
-    let two : suc (suc n) - 1 - 1 ≡ n = omega arith in
-    let g : suc n * k ≤ rest = rw one at f in
-    (omega (arith, suc-mul n k), rw two (omega (arith, suc-mul n k)))
-
-suc_less : (n : ℕ) → suc n ≡ suc (suc n) - 1
-suc_less n = omega arith
-
 -- ---- a chain
 
 -- one descriptor, and the rest of the chain
@@ -59,18 +45,40 @@ pub chain_more : (m : ℕ) (is_in : Bool) (left rest buf : ℕ) → 1 < left
 chain_more m is_in zero rest buf h = absurd (omega arith)
 chain_more m is_in (suc zero) rest buf h = absurd (omega arith)
 chain_more m is_in (suc (suc n)) rest buf h =
-    ap (λ (k : ℕ). chain_status (initial_len (chunk_of m) m is_in) false ∷ buf ∷ chain_words m is_in k (rest - chunk_of m) (buf + chunk_of m)) (suc_less n)
+    let e : suc n ≡ suc (suc n) - 1 = omega arith in
+    ap (λ (k : ℕ). chain_status (initial_len (chunk_of m) m is_in) false ∷ buf ∷ chain_words m is_in k (rest - chunk_of m) (buf + chunk_of m)) e
+
+-- so many chunks are within a length that more of them are within
+pub chunks_fit : (i n k len : ℕ) → i ≤ n → n * k ≤ len → i * k ≤ len
+chunks_fit i n k len h f = omega (arith, mul-le-mul_right k h)
+
+-- one chunk more
+pub chunk_more : (i k : ℕ) → (i + 1) * k ≡ i * k + k
+chunk_more i k = omega (arith, add-mul i 1 k, one-mul k)
+
+-- the words of a chain from descriptor i on, where k bytes are a chunk
+abbrev pub chain_from : ℕ → ℕ → Bool → ℕ → ℕ → ℕ → ℕ → List ℕ
+chain_from m k is_in descs len addr i = chain_words m is_in (descs - i) (len - i * k) (addr + i * k)
+
+-- descriptor i is stored: what is behind it in the chain, stored behind it, gives the whole
+pub store_more : (m k : ℕ) (is_in : Bool) (descs len addr i : ℕ) (l l' : List ℕ) (d : DmaDescriptor) → i + 1 < descs → k ≡ chunk_of m
+    → d ≡ link_of (addr + i * k) k m is_in false
+    → l' ≡ set (set l (2 * i) d.status) (2 * i + 1) d.paddr
+    → sets l' (2 * (i + 1)) (chain_from m k is_in descs len addr (i + 1)) ≡ sets l (2 * i) (chain_from m k is_in descs len addr i)
+store_more m k is_in descs len addr i l l' d h e f g =
+    let s : ℕ = chain_status (initial_len (chunk_of m) m is_in) false in
+    let at : 2 * (i + 1) ≡ 2 * i + 2 = omega arith in
+    let n : descs - (i + 1) ≡ descs - i - 1 = omega arith in
+    let r : len - (i + 1) * k ≡ len - i * k - chunk_of m = omega (arith, chunk_more i k) in
+    let b : addr + (i + 1) * k ≡ addr + i * k + chunk_of m = omega (arith, chunk_more i k) in
+    let put : l' ≡ set (set l (2 * i) s) (2 * i + 1) (addr + i * k) =
+    g ∙ ap (λ (d : DmaDescriptor). set (set l (2 * i) d.status) (2 * i + 1) d.paddr) (f ∙ ap (λ (x : ℕ). link_of (addr + i * k) x m is_in false) e) in
+    (λ j. sets (put j) (at j) (chain_words m is_in (n j) (r j) (b j)))
+    ∙ sym (sets_two l (2 * i) s (addr + i * k) (chain_words m is_in (descs - i - 1) (len - i * k - chunk_of m) (addr + i * k + chunk_of m)))
+    ∙ ap (sets l (2 * i)) (sym (chain_more m is_in (descs - i) (len - i * k) (addr + i * k) (omega arith)))
 
 pub chain_last : (m : ℕ) (is_in : Bool) (left rest buf : ℕ) → left ≡ 1 → chain_words m is_in left rest buf ≡ chain_status (initial_len rest m is_in) true ∷ buf ∷ []
 chain_last m is_in left rest buf e = rw e
-
--- a descriptor is stored: what is left of the chain, stored behind it, gives the whole
-pub store_more : (m : ℕ) (is_in : Bool) (left rest buf k at : ℕ) (l l' : List ℕ) (d : DmaDescriptor) → 1 < left → k ≡ chunk_of m → d ≡ link_of buf k m is_in false
-    → l' ≡ set (set l at d.status) (at + 1) d.paddr
-    → sets l' (at + 2) (chain_words m is_in (left - 1) (rest - k) (buf + k)) ≡ sets l at (chain_words m is_in left rest buf)
-store_more m is_in left rest buf k at l l' d h e f g =
-    rw (g, f, e, chain_more m is_in left rest buf h)
-    (sym (sets_two l at (chain_status (initial_len (chunk_of m) m is_in) false) buf (chain_words m is_in (left - 1) (rest - chunk_of m) (buf + chunk_of m))))
 
 pub store_last : (m : ℕ) (is_in : Bool) (left rest buf at : ℕ) (l l' : List ℕ) (d : DmaDescriptor) → left ≡ 1 → d ≡ link_of buf rest m is_in true
     → l' ≡ set (set l at d.status) (at + 1) d.paddr → l' ≡ sets l at (chain_words m is_in left rest buf)
@@ -89,13 +97,31 @@ full_moved m k status small e =
     ∙ ap (λ (x : ℕ). min (chunk_of m) (x - get byte_count status)) (sym whole)
     ∙ ap (λ (x : ℕ). link_moved x m status) (sym e)
 
--- a descriptor is counted: what is left of the chain, counted on top of it, gives the whole
-pub count_more : (m : ℕ) (array : List ℕ) (left at rest k total r : ℕ) → 1 < left → k ≡ chunk_of m → r ≡ link_moved k m (get_or array (2 * at) 0)
-    → total + r + chain_moved m array (left - 1) (at + 1) (rest - k) ≡ total + chain_moved m array left at rest
-count_more m array zero at rest k total r h e f = absurd (omega arith)
-count_more m array (suc zero) at rest k total r h e f = absurd (omega arith)
-count_more m array (suc (suc n)) at rest k total r h e f =
-    rw (f, e, ← suc_less n) (add_assoc total (link_moved (chunk_of m) m (get_or array (2 * at) 0)) (chain_moved m array (suc n) (at + 1) (rest - chunk_of m)))
+-- what the descriptors of a chain moved from descriptor i on
+abbrev pub moved_from : ℕ → ℕ → List ℕ → ℕ → ℕ → ℕ → ℕ → ℕ
+moved_from m k array base descs len i = chain_moved m array (descs - i) (base + i) (len - i * k)
+
+moved_more : (m : ℕ) (array : List ℕ) (left at rest : ℕ) → 1 < left
+    → chain_moved m array left at rest ≡ link_moved (chunk_of m) m (get_or array (2 * at) 0) + chain_moved m array (left - 1) (at + 1) (rest - chunk_of m)
+moved_more m array zero at rest h = absurd (omega arith)
+moved_more m array (suc zero) at rest h = absurd (omega arith)
+moved_more m array (suc (suc n)) at rest h =
+    let e : suc n ≡ suc (suc n) - 1 = omega arith in
+    ap (λ (k : ℕ). link_moved (chunk_of m) m (get_or array (2 * at) 0) + chain_moved m array k (at + 1) (rest - chunk_of m)) e
+
+-- descriptor i is counted: what is behind it in the chain, counted on top of it, gives the whole
+pub count_more : (m k : ℕ) (array : List ℕ) (base descs len i total r : ℕ) → i + 1 < descs → k ≡ chunk_of m
+    → r ≡ link_moved k m (get_or array (2 * (base + i)) 0)
+    → total + r + moved_from m k array base descs len (i + 1) ≡ total + moved_from m k array base descs len i
+count_more m k array base descs len i total r h e f =
+    let x : ℕ = link_moved (chunk_of m) m (get_or array (2 * (base + i)) 0) in
+    let n : descs - (i + 1) ≡ descs - i - 1 = omega arith in
+    let at : base + (i + 1) ≡ base + i + 1 = omega arith in
+    let q : len - (i + 1) * k ≡ len - i * k - chunk_of m = omega (arith, chunk_more i k) in
+    let same : r ≡ x = f ∙ ap (λ (k : ℕ). link_moved k m (get_or array (2 * (base + i)) 0)) e in
+    (λ j. total + same j + chain_moved m array (n j) (at j) (q j))
+    ∙ add_assoc total x (chain_moved m array (descs - i - 1) (base + i + 1) (len - i * k - chunk_of m))
+    ∙ ap (λ (y : ℕ). total + y) (sym (moved_more m array (descs - i) (base + i) (len - i * k) (omega arith)))
 
 pub count_last : (m : ℕ) (array : List ℕ) (left at rest total r : ℕ) → left ≡ 1 → r ≡ link_moved rest m (get_or array (2 * at) 0)
     → total + r ≡ total + chain_moved m array left at rest
@@ -125,11 +151,11 @@ pub length_stage : (s : Dwc2TransferStage) → 0 < s.descs → length (stage_wor
 length_stage s h = length_role s.role s h
 
 -- what its chain leans on
-pub planned_fits : (s : Dwc2TransferStage) (words : ℕ) → s.len ≤ 4_294_967_295 → stage_answer s words ≡ Planned
+pub planned_fits : (s : Dwc2TransferStage) (words : ℕ) → s.len ≤ 4_294_967_295 → stage_answer s words ≡ Ok tt
     → ChainFits (get packet_size s.hcchar) s.descs s.len 0 (words - 2 * s.desc_base)
 planned_fits s words h e =
     let p : ℕ = chunk_of (get packet_size s.hcchar) in
-    let passed = none_holds (is_short words ⇒ ShortBuffer ∷ is_forged s ⇒ BadEndpoint ∷ []) tt e in
+    let passed = none_holds (is_short words ⇒ ShortBuffer ∷ is_forged s ⇒ BadEndpoint ∷ []) e in
     let sized = neither (eqb (get packet_size s.hcchar) 0) _ passed.1.0 in
     let few = neither (ltb 256 s.descs) _ sized.1 in
     let last = neither (ltb 1024 (s.desc_base + s.descs)) (not (eqb s.descs (packets s.len p))) few.1 in

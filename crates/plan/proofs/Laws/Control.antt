@@ -1,5 +1,6 @@
 -- Control transfers: what the four tests leave of a request that is planned, and what its stages and its setup packet are.
 use Rattle.std.proofs.Common.{◌≡◌, ℕ, zero, suc, ◌+◌, ◌-◌, ◌*◌, ◌/◌, ◌<◌, ◌≤◌, max, Bool, true, false, cond, ◌&&◌, ◌||◌, ltb, ◌≢◌, List, [], ◌∷◌, length, sym, refl, ap, ◌∙◌, subst, ap₂, arith, ltb-false, le-ltb, lt-ltb}
+use Rattle.std.specs.Prelude.{Some, None, Ok}
 use native.Mathlib.Nat.{div-eq_of_lt, lt-div-mul-add}
 use Rattle.words.specs.declared.types.Direction.{Direction}
 use Rattle.words.specs.declared.types.Direction.TheVariants.{Out, In}
@@ -10,11 +11,11 @@ use Rattle.plan.specs.declared.types.ControlSetup.{ControlSetup}
 use Rattle.plan.specs.declared.types.Dwc2ControlPlan.{Dwc2ControlPlan}
 use Rattle.plan.specs.declared.types.Dwc2StageRole.{Dwc2StageRole}
 use Rattle.plan.specs.declared.types.Dwc2TransferStage.{Dwc2TransferStage}
-use Rattle.plan.specs.declared.types.PlanAnswer.TheVariants.{Planned, ShortBuffer, BadEndpoint, ControlTooLong, AddressLimit}
+use Rattle.plan.specs.declared.refusals.PlanRefusal.TheVariants.{ShortBuffer, BadEndpoint, ControlTooLong, AddressLimit}
 use Rattle.plan.specs.Planning.{chunk_of, split_of, stage_of, laid_stage, laid_out}
 use Rattle.plan.specs.Refusals.{◌⇒◌, is_short, is_bad}
 use Rattle.plan.specs.StageLength.{StageFits}
-use Rattle.plan.specs.DataStages.{is_in, blank_stage}
+use Rattle.plan.specs.DataStages.{is_in}
 use Rattle.plan.specs.ControlPlan.{control_size, status_direction, status_addr, status_way, has_data_stage, setup_stage, data_stage_of, status_stage}
 use Rattle.plan.specs.ControlPlan.{control_stages, is_too_long, control_beyond, control_answer, planned_control, setup_bytes}
 use Rattle.words.proofs.Laws.Tests.{neither}
@@ -69,7 +70,7 @@ status_within In setup status m h e = omega (arith, ltb-false 4_294_967_295 (sta
 status_within Out setup status m h e = h
 
 -- A request that is planned passed the four tests, so its stages have room and lie within the address limit.
-pub plannable : (r : ControlRequest) (words : ℕ) → control_answer r words ≡ Planned → Plannable r words
+pub plannable : (r : ControlRequest) (words : ℕ) → control_answer r words ≡ Ok tt → Plannable r words
 plannable r words e =
     let m : ℕ = control_size r.max_packet_size in
     let bytes : ℕ = initial_len r.len m (is_in r.direction) in
@@ -80,7 +81,7 @@ plannable r words e =
     ∷ is_too_long r.len ⇒ ControlTooLong
     ∷ control_beyond r ⇒ AddressLimit
     ∷ [])
-    tt e in
+    e in
     let data-test = has_data_stage r && is_beyond r.data_dma bytes in
     let status-test = is_in (status_way r) && is_beyond r.status_dma m in
     let first = neither (is_beyond r.setup_dma 8) (data-test || status-test) passed.1.1.1.0 in
@@ -101,7 +102,7 @@ plannable r words e =
 
 -- So the one descriptor of a planned data stage holds all of its data.
 pub planned_one_descriptor :
-    (r : ControlRequest) (words : ℕ) → control_answer r words ≡ Planned → (split_of r.len (control_size r.max_packet_size)).count ≡ 1
+    (r : ControlRequest) (words : ℕ) → control_answer r words ≡ Ok tt → (split_of r.len (control_size r.max_packet_size)).count ≡ 1
 planned_one_descriptor r words e =
     let f = plannable r words e in
     one_descriptor r.len r.max_packet_size f.short f.small
@@ -116,10 +117,8 @@ one_fits role hcchar pid addr base len words room reach = record { some = omega 
 abbrev plan_if : ControlRequest → Bool → Dwc2ControlPlan
 plan_if r b =
     record {
-      answer = Planned;
-      has_data = b;
       setup = setup_stage r;
-      «data» = cond b (data_stage_of r) blank_stage;
+      «data» = cond b (Some (data_stage_of r)) None;
       status = cond b (status_stage r 2) (status_stage r 1);
     }
 
@@ -130,7 +129,7 @@ stages_if r b = cond b (setup_stage r ∷ data_stage_of r ∷ status_stage r 2 �
 pub planned_with_data :
     (r : ControlRequest) (array : List ℕ) {s d t : Dwc2TransferStage} {one two three : List ℕ} → 0 < r.len → s ≡ setup_stage r → d ≡ data_stage_of r
     → t ≡ status_stage r 2 → one ≡ laid_stage s array → two ≡ laid_stage d one → three ≡ laid_stage t two
-    → (record { answer = Planned; has_data = true; setup = s; «data» = d; status = t } ≡ planned_control r)
+    → (record { setup = s; «data» = Some d; status = t } ≡ planned_control r)
     × (three ≡ laid_out (control_stages r) array)
 planned_with_data r array some p q k first second third =
     let has : true ≡ has_data_stage r = sym (lt-ltb 0 r.len some) in (
@@ -139,15 +138,15 @@ planned_with_data r array some p q k first second third =
           ∙ ap (λ (b : Bool). laid_out (stages_if r b) array) has,
     )
 
--- Without data it has two, and a blank one that is not run.
+-- Without data it has two.
 pub planned_without :
-    (r : ControlRequest) (array : List ℕ) {s d t : Dwc2TransferStage} {one two : List ℕ} → r.len ≤ 0 → s ≡ setup_stage r → d ≡ blank_stage
+    (r : ControlRequest) (array : List ℕ) {s t : Dwc2TransferStage} {one two : List ℕ} → r.len ≤ 0 → s ≡ setup_stage r
     → t ≡ status_stage r 1 → one ≡ laid_stage s array → two ≡ laid_stage t one
-    → (record { answer = Planned; has_data = false; setup = s; «data» = d; status = t } ≡ planned_control r)
+    → (record { setup = s; «data» = None; status = t } ≡ planned_control r)
     × (two ≡ laid_out (control_stages r) array)
-planned_without r array none p q k first second =
+planned_without r array none p k first second =
     let has : false ≡ has_data_stage r = sym (le-ltb 0 r.len none) in (
-      rw (p, q, k) (ap (plan_if r) has),
+      rw (p, k) (ap (plan_if r) has),
       second ∙ ap₂ laid_stage k (first ∙ ap (λ (x : Dwc2TransferStage). laid_stage x array) p)
           ∙ ap (λ (b : Bool). laid_out (stages_if r b) array) has,
     )

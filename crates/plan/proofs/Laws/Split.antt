@@ -1,9 +1,9 @@
 -- Packets, chunks and the toggle, for every length and packet size. A length above 0 falls into one part more than there are whole parts
 -- before its last byte: from that one law follow the sums of the parts and the bounds of the last.
-use Rattle.std.proofs.Common.{◌≡◌, ℕ, zero, suc, ◌+◌, ◌-◌, ◌*◌, ◌/◌, ◌%◌, ◌<◌, ◌≤◌, max, Bool, true, false, cond, not, ◌&&◌, eqb, ltb, ◌⊎◌, List, [], ◌∷◌, ◌++◌, length, get_or, replicate, sym, refl, ap, ◌∙◌, ap₂, inl, inr, ⊎_elim, add_assoc, mul-le-mul_right, mod-lt, mul_assoc, suc-mul, div-lt_iff_lt-mul, add-mul, eq-zero-or-pos, eq-or-lt_of_le, one-mul, le-div_iff_mul-le, zero-add, zero-mul, div-mul-le_self, arith, length-append, ltb-false, ltb-true, eq-eqb, ne_eqb}
+use Rattle.std.proofs.Common.{◌≡◌, ℕ, zero, suc, ◌+◌, ◌-◌, ◌*◌, ◌/◌, ◌%◌, ◌<◌, ◌≤◌, min, max, Bool, true, false, cond, not, ◌&&◌, eqb, ltb, ◌⊎◌, List, [], ◌∷◌, ◌++◌, length, get_or, replicate, sym, refl, ap, ◌∙◌, ap₂, inl, inr, ⊎_elim, add_assoc, mul-le-mul_right, mod-lt, mul_assoc, suc-mul, div-lt_iff_lt-mul, add-mul, eq-zero-or-pos, eq-or-lt_of_le, one-mul, le-div_iff_mul-le, zero-add, zero-mul, div-mul-le_self, arith, length-append, ltb-false, ltb-true, le-ltb, lt-ltb, eq-eqb, ne_eqb}
 use mathlib.Core.Path.{subst⁻¹}
 use Prim.Native.Nat.{◌∣◌}
-use native.Mathlib.Nat.{add-div_right, mul-add-div_right}
+use native.Mathlib.Nat.{add-div_right, mul-add-div_right, div-add-mod'}
 use native.Mathlib.Nat.{lt-div-mul-add, div-eq_of_lt, div-mul_cancel, dvd-mul_left, add-mod}
 use lib.Arith.{digits_div}
 use lib.ListN.{length-replicate, get_or-replicate, get_or-append}
@@ -105,6 +105,32 @@ parts_pos len c h pos =
     let e : max 1 c ≡ c = omega arith in
     packets_pos len c h ∙ ap (λ (x : ℕ). (len - 1) / x + 1) e
 
+-- The parts of a length are those that it fills and one more for a rest, and one where it is 0.
+pub parts_ceil : (len c : ℕ) → 0 < c → max 1 (len / c + min 1 (len % c)) ≡ packets len c
+parts_ceil len c h = go (len % c) refl
+  where
+    one : max 1 c ≡ c
+    one = omega arith
+
+    count : packets len c ≡ max 1 ((len + (c - 1)) / c)
+    count = ap (λ (k : ℕ). max 1 ((len + (k - 1)) / k)) one
+
+    whole : len / c * c + len % c ≡ len
+    whole = div-add-mod' len c
+
+    go : (r : ℕ) → len % c ≡ r → max 1 (len / c + min 1 (len % c)) ≡ packets len c
+    go zero e =
+        let less : c - 1 < c = omega arith in
+        let sum : len + (c - 1) ≡ len / c * c + (c - 1) = omega (arith, whole) in
+        let d : (len + (c - 1)) / c ≡ len / c = ap (λ (x : ℕ). x / c) sum ∙ digits_div (len / c) less in
+        omega (arith, count)
+    go (suc r) e =
+        let below : len % c < c = mod-lt len h in
+        let less : r < c = omega arith in
+        let sum : len + (c - 1) ≡ (len / c + 1) * c + r = omega (arith, whole, add-mul (len / c) 1 c, one-mul c) in
+        let d : (len + (c - 1)) / c ≡ len / c + 1 = ap (λ (x : ℕ). x / c) sum ∙ digits_div (len / c + 1) less in
+        omega (arith, count)
+
 -- More than n parts is a length beyond n parts, and the other way round.
 pub many_parts : (n len c : ℕ) → 0 < c → n * c < len → n < packets len c
 many_parts n len c h more =
@@ -120,6 +146,14 @@ few_parts n len c h some-parts less = by_length (eq-zero-or-pos len)
     by_length (inr some) =
         let within : len - 1 < n * c = omega arith in
         omega (arith, parts_pos len c some h, (div-lt_iff_lt-mul {x = len - 1} {y = n} h).1 within)
+
+-- So a product says whether there are more than n parts.
+pub many_by : (n len c : ℕ) → 0 < c → 0 < n → ltb (n * c) len ≡ ltb n (packets len c)
+many_by n len c h some = go (ltb (n * c) len) refl
+  where
+    go : (b : Bool) → ltb (n * c) len ≡ b → ltb (n * c) len ≡ ltb n (packets len c)
+    go true e = e ∙ sym (lt-ltb n (packets len c) (many_parts n len c h (ltb-true (n * c) len e)))
+    go false e = e ∙ sym (le-ltb n (packets len c) (few_parts n len c h some (ltb-false (n * c) len e)))
 
 -- The parts before the last are less than a length above 0.
 pub parts_below : (len c : ℕ) → 0 < len → (packets len c - 1) * c < len

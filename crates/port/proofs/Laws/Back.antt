@@ -1,5 +1,5 @@
 -- What was written is read back: numbers, cases and entries.
-use Rattle.std.proofs.Common.{◌≡◌, ℕ, ◌+◌, ◌*◌, ◌/◌, ◌%◌, Bool, true, false, not, ◌||◌, ltb, List, ◌++◌, sym, refl, ap, ◌∙◌, ap₂, arith}
+use Rattle.std.proofs.Common.{Option, Some, None, ◌≡◌, ℕ, ◌+◌, ◌*◌, ◌/◌, ◌%◌, Bool, true, false, not, ◌||◌, ltb, List, ◌++◌, sym, refl, ap, ◌∙◌, ap₂, arith}
 use Rattle.ring.specs.declared.speed.Speed.{Speed}
 use Rattle.ring.specs.declared.speed.Speed.TheVariants.{High, Full, Low}
 use Rattle.words.specs.Numbers.{fault_bit}
@@ -14,8 +14,7 @@ use Rattle.session.specs.declared.types.TransferStatus.TheVariants.{Completed, E
 use Rattle.session.specs.declared.types.IsoOutcome.{IsoOutcome}
 use Rattle.session.specs.declared.types.IsoOutcome.TheVariants as outcome
 use Rattle.session.specs.declared.types.IsoHaltReason.TheVariants as reason
-use Rattle.session.specs.declared.types.IsoFatal.{IsoFatal}
-use Rattle.session.specs.declared.types.IsoFatal.TheVariants as fatal
+use Rattle.session.specs.declared.types.IsoHaltReason.{IsoHaltReason}
 use Rattle.session.specs.declared.types.IsoRequest.{IsoRequest}
 use Rattle.session.specs.declared.types.IsoPacketPlan.{IsoPacketPlan}
 use Rattle.port.specs.declared.tags.Tagged.{Tagged}
@@ -95,10 +94,10 @@ outcome_back outcome.Cancelled = refl
 outcome_back (outcome.Fault kind word) = ap (λ (k : Dwc2TransferFault). outcome.Fault k word) (fault_back kind)
 outcome_back (outcome.UnexpectedHalt word) = refl
 
-pub fatal_back : (f : IsoFatal) → f ≡ fatal_of (fatal_tagged f)
-fatal_back fatal.Nothing = refl
-fatal_back (fatal.Reason reason.Cancelled) = refl
-fatal_back (fatal.Reason (reason.Fault kind word)) = ap (λ (k : Dwc2TransferFault). fatal.Reason (reason.Fault k word)) (fault_back kind)
+pub fatal_back : (f : Option IsoHaltReason) → f ≡ fatal_of (fatal_tagged f)
+fatal_back None = refl
+fatal_back (Some reason.Cancelled) = refl
+fatal_back (Some (reason.Fault kind word)) = ap (λ (k : Dwc2TransferFault). Some (reason.Fault k word)) (fault_back kind)
 
 outcome_good : (o : IsoOutcome) → is_bad_tagged 3 4 (outcome_tagged o) ≡ false
 outcome_good outcome.Done = refl
@@ -107,10 +106,10 @@ outcome_good outcome.Cancelled = refl
 outcome_good (outcome.Fault kind word) = ap (λ (b : Bool). not b || false) (fault_known kind)
 outcome_good (outcome.UnexpectedHalt word) = refl
 
-pub fatal_good : (f : IsoFatal) → is_bad_tagged 2 2 (fatal_tagged f) ≡ false
-fatal_good fatal.Nothing = refl
-fatal_good (fatal.Reason reason.Cancelled) = refl
-fatal_good (fatal.Reason (reason.Fault kind word)) = ap (λ (b : Bool). not b || false) (fault_known kind)
+pub fatal_good : (f : Option IsoHaltReason) → is_bad_tagged 2 2 (fatal_tagged f) ≡ false
+fatal_good None = refl
+fatal_good (Some reason.Cancelled) = refl
+fatal_good (Some (reason.Fault kind word)) = ap (λ (b : Bool). not b || false) (fault_known kind)
 
 pub tagged_back : (t : Tagged) (ys : List ℕ) → t ≡ tagged_of (tagged_bytes t ++ ys)
 unfolding tagged_of tagged_bytes byte_of u32_of u16_of u32_bytes u16_bytes

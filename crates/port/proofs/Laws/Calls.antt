@@ -1,13 +1,8 @@
 -- A call by bytes, as the code runs: refused at its bytes, or loaded, called and saved.
-use Rattle.std.proofs.Common.{◌≡◌, ℕ, ◌+◌, ◌*◌, ◌/◌, ◌%◌, ◌<◌, ◌≤◌, Bool, true, false, cond, eqb, ltb, List, length, sym, refl, ap, ◌∙◌, ap₂, mod-eq_of_lt, arith, ltb-false, eq-eqb, ne_eqb}
-use native.Mathlib.Nat.{add-mul-mod_self_left}
-use Rattle.session.specs.declared.reply.IsoReply.{IsoReply}
+use Rattle.std.proofs.Common.{◌≡◌, ℕ, ◌≤◌, Bool, true, false, cond, eqb, ltb, List, length, sym, refl, ap, ◌∙◌, arith, ltb-false, eq-eqb, ne_eqb}
 use Rattle.session.specs.declared.types.IsoChannelState.{IsoChannelState}
-use Rattle.port.specs.declared.answers.PortReply.{PortReply}
-use Rattle.port.specs.Tags.{flag_tag}
-use Rattle.port.specs.Layout.{is_bad_layout, layout_number, session_of, left_bytes}
-use Rattle.port.specs.Places.{Left}
-use Rattle.port.specs.Calls.{by_bytes, bytes_by, port_reply, reply_of, reply_by, reply_port, reply_refused}
+use Rattle.port.specs.Layout.{is_bad_layout, layout_number, session_of}
+use Rattle.port.specs.Calls.{by_bytes}
 
 -- bytes that are not refused are long enough
 pub long_enough : (xs : List ℕ) {n : ℕ} → n ≡ layout_number xs → n ≡ 0 → 8488 ≤ length xs
@@ -31,51 +26,3 @@ module _ {A : Type 0} (xs : List ℕ) (refuse : ℕ → A) where
   done call out {n} e z l g =
       let test : eqb (layout_number xs) 0 ≡ true = ap (λ (k : ℕ). eqb k 0) (sym e) ∙ eq-eqb n 0 z in
       ap out (g ∙ ap call l) ∙ sym (ap (λ (b : Bool). cond b (out (call (session_of xs))) (refuse (layout_number xs))) test)
-
--- the answer and the bytes of poll, cancel, reset and recover
-module _ (xs : List ℕ) (call : IsoChannelState → IsoReply) where
-  pub reply_refused_lem :
-      {n : ℕ} {r : PortReply} → n ≡ layout_number xs → (n ≡ 0 → ⊥) → r ≡ reply_refused n
-      → (r ≡ reply_by xs call) × (xs ≡ bytes_by xs (λ (s : IsoChannelState). (call s).session))
-  reply_refused_lem e z g = (
-    g ∙ refused xs reply_refused (λ (s : IsoChannelState). reply_port (call s)) e z,
-    refused xs (λ (n : ℕ). xs) (λ (s : IsoChannelState). left_bytes xs (call s).session) e z,
-  )
-
-  -- the call worked on good bytes where they stand
-  pub reply_done :
-      {n : ℕ} {p : PortReply} {after : List ℕ} → n ≡ layout_number xs → n ≡ 0 → p ≡ reply_port (call (session_of xs)) → Left xs after (call (session_of xs)).session
-      → (p ≡ reply_by xs call) × (after ≡ bytes_by xs (λ (t : IsoChannelState). (call t).session))
-  reply_done e z p left = (
-    p ∙ done xs reply_refused call reply_port e z refl refl,
-    left.bytes ∙ done xs (λ (n : ℕ). xs) call (λ (r : IsoReply). left_bytes xs r.session) e z refl refl,
-  )
-
--- ---- an answer as a number
-
-flag_few : (b : Bool) → flag_tag b ≤ 1
-flag_few true = omega arith
-flag_few false = omega arith
-
-pub reply_flags : (r : IsoReply) {p : PortReply} → p ≡ reply_port r → (p.taken ≤ 1) × (p.halt ≤ 1)
-reply_flags r e = (
-  omega (arith, ap (λ (q : PortReply). q.taken) e, flag_few r.taken),
-  omega (arith, ap (λ (q : PortReply). q.halt) e, flag_few r.halt),
-)
-
-pub refused_flags : {n : ℕ} {p : PortReply} → p ≡ reply_refused n → (p.taken ≤ 1) × (p.halt ≤ 1)
-refused_flags e = (omega (arith, ap (λ (q : PortReply). q.taken) e), omega (arith, ap (λ (q : PortReply). q.halt) e))
-
--- the number is read as it was made
-abbrev reply_number : PortReply → ℕ
-reply_number p = p.refusal + 4294967296 * p.taken + 8589934592 * p.halt
-
-pub reply_read : (p : PortReply) → p.refusal < 4294967296 → p.taken ≤ 1 → p.halt ≤ 1 → reply_of (reply_number p) ≡ p
-reply_read p few taken halt =
-    let n : ℕ = reply_number p in
-    let first : n % 4294967296 ≡ p.refusal = omega arith in
-    let flags : n / 4294967296 ≡ p.taken + 2 * p.halt = omega arith in
-    let second : n / 4294967296 % 2 ≡ p.taken =
-    ap (λ (k : ℕ). k % 2) flags ∙ add-mul-mod_self_left p.taken 2 p.halt ∙ mod-eq_of_lt (omega arith) in
-    let third : n / 8589934592 ≡ p.halt = omega arith in
-    ap₂ (λ (a b : ℕ). port_reply a b (n / 8589934592)) first second ∙ ap (port_reply p.refusal p.taken) third

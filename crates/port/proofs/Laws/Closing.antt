@@ -20,7 +20,7 @@ use Rattle.port.proofs.Laws.Kept.{Octets, request_kept, plan_kept}
 use Rattle.port.proofs.Laws.Left.{left_is, left_over, kept_head, requests_read, plans_read}
 use Rattle.port.proofs.Laws.Over.{part_same}
 use Rattle.port.proofs.Laws.Tables.{length_table, any_less, run_stored}
-use Rattle.port.proofs.Laws.Walks.{requests_in_lem, plans_in_lem, request_turn, plan_turn}
+use Rattle.port.proofs.Laws.Walks.{requests_in_lem, request_turn, plan_turn}
 
 -- ---- one table: the bytes of the entries from `from` to `to`, which are in use, stand at `into`
 
@@ -88,10 +88,6 @@ module _ (xs : List ℕ) (at from to all : ℕ) {head : IsoHead} (z : layout_num
 
   all_is : all ≡ all_packets s
   all_is = ea ∙ ap (λ (h : IsoHead). packets_of (slice 0 h.count s.requests)) eh
-
-  -- the plans that move are in use
-  pub plans_used : all_packets s ≤ 1024 → all ≤ plans_in s
-  plans_used h = le_of_eq (all_is ∙ sym (plans_in_lem s few h))
 
   module _ {b : List ℕ} (eb : Left xs b (with_plans s table)) where
     -- as many entries are in use as before

@@ -76,12 +76,10 @@ bad_plan_at xs at tag p = ap (ltb 1) (p ∙ field byte_of 6 at xs)
 -- ---- writing
 
 pub tagged_put :
-    (xs : List ℕ) {a b c : List ℕ} (at : ℕ) (t : Tagged) → a ≡ sets xs at (t.tag ∷ []) → b ≡ sets a (at + 1) (t.kind ∷ [])
-    → c ≡ sets b (at + 2) (u32_bytes t.word)
-    → c ≡ sets xs at (tagged_bytes t)
+    (xs : List ℕ) {a b : List ℕ} (at : ℕ) (t : Tagged) → a ≡ sets xs at (t.tag ∷ t.kind ∷ []) → b ≡ sets a (at + 2) (u32_bytes t.word)
+    → b ≡ sets xs at (tagged_bytes t)
 unfolding tagged_bytes
-tagged_put xs at t p q r =
-    then xs at (at + 2) (t.tag ∷ t.kind ∷ []) (u32_bytes t.word) (then xs at (at + 1) (t.tag ∷ []) (t.kind ∷ []) p refl q) refl r
+tagged_put xs at t p q = then xs at (at + 2) (t.tag ∷ t.kind ∷ []) (u32_bytes t.word) p refl q
 
 pub request_put :
     (xs : List ℕ) {a b c d : List ℕ} (at : ℕ) (r : IsoRequest) (t : Tagged)
@@ -138,44 +136,6 @@ halves ys = refl
 pub pair : (ys : List ℕ) → u16_of ys ≡ byte_of ys + 256 * byte_of (drop 1 ys)
 unfolding u16_of byte_of
 pair ys = ap (λ (n : ℕ). get_or ys 0 0 + 256 * n) (sym (get_or-drop 1 ys 0 0))
-
--- the number of four bytes, and of eight, byte by byte
-pub four_bytes :
-    (ys : List ℕ) → u32_of ys ≡ byte_of ys + 256 * byte_of (drop 1 ys) + 65536 * byte_of (drop 2 ys) + 16777216 * byte_of (drop 3 ys)
-unfolding u32_of
-four_bytes ys = omega (arith, pair ys, pair (drop 2 ys), ap byte_of (drop-drop 1 2 ys))
-
-pub by_bytes_lem :
-    (ys : List ℕ)
-    → u64_of ys
-    ≡ byte_of ys
-    + 256 * byte_of (drop 1 ys)
-    + 65536 * byte_of (drop 2 ys)
-    + 16777216 * byte_of (drop 3 ys)
-    + 4294967296 * byte_of (drop 4 ys)
-    + 1099511627776 * byte_of (drop 5 ys)
-    + 281474976710656 * byte_of (drop 6 ys)
-    + 72057594037927936 * byte_of (drop 7 ys)
-unfolding u64_of u32_of u16_of byte_of
-by_bytes_lem ys =
-    let at : (k i : ℕ) → get_or (drop k ys) i 0 ≡ get_or ys (k + i) 0 = λ k i. get_or-drop k ys i 0 in
-    let six : drop 2 (drop 4 ys) ≡ drop 6 ys = drop-drop 2 4 ys in
-    let low = ap (λ (l : List ℕ). get_or l 0 0) six in
-    let high = ap (λ (l : List ℕ). get_or l 1 0) six in
-    omega (arith, low, high, at 1 0, at 2 0, at 2 1, at 3 0, at 4 0, at 4 1, at 5 0, at 6 0, at 6 1, at 7 0)
-
--- the same by the fields of a plan, which are the last seven of them
-pub by_plan :
-    (ys : List ℕ)
-    → u64_of ys
-    ≡ byte_of ys
-    + 256 * u16_of (drop 1 ys)
-    + 16777216 * u16_of (drop 3 ys)
-    + 1099511627776 * u16_of (drop 5 ys)
-    + 72057594037927936 * byte_of (drop 7 ys)
-by_plan ys =
-    let on : (k : ℕ) → byte_of (drop 1 (drop k ys)) ≡ byte_of (drop (k + 1) ys) = λ k. ap byte_of (drop-drop 1 k ys) in
-    omega (arith, by_bytes_lem ys, pair (drop 1 ys), on 1, pair (drop 3 ys), on 3, pair (drop 5 ys), on 5)
 
 -- where the number ends with its first two bytes, the six behind them are the tag 0 without fault and word
 module _ (ys : List ℕ) (h : u64_of ys < 65536) where

@@ -1,5 +1,5 @@
 -- The first request settled and handed out in one: when a poll settles it and no other, and what is left without it.
-use Rattle.std.proofs.Common.{◌≡◌, ℕ, suc, ◌+◌, ◌-◌, ◌*◌, ◌<◌, ◌≤◌, Bool, true, false, not, ◌||◌, ltb, List, [], ◌∷◌, map, length, get_or, set, sym, refl, ap, ◌∙◌, ap₂, arith, get_or-set_other, get_or-set_same, ltb-false, ltb-true}
+use Rattle.std.proofs.Common.{None, ◌≡◌, ℕ, suc, drop, ◌+◌, ◌-◌, ◌*◌, ◌<◌, ◌≤◌, Bool, true, false, not, ◌||◌, eqb, eq-eqb, List, [], ◌∷◌, map, length, get_or, set, sym, refl, ap, ◌∙◌, ap₂, arith, get_or-set_other, get_or-set_same}
 use lib.ListN.{length-map}
 use lib.Seq.{slice, sets}
 use Rattle.words.specs.Words.{is_set, active}
@@ -12,16 +12,21 @@ use Rattle.session.specs.Session.{blank_request, blank_plan, packets_of, all_pac
 use Rattle.session.specs.Settle.{settled_plan, oldest, oldest_from, oldest_to, oldest_plans, settled_plans, settled_request, settled_session, slots_cleared, settled_ring, is_served, drained}
 use Rattle.session.specs.Reclaim.{is_done, result_word, plans_begin, plans_end, closed_up, removed, handed_results}
 use Rattle.session.specs.Scan.{whole}
+use Rattle.std.specs.List.{list_any, range_with_len}
+use Rattle.std.proofs.lemmas.List.Folds.{list_any_at}
+use Rattle.std.proofs.lemmas.List.FromFn.{length-range_with_len, get_or-range_with_len}
 use Rattle.session.proofs.Laws.Lists.{slice_sets, get_or-slice, get_or-sets_after}
 use Rattle.session.proofs.Laws.Record.{Sound}
 use Rattle.session.proofs.Laws.Settled.{oldest_in, all_settled, settled_count, settled_sound, drained_next, drained_stop}
 use Rattle.session.proofs.Laws.Handed.{removed_by, handed_by}
-use Rattle.port.specs.Bytes.{u16_bytes}
+use Rattle.port.specs.Bytes.{byte_of, u32_of, u16_bytes}
+use Rattle.port.specs.Tags.{tagged, tagged_of, fatal_of}
 use Rattle.port.specs.Layout.{layout_number, session_of}
 use Rattle.port.specs.Places.{requests_of, with_requests, with_plans, Left}
 use Rattle.port.proofs.Laws.Calls.{long_enough}
 use Rattle.port.proofs.Laws.Left.{with_count, kept_count, left_is, left_over}
 use Rattle.port.proofs.Laws.Runs.{closed_over}
+use Rattle.port.proofs.Laws.Scans.{never}
 use Rattle.port.proofs.Laws.Settling.{settled_from}
 
 -- ---- a slot that none of the first plans has
@@ -29,15 +34,16 @@ use Rattle.port.proofs.Laws.Settling.{settled_from}
 abbrev pub Apart : ℕ → ℕ → List IsoPacketPlan → Type 0
 Apart n slot plans = (k : ℕ) → k < n → (get_or plans k blank_plan).desc_index ≡ slot → ⊥
 
-pub apart_next :
-    (slot i : ℕ) (plans : List IsoPacketPlan) → Apart i slot plans → ((get_or plans i blank_plan).desc_index ≡ slot → ⊥) → Apart (i + 1) slot plans
-apart_next slot i plans h here k less e = go (ltb k i) refl
-  where
-    go : (b : Bool) → ltb k i ≡ b → ⊥
-    go true t = h k (ltb-true k i t) e
-    go false f =
-        let same : i ≡ k = omega (arith, ltb-false k i f) in
-        here (ap (λ (n : ℕ). (get_or plans n blank_plan).desc_index) same ∙ e)
+pub apart :
+    (n slot : ℕ) (plans : List IsoPacketPlan) → list_any (λ (i : ℕ). eqb (get_or plans i blank_plan).desc_index slot) (range_with_len 0 n) ≡ false
+    → Apart n slot plans
+apart n slot plans none k less same =
+    let has : ℕ → Bool = λ (i : ℕ). eqb (get_or plans i blank_plan).desc_index slot in
+    let here : 0 + k ≡ k = omega arith in
+    let found : list_any has (range_with_len 0 n) ≡ true =
+    list_any_at has (range_with_len 0 n) k 0 (omega (arith, length-range_with_len 0 n, less))
+    (ap has (get_or-range_with_len 0 n k 0 less ∙ here) ∙ eq-eqb (get_or plans k blank_plan).desc_index slot same) in
+    never (sym found ∙ none)
 
 -- its status word stays when theirs are cleared
 cleared_other :
@@ -102,6 +108,13 @@ module _ (s : IsoChannelState) (ring : List ℕ) (g : Sound s) (none : s.head.do
 
     pub second_in : to ≤ all_packets s
     second_in = omega (arith, second_to, oldest_in t (settled_sound s ring g pending) (omega (arith, none, more)), all_settled s ring g pending)
+
+    -- both have packets, and their plans are in the table
+    pub ends_in : (0 < n) × (n < to) × (to ≤ 1024)
+    ends_in =
+        let one = (g.request 0 (omega (arith, more))).some in
+        let two = (g.request 1 more).some in
+        (omega (arith, en, one), omega (arith, et, two), omega (arith, second_in, g.all_few))
 
     behind : n ≤ to - 1
     behind = omega (arith, et, (g.request 1 more).some)
@@ -207,3 +220,9 @@ first_taken xs ring {n} {all} {count} z g none more en ea half ec {b} {c} eb er 
     ∙ ap (λ (k : ℕ). with_requests (with_plans s plans) (closed_up 0 1 k s.requests)) ec) in
     left_is (kept_count long both (s.head.count - 1) (ed ∙ ap (λ (k : ℕ). sets c 32 (u16_bytes (k - 1))) ec))
     (first_removed s ring g none more en ea half)
+
+-- ---- no reason to end
+
+pub no_reason : (ys : List ℕ) → byte_of ys ≡ 0 → fatal_of (tagged_of ys) ≡ None
+unfolding tagged_of
+no_reason ys e = ap (λ (n : ℕ). fatal_of (tagged n (byte_of (drop 1 ys)) (u32_of (drop 2 ys)))) e

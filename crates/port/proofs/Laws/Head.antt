@@ -1,5 +1,5 @@
 -- The head of a session's bytes, field by field.
-use Rattle.std.proofs.Common.{◌≡◌, ℕ, ◌+◌, ◌*◌, ◌<◌, Bool, false, not, ◌||◌, eqb, ltb, List, [], ◌∷◌, ◌++◌, drop, sym, refl, ap, ◌∙◌, ap₂, arith, eq-eqb, eqb-true}
+use Rattle.std.proofs.Common.{◌≡◌, ℕ, ◌+◌, ◌*◌, ◌<◌, Bool, false, not, ◌||◌, eqb, ltb, List, [], ◌∷◌, ◌++◌, drop, sym, refl, ap, ◌∙◌, subst, ap₂, arith, eq-eqb, eqb-true}
 use lib.Seq.{sets}
 use borrow.Author.Tests.{not-false}
 use Rattle.words.proofs.Laws.Tests.{neither}
@@ -14,6 +14,7 @@ use Rattle.port.specs.Bytes.{byte_of, u16_of, u32_of, u64_of, u16_bytes, u32_byt
 use Rattle.port.specs.Tags.{speed_tag, speed_of, direction_tag, direction_of, mode_tag, mode_of, flag_tag, tagged_of, is_bad_tagged}
 use Rattle.port.specs.Layout.{mark_bytes, config_bytes, config_of, head_bytes, head_of, is_bad_mark, is_bad_head}
 use Rattle.port.proofs.Laws.Entries.{field, pair}
+use Rattle.port.proofs.Laws.Kept.{Octets, octets_drop, byte_small}
 use Rattle.port.proofs.Laws.Runs.{then}
 use Rattle.port.proofs.Laws.Scans.{same_tests}
 
@@ -116,6 +117,19 @@ unmarked_at xs {a} {b} {c} {d} {e} ea eb ec ed ee la lb lc ld le =
         let z : c ≡ 83 = is three.0 in
         let v : d + 256 * e ≡ 1 = is three.1 in
         none (are (a + 256 * b + 65536 * (c + 256 * d)) 22239044 (omega arith)) (are e 0 (omega arith))
+
+pub unmarked_by :
+    (xs : List ℕ) {n e : ℕ} → Octets xs → n ≡ u32_of xs → e ≡ byte_of (drop 4 xs) → (not (eqb n 22239044) || not (eqb e 0)) ≡ is_bad_mark xs
+unfolding u32_of
+unmarked_by xs {n} {e} octets en ee =
+    let small = λ (k : ℕ). byte_small (drop k xs) (octets_drop k xs octets) in
+    let high : u16_of (drop 2 xs) ≡ byte_of (drop 2 xs) + 256 * byte_of (drop 3 xs) =
+    pair (drop 2 xs) ∙ ap (λ (k : ℕ). byte_of (drop 2 xs) + 256 * k) (sym (field byte_of 1 2 xs)) in
+    let whole : n ≡ byte_of xs + 256 * byte_of (drop 1 xs) + 65536 * (byte_of (drop 2 xs) + 256 * byte_of (drop 3 xs)) =
+    en ∙ ap₂ (λ (a b : ℕ). a + 65536 * b) (pair xs) high in
+    ap (λ (k : ℕ). not (eqb k 22239044) || not (eqb e 0)) whole
+    ∙ unmarked_at xs refl refl refl refl ee (byte_small xs octets) (small 1) (small 2) (small 3)
+    (subst (λ (k : ℕ). k < 256) (sym ee) (small 4))
 
 -- ---- writing
 

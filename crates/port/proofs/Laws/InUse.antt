@@ -1,10 +1,9 @@
 -- A poll has no more and no fewer entries in use than before it, so the bytes stay in the layout; and each request keeps its number and its place.
-use Rattle.std.proofs.Common.{◌≡◌, ℕ, zero, suc, ◌+◌, ◌-◌, ◌<◌, ◌≤◌, Bool, true, false, cond, ◌||◌, eqb, List, [], ◌∷◌, map, length, get_or, sym, refl, ap, ◌∙◌, ap₂, le_of_eq, arith, eq-eqb}
+use Rattle.std.proofs.Common.{Option, Ok, ◌≡◌, ℕ, zero, suc, ◌+◌, ◌-◌, ◌<◌, ◌≤◌, Bool, true, false, cond, ◌||◌, eqb, List, [], ◌∷◌, map, length, get_or, sym, refl, ap, ◌∙◌, ap₂, le_of_eq, arith, eq-eqb}
 use lib.Seq.{slice, map-set_same}
 use Rattle.session.specs.declared.reply.IsoEvent.{IsoEvent}
 use Rattle.session.specs.declared.reply.PollWay.{PollWay}
 use Rattle.session.specs.declared.reply.PollWay.TheVariants as way
-use Rattle.session.specs.declared.reply.IsoAnswer.TheVariants as answer
 use Rattle.session.specs.declared.types.IsoChannelState.{IsoChannelState}
 use Rattle.session.specs.declared.types.IsoRequest.{IsoRequest}
 use Rattle.session.specs.Session.{blank_request, all_packets}
@@ -118,9 +117,9 @@ polled_in_use (way.Halt r) s ring g = record { count = refl; packets = refl; num
 polled_in_use way.Wait s ring g = in_use_same s
 polled_in_use (way.Settle bit) s ring g = drain_in_use (s.head.count - s.head.done) bit s ring g (omega (arith, g.done_in))
 
-pub looked_in_use : (id : ℕ) (e : IsoEvent) (s : IsoChannelState) (ring : List ℕ) → Sound s → InUse s (looked id e s ring).session
+pub looked_in_use : (id : ℕ) (e : Option IsoEvent) (s : IsoChannelState) (ring : List ℕ) → Sound s → InUse s (looked id e s ring).session
 looked_in_use id e s ring g = go (is_found id s)
   where
-    go : (b : Bool) → InUse s (cond b (reply answer.Done false false s) (polled_by (poll_way s e) s ring)).session
+    go : (b : Bool) → InUse s (cond b (reply (Ok tt) false false s) (polled_by (poll_way s e) s ring)).session
     go true = in_use_same s
     go false = polled_in_use (poll_way s e) s ring g

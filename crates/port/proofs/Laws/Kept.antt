@@ -1,5 +1,5 @@
 -- What was read is written back as it was: numbers, cases and entries, where each byte is below 256 and no case is bad.
-use Rattle.std.proofs.Common.{◌≡◌, ℕ, ◌+◌, ◌*◌, ◌/◌, ◌%◌, ◌<◌, ◌≤◌, Bool, true, false, not, ◌&&◌, ◌||◌, eqb, ltb, leb, List, [], ◌∷◌, ◌++◌, length, get_or, take, drop, sym, refl, ap, ◌∙◌, ap₂, arith, length-drop, get_or-drop, drop-drop, take-add, ltb-false, ne_eqb, eqb-true, leb-true}
+use Rattle.std.proofs.Common.{◌≡◌, ℕ, ◌+◌, ◌*◌, ◌/◌, ◌%◌, ◌<◌, ◌≤◌, Bool, true, false, not, ◌&&◌, ◌||◌, eqb, ltb, leb, List, [], ◌∷◌, ◌++◌, length, get_or, take, drop, sym, refl, ap, ◌∙◌, ap₂, arith, length-drop, get_or-drop, take-add, ltb-false, ne_eqb, eqb-true, leb-true}
 use mathlib.Core.Path.{subst⁻¹}
 use borrow.Author.Tests.{eqb-false, not-false}
 use Rattle.words.specs.Numbers.{fault_bit}
@@ -92,14 +92,6 @@ u64_kept xs h k =
     let high : u64_of xs / 4294967296 ≡ u32_of (drop 4 xs) = omega (arith, u64_low xs, u32_small xs h) in
     ap₂ (λ (a b : ℕ). u32_bytes a ++ u32_bytes b) low high
     ∙ join 4 4 xs (u32_kept xs h (omega arith)) (u32_kept (drop 4 xs) (octets_drop 4 xs h) (omega (arith, length-drop 4 xs)))
-
--- two numbers read one behind the other are sixteen bytes
-pub pair_u64_kept :
-    (at : ℕ) (xs : List ℕ) → Octets xs → at + 16 ≤ length xs
-    → u64_bytes (u64_of (drop at xs)) ++ u64_bytes (u64_of (drop (at + 8) xs)) ≡ take 16 (drop at xs)
-pair_u64_kept at xs h k =
-    join 8 8 (drop at xs) (u64_kept (drop at xs) (octets_drop at xs h) (omega (arith, length-drop at xs)))
-    (u64_kept (drop (at + 8) xs) (octets_drop (at + 8) xs h) (omega (arith, length-drop (at + 8) xs)) ∙ ap (take 8) (sym (drop-drop 8 at xs)))
 
 -- ---- cases
 

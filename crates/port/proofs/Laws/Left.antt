@@ -1,9 +1,9 @@
 -- A session in its bytes, worked on in place: what one part written, an entry, the head or the reason, leaves in the place of the bytes at the
 -- beginning. Bytes of entries that are not in the layout stay, so an entry may be written only where it was tested, or behind those written.
-use Rattle.std.proofs.Common.{◌≡◌, ℕ, suc, ◌+◌, ◌*◌, ◌<◌, ◌≤◌, false, List, ◌++◌, length, drop, set, sym, refl, ap, ◌∙◌, subst, ap₂, append_assoc, arith, length-append, length-drop, length-set, drop_at}
+use Rattle.std.proofs.Common.{Option, ◌≡◌, ℕ, suc, ◌+◌, ◌*◌, ◌<◌, ◌≤◌, false, List, ◌++◌, length, drop, set, sym, refl, ap, ◌∙◌, subst, ap₂, append_assoc, arith, length-append, length-drop, length-set, drop_at}
 use lib.Seq.{sets}
 use Rattle.session.specs.declared.types.IsoHead.{IsoHead}
-use Rattle.session.specs.declared.types.IsoFatal.{IsoFatal}
+use Rattle.session.specs.declared.types.IsoHaltReason.{IsoHaltReason}
 use Rattle.session.specs.declared.types.IsoRequest.{IsoRequest}
 use Rattle.session.specs.declared.types.IsoPacketPlan.{IsoPacketPlan}
 use Rattle.session.specs.declared.types.IsoChannelState.{IsoChannelState}
@@ -222,7 +222,7 @@ module _ (n m : ℕ) (xs : List ℕ) (s : IsoChannelState) where
       ∙ sym (apart (head_bytes h))
       ∙ sym (parts n m xs t)
 
-  reason_put : (f : IsoFatal) → sets (kept n m xs s) 34 (tagged_bytes (fatal_tagged f)) ≡ kept n m xs (whole s.cfg s.head f s.requests s.plans)
+  reason_put : (f : Option IsoHaltReason) → sets (kept n m xs s) 34 (tagged_bytes (fatal_tagged f)) ≡ kept n m xs (whole s.cfg s.head f s.requests s.plans)
   unfolding front
   reason_put f =
       let t : IsoChannelState = whole s.cfg s.head f s.requests s.plans in
@@ -332,7 +332,7 @@ module _ {n m : ℕ} {xs now next : List ℕ} {s : IsoChannelState} (long : 8488
   kept_count c = kept_field 17 32 (u16_bytes c) (with_count c s.head) refl (count_bytes s.head c)
 
   pub kept_reason :
-      (f : IsoFatal) → next ≡ sets now 34 (tagged_bytes (fatal_tagged f)) → Kept n m xs next (whole s.cfg s.head f s.requests s.plans)
+      (f : Option IsoHaltReason) → next ≡ sets now 34 (tagged_bytes (fatal_tagged f)) → Kept n m xs next (whole s.cfg s.head f s.requests s.plans)
   kept_reason f e =
       let t : IsoChannelState = whole s.cfg s.head f s.requests s.plans in
       let vs : List ℕ = tagged_bytes (fatal_tagged f) in

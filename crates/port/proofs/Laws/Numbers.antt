@@ -1,76 +1,83 @@
--- How the code reads and writes a number: what stands at an offset is what the rest from there begins with; and how it moves bytes as numbers.
-use Rattle.std.proofs.Common.{◌≡◌, ℕ, suc, ◌+◌, ◌*◌, ◌/◌, ◌%◌, ◌≤◌, List, [], ◌∷◌, ◌++◌, length, get_or, drop, set, sym, refl, ap, ◌∙◌, ap₂, add-zero, add-one, arith, get_or-drop, drop-drop}
-use lib.Seq.{slice, sets}
+-- How the code reads and writes a number: the library's bytes of a number are those of its halves, the low half first.
+use Rattle.std.proofs.Common.{◌≡◌, ℕ, zero, suc, ◌/◌, ◌%◌, ◌<◌, List, [], ◌∷◌, ◌++◌, get_or, take, drop, sym, refl, ap, ◌∙◌, add-zero, arith, get_or-drop}
+use Rattle.std.specs.Int.{w16, w32, w64, to_le_bytes, from_le_bytes}
+use Rattle.std.proofs.lemmas.List.{get_or-take}
+use Rattle.std.proofs.lemmas.Nat.{le_bytes_2, le_bytes_4, le_bytes_8}
 use Rattle.port.specs.Bytes.{byte_of, u16_of, u32_of, u64_of, u16_bytes, u32_bytes, u64_bytes}
-use Rattle.port.proofs.Laws.Kept.{Octets, pair_u64_kept}
-use Rattle.port.proofs.Laws.Runs.{then, slice_take, moved_on}
+use Rattle.port.proofs.Laws.Kept.{Octets}
+use Rattle.port.proofs.Laws.Back.{join16, join32, join64}
 
 pub byte_at : (xs : List ℕ) (at : ℕ) → get_or xs at 0 ≡ byte_of (drop at xs)
 unfolding byte_of
 byte_at xs at = sym (get_or-drop at xs 0 0 ∙ ap (λ (n : ℕ). get_or xs n 0) (add-zero at))
 
-pub u16_at : (xs : List ℕ) (at a b : ℕ) → a ≡ get_or xs at 0 → b ≡ get_or xs (at + 1) 0 → a + 256 * b ≡ u16_of (drop at xs)
-unfolding u16_of byte_of
-u16_at xs at a b p q = ap (λ (n : ℕ). n + 256 * b) (p ∙ byte_at xs at) ∙ ap (λ (n : ℕ). byte_of (drop at xs) + 256 * n) (q ∙ sym (get_or-drop at xs 1 0))
+module _ (xs : List ℕ) where
+  pub u16_read : from_le_bytes w16 (take 2 xs) ≡ u16_of xs
+  unfolding u16_of
+  u16_read = omega (arith, get_or-take 2 xs 0 0 (omega arith), get_or-take 2 xs 1 0 (omega arith))
 
-pub u32_at : (xs : List ℕ) (at a b : ℕ) → a ≡ u16_of (drop at xs) → b ≡ u16_of (drop (at + 2) xs) → a + 65536 * b ≡ u32_of (drop at xs)
-unfolding u32_of
-u32_at xs at a b p q = ap (λ (n : ℕ). n + 65536 * b) p ∙ ap (λ (n : ℕ). u16_of (drop at xs) + 65536 * n) (q ∙ ap u16_of (sym (drop-drop 2 at xs)))
+  pub u32_read : from_le_bytes w32 (take 4 xs) ≡ u32_of xs
+  unfolding u32_of u16_of
+  u32_read =
+      omega (
+        arith,
+        get_or-take 4 xs 0 0 (omega arith),
+        get_or-take 4 xs 1 0 (omega arith),
+        get_or-take 4 xs 2 0 (omega arith),
+        get_or-take 4 xs 3 0 (omega arith),
+        get_or-drop 2 xs 0 0,
+        get_or-drop 2 xs 1 0,
+      )
 
-pub u64_at : (xs : List ℕ) (at a b : ℕ) → a ≡ u32_of (drop at xs) → b ≡ u32_of (drop (at + 4) xs) → a + 4294967296 * b ≡ u64_of (drop at xs)
-unfolding u64_of
-u64_at xs at a b p q = ap (λ (n : ℕ). n + 4294967296 * b) p ∙ ap (λ (n : ℕ). u32_of (drop at xs) + 4294967296 * n) (q ∙ ap u32_of (sym (drop-drop 4 at xs)))
+  pub u64_read : from_le_bytes w64 (take 8 xs) ≡ u64_of xs
+  unfolding u64_of u32_of u16_of
+  u64_read =
+      omega (
+        arith,
+        get_or-take 8 xs 0 0 (omega arith),
+        get_or-take 8 xs 1 0 (omega arith),
+        get_or-take 8 xs 2 0 (omega arith),
+        get_or-take 8 xs 3 0 (omega arith),
+        get_or-take 8 xs 4 0 (omega arith),
+        get_or-take 8 xs 5 0 (omega arith),
+        get_or-take 8 xs 6 0 (omega arith),
+        get_or-take 8 xs 7 0 (omega arith),
+        get_or-drop 2 xs 0 0,
+        get_or-drop 2 xs 1 0,
+        get_or-drop 4 xs 0 0,
+        get_or-drop 4 xs 1 0,
+        get_or-drop 2 (drop 4 xs) 0 0,
+        get_or-drop 2 (drop 4 xs) 1 0,
+        get_or-drop 4 xs 2 0,
+        get_or-drop 4 xs 3 0,
+      )
 
-pub length_u16 : (x : ℕ) → length (u16_bytes x) ≡ 2
+-- the bytes of a number that fits are below 256
+small : (x : ℕ) (xs : List ℕ) → x < 65536 → Octets xs → Octets (x % 256 ∷ x / 256 ∷ xs)
+small x xs h r zero = omega arith
+small x xs h r (suc zero) = omega arith
+small x xs h r (suc (suc i)) = r i
+
+none : Octets []
+none i = omega arith
+
+pub u16_written : (x : ℕ) → x < 65536 → to_le_bytes w16 x ≡ u16_bytes x
 unfolding u16_bytes
-length_u16 x = refl
+u16_written x h = le_bytes_2 (u16_bytes x) x refl (small x [] h none) (omega (arith, join16 x))
 
-pub length_u32 : (x : ℕ) → length (u32_bytes x) ≡ 4
+pub u32_written : (x : ℕ) → x < 4294967296 → to_le_bytes w32 x ≡ u32_bytes x
 unfolding u32_bytes u16_bytes
-length_u32 x = refl
+u32_written x h =
+    le_bytes_4 (u32_bytes x) x refl (small (x % 65536) (u16_bytes (x / 65536)) (omega arith) (small (x / 65536) [] (omega arith) none)) (omega (arith, join32 x))
 
-pub u16_put : (xs : List ℕ) (at x : ℕ) → set (set xs at (x % 256)) (at + 1) (x / 256) ≡ sets xs at (u16_bytes x)
-unfolding u16_bytes
-u16_put xs at x = ap (λ (n : ℕ). set (set xs at (x % 256)) n (x / 256)) (add-one at)
-
-pub u32_put :
-    (xs now next : List ℕ) (at x : ℕ) → now ≡ sets xs at (u16_bytes (x % 65536)) → next ≡ sets now (at + 2) (u16_bytes (x / 65536))
-    → next ≡ sets xs at (u32_bytes x)
-unfolding u32_bytes
-u32_put xs now next at x p q =
-    then xs at (at + 2) (u16_bytes (x % 65536)) (u16_bytes (x / 65536)) p (ap (λ (n : ℕ). at + n) (sym (length_u16 (x % 65536)))) q
-
-pub u64_put :
-    (xs now next : List ℕ) (at x : ℕ) → now ≡ sets xs at (u32_bytes (x % 4294967296)) → next ≡ sets now (at + 4) (u32_bytes (x / 4294967296))
-    → next ≡ sets xs at (u64_bytes x)
-unfolding u64_bytes
-u64_put xs now next at x p q =
-    then xs at (at + 4) (u32_bytes (x % 4294967296)) (u32_bytes (x / 4294967296)) p (ap (λ (n : ℕ). at + n) (sym (length_u32 (x % 4294967296)))) q
-
-pub length_u64 : (x : ℕ) → length (u64_bytes x) ≡ 8
+pub u64_written : (x : ℕ) → x < 18446744073709551616 → to_le_bytes w64 x ≡ u64_bytes x
 unfolding u64_bytes u32_bytes u16_bytes
-length_u64 x = refl
-
-pub three_put : (xs : List ℕ) (at x y z : ℕ) → set (set (set xs at x) (at + 1) y) (at + 2) z ≡ sets xs at (x ∷ y ∷ z ∷ [])
-three_put xs at x y z =
-    let two : at + 2 ≡ suc (suc at) = omega arith in
-    ap (λ (n : ℕ). set (set (set xs at x) n y) (at + 2) z) (add-one at) ∙ ap (λ (n : ℕ). set (set (set xs at x) (suc at) y) n z) two
-
--- ---- bytes that move down, sixteen a turn: two numbers are read, then both are written
-
-pub moved_sixteen :
-    (into from n k : ℕ) (xs : List ℕ) {now next : List ℕ} {a b : ℕ} → Octets xs → into ≤ from → k + 16 ≤ n → from + n ≤ length xs
-    → a ≡ u64_of (drop (from + k) xs)
-    → b ≡ u64_of (drop (from + k + 8) xs)
-    → now ≡ sets xs (into + k) (u64_bytes a)
-    → next ≡ sets now (into + k + 8) (u64_bytes b)
-    → sets next (into + (k + 16)) (slice (from + (k + 16)) (from + n) next) ≡ sets xs (into + k) (slice (from + k) (from + n) xs)
-moved_sixteen into from n k xs {a = a} {b} octets h few fits ea eb p q =
-    let to : from + k + 16 ≡ from + (k + 16) = omega arith in
-    let both : u64_bytes a ++ u64_bytes b ≡ slice (from + k) (from + (k + 16)) xs =
-    ap₂ (λ (x y : ℕ). u64_bytes x ++ u64_bytes y) ea eb
-    ∙ pair_u64_kept (from + k) xs octets (omega arith)
-    ∙ slice_take (from + k) 16 xs (omega arith)
-    ∙ ap (λ (t : ℕ). slice (from + k) t xs) to in
-    moved_on into from n k 16 xs h few fits
-    (then xs (into + k) (into + k + 8) (u64_bytes a) (u64_bytes b) p (ap (λ (i : ℕ). into + k + i) (sym (length_u64 a))) q ∙ ap (sets xs (into + k)) both)
+u64_written x h =
+    let low : ℕ = x % 4294967296 in
+    let high : ℕ = x / 4294967296 in
+    le_bytes_8 (u64_bytes x) x refl
+    (small (low % 65536) (u16_bytes (low / 65536) ++ u32_bytes high) (omega arith)
+    (small (low / 65536) (u32_bytes high) (omega arith)
+    (small (high % 65536) (u16_bytes (high / 65536)) (omega arith)
+    (small (high / 65536) [] (omega arith) none))))
+    (omega (arith, join64 x))

@@ -1,7 +1,10 @@
 -- One part of a session's bytes, read where it stands: what that is of the session which the bytes hold.
-use Rattle.std.proofs.Common.{◌≡◌, ℕ, zero, suc, ◌+◌, ◌*◌, ◌<◌, List, length, get_or, drop, sym, refl, ap, ◌∙◌, arith, drop-drop}
+use Rattle.std.specs.Option.{is_some}
+use Rattle.std.proofs.Common.{Option, Some, None, Bool, ◌≡◌, ℕ, zero, suc, ◌+◌, ◌*◌, ◌<◌, List, length, get_or, drop, sym, refl, ap, ◌∙◌, arith, drop-drop}
+use Rattle.session.specs.declared.types.IsoHaltReason.{IsoHaltReason}
 use Rattle.session.specs.declared.types.IsoRequest.{IsoRequest}
 use Rattle.session.specs.declared.types.IsoPacketPlan.{IsoPacketPlan}
+use Rattle.session.specs.Session.{has_reason}
 use Rattle.port.specs.Tags.{tagged_of, fatal_of}
 use Rattle.port.specs.Layout.{config_of, head_of, request_of, plan_of, table_of, session_of}
 use Rattle.port.proofs.Laws.Tables.{length_table}
@@ -47,3 +50,12 @@ head_there xs = refl
 pub reason_there : (xs : List ℕ) → fatal_of (tagged_of (drop 34 xs)) ≡ (session_of xs).fatal
 unfolding session_of
 reason_there xs = refl
+
+-- whether the session is ending, by the reason that was read
+pub ending_there :
+    (xs : List ℕ) {f : Option IsoHaltReason} {b : Bool} → f ≡ fatal_of (tagged_of (drop 34 xs)) → b ≡ is_some f → b ≡ has_reason (session_of xs).fatal
+ending_there xs {f} ef eb = eb ∙ by_case f ∙ ap has_reason (ef ∙ reason_there xs)
+  where
+    by_case : (o : Option IsoHaltReason) → is_some o ≡ has_reason o
+    by_case None = refl
+    by_case (Some r) = refl

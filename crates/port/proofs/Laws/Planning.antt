@@ -1,27 +1,12 @@
--- Planning by numbers: what is answered where a number names nothing, and where all name something; and that a stage which planning hands out
--- is read as the stage that it was.
-use Rattle.std.proofs.Common.{◌≡◌, ℕ, Bool, true, false, cond, List, [], ◌∷◌, map, length, get_or, sym, refl, ap, ◌∙◌, arith}
-use Rattle.plan.specs.declared.types.ControlRequest.{ControlRequest}
-use Rattle.plan.specs.declared.types.DataRequest.{DataRequest}
-use Rattle.plan.specs.declared.types.Dwc2ControlPlan.{Dwc2ControlPlan}
-use Rattle.plan.specs.declared.types.Dwc2DataPlan.{Dwc2DataPlan}
+-- Planning by numbers: what is answered where a number names nothing, and where all name something, is a choice by one test; and a stage that
+-- planning hands out is read as the stage that it was.
+use Rattle.std.proofs.Common.{◌≡◌, ℕ, Bool, true, false, cond, List, sym, refl, ap, ◌∙◌}
 use Rattle.plan.specs.declared.types.Dwc2StageRole.{Dwc2StageRole}
 use Rattle.plan.specs.declared.types.Dwc2StageRole.TheVariants as role
 use Rattle.plan.specs.declared.types.Dwc2TransferStage.{Dwc2TransferStage}
-use Rattle.plan.specs.ControlPlan.{control_plan, control_array}
-use Rattle.plan.specs.DataStages.{blank_stage, data_plan, data_array}
-use Rattle.plan.specs.Numbers.{answer_number}
+use Rattle.plan.specs.Numbers.{role_number}
 use Rattle.plan.specs.StageLength.{stage_length}
-use Rattle.port.specs.declared.planning.PortControlPlan.{PortControlPlan}
-use Rattle.port.specs.declared.planning.PortControlRequest.{PortControlRequest}
-use Rattle.port.specs.declared.planning.PortDataPlan.{PortDataPlan}
-use Rattle.port.specs.declared.planning.PortDataRequest.{PortDataRequest}
-use Rattle.port.specs.declared.stages.PortStage.{PortStage}
-use Rattle.port.specs.Planning.{role_number, role_of, is_bad_role, stage_numbers, stage_of, length_number, stage_moved_number}
-use Rattle.port.specs.Planning.{data_request_of, is_bad_data, data_numbers, unnamed_data, data_plan_numbers, data_array_after}
-use Rattle.port.specs.Planning.{control_request_of, control_numbers, unnamed_control, control_plan_numbers, control_array_after}
-use Rattle.port.specs.Sums.{is_bad_direction}
-use Rattle.port.specs.Tags.{flag_tag}
+use Rattle.port.specs.Planning.{role_of, is_bad_role, stage_numbers, stage_of, length_number, stage_moved_number}
 
 -- the first where the test holds, the second where it does not
 pub first_of : {A : Type 0} (a b : A) {t bad : Bool} {x : A} → t ≡ bad → t ≡ true → x ≡ a → x ≡ cond bad a b
@@ -29,78 +14,6 @@ first_of a b e h p = p ∙ ap (λ (t : Bool). cond t a b) (sym h ∙ e)
 
 pub second_of : {A : Type 0} (a b : A) {t bad : Bool} {x : A} → t ≡ bad → t ≡ false → x ≡ b → x ≡ cond bad a b
 second_of a b e h p = p ∙ ap (λ (t : Bool). cond t a b) (sym h ∙ e)
-
-pub four :
-    {A B : Type 0} (f : A → B) (xs : List A) (d : A) → length xs ≡ 4
-    → f (get_or xs 0 d) ∷ f (get_or xs 1 d) ∷ f (get_or xs 2 d) ∷ f (get_or xs 3 d) ∷ [] ≡ map f xs
-four f [] d e = absurd (omega (arith, e))
-four f (a ∷ []) d e = absurd (omega (arith, e))
-four f (a ∷ b ∷ []) d e = absurd (omega (arith, e))
-four f (a ∷ b ∷ x ∷ []) d e = absurd (omega (arith, e))
-four f (a ∷ b ∷ x ∷ y ∷ []) d e = refl
-four f (a ∷ b ∷ x ∷ y ∷ z ∷ zs) d e = absurd (omega (arith, e))
-
-pub data_counted :
-    (p : Dwc2DataPlan) {n t : ℕ} {a b x y : PortStage} → length p.stages ≡ 4
-    → n ≡ answer_number p.answer
-    → t ≡ flag_tag p.toggle.0
-    → a ≡ stage_numbers (get_or p.stages 0 blank_stage)
-    → b ≡ stage_numbers (get_or p.stages 1 blank_stage)
-    → x ≡ stage_numbers (get_or p.stages 2 blank_stage)
-    → y ≡ stage_numbers (get_or p.stages 3 blank_stage)
-    → record { refusal = n; toggle = t; count = p.count; stages = a ∷ b ∷ x ∷ y ∷ [] } ≡ data_numbers p
-data_counted p e hn ht ha hb hx hy = rw (hn, ht, ha, hb, hx, hy, four stage_numbers p.stages blank_stage e)
-
-pub data_unnamed :
-    (r : PortDataRequest) (array : List ℕ) {t : Bool} {x : PortDataPlan} → t ≡ is_bad_data r → t ≡ true → x ≡ unnamed_data
-    → (x ≡ data_plan_numbers r (length array)) × (array ≡ data_array_after r array)
-data_unnamed r array e h p = (
-  first_of unnamed_data (data_numbers (data_plan (data_request_of r) (length array))) e h p,
-  first_of array (data_array (data_request_of r) array) e h refl,
-)
-
-pub data_named :
-    (r : PortDataRequest) (array : List ℕ) {t : Bool} {q : DataRequest} {p : Dwc2DataPlan} {after : List ℕ} {x : PortDataPlan} → t ≡ is_bad_data r
-    → t ≡ false
-    → q ≡ data_request_of r
-    → (p ≡ data_plan q (length array)) × (after ≡ data_array q array)
-    → x ≡ data_numbers p
-    → (x ≡ data_plan_numbers r (length array)) × (after ≡ data_array_after r array)
-data_named r array e h k g n = (
-  second_of
-      unnamed_data
-      (data_numbers (data_plan (data_request_of r) (length array)))
-      e
-      h
-      (n ∙ ap data_numbers (g.0 ∙ ap (λ (q : DataRequest). data_plan q (length array)) k)),
-  second_of array (data_array (data_request_of r) array) e h (g.1 ∙ ap (λ (q : DataRequest). data_array q array) k),
-)
-
-pub control_unnamed :
-    (r : PortControlRequest) (array : List ℕ) {t : Bool} {x : PortControlPlan} → t ≡ is_bad_direction r.direction → t ≡ true → x ≡ unnamed_control
-    → (x ≡ control_plan_numbers r (length array)) × (array ≡ control_array_after r array)
-control_unnamed r array e h p = (
-  first_of unnamed_control (control_numbers (control_plan (control_request_of r) (length array))) e h p,
-  first_of array (control_array (control_request_of r) array) e h refl,
-)
-
-pub control_named :
-    (r : PortControlRequest) (array : List ℕ) {t : Bool} {q : ControlRequest} {p : Dwc2ControlPlan} {after : List ℕ} {x : PortControlPlan}
-    → t ≡ is_bad_direction r.direction
-    → t ≡ false
-    → q ≡ control_request_of r
-    → (p ≡ control_plan q (length array)) × (after ≡ control_array q array)
-    → x ≡ control_numbers p
-    → (x ≡ control_plan_numbers r (length array)) × (after ≡ control_array_after r array)
-control_named r array e h k g n = (
-  second_of
-      unnamed_control
-      (control_numbers (control_plan (control_request_of r) (length array)))
-      e
-      h
-      (n ∙ ap control_numbers (g.0 ∙ ap (λ (q : ControlRequest). control_plan q (length array)) k)),
-  second_of array (control_array (control_request_of r) array) e h (g.1 ∙ ap (λ (q : ControlRequest). control_array q array) k),
-)
 
 role_named : (r : Dwc2StageRole) → is_bad_role (role_number r) ≡ false
 role_named role.Data = refl

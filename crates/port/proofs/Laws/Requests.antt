@@ -1,22 +1,13 @@
--- Submitting and opening by bytes, at each way out.
-use Rattle.std.proofs.Common.{◌≡◌, ℕ, ◌<◌, ◌≤◌, Bool, true, false, cond, eqb, ltb, List, length, sym, refl, ap, ◌∙◌, ap₂, le-ltb, lt-ltb, eq-eqb}
-use lib.Seq.{sets}
-use Rattle.session.specs.Numbers.{open_number}
-use Rattle.session.specs.Open.{open_answer, opened, ring_after, opened_ring}
-use Rattle.session.specs.Record.{is_bad_config}
-use Rattle.session.specs.Session.{ring_words, cleared, idle_session}
+-- Submitting by bytes, at each way out.
+use Rattle.std.proofs.Common.{◌≡◌, ℕ, ◌<◌, ◌≤◌, Bool, true, cond, eqb, ltb, List, sym, refl, ap, ◌∙◌, le-ltb, lt-ltb, eq-eqb}
 use Rattle.session.specs.Submit.{submitted, submitted_ring}
 use Rattle.session.specs.declared.transfer.IsoTransfer.{IsoTransfer}
 use Rattle.session.specs.declared.transfer.Submitted.{Submitted}
-use Rattle.session.specs.declared.types.IsoConfig.{IsoConfig}
-use Rattle.session.specs.declared.types.OpenAnswer.{OpenAnswer}
-use Rattle.session.specs.declared.types.OpenAnswer.TheVariants as answer
 use Rattle.session.specs.declared.types.IsoChannelState.{IsoChannelState}
 use Rattle.port.specs.declared.answers.PortSubmitted.{PortSubmitted}
 use Rattle.port.specs.declared.answers.PortTransfer.{PortTransfer}
-use Rattle.port.specs.Layout.{layout_number, session_of, saved}
+use Rattle.port.specs.Layout.{layout_number, session_of}
 use Rattle.port.specs.Calls.{by_bytes, by_kind, submit_refused, submitted_port, transfer_of, submit_by, grown_bytes, submit_bytes, submit_ring}
-use Rattle.port.specs.Calls.{by_open, open_by, open_bytes, open_ring}
 use Rattle.port.proofs.Laws.Calls.{refused, done}
 
 -- ---- a call whose kind may name nothing
@@ -88,87 +79,3 @@ module _ (xs : List ℕ) (t : PortTransfer) (lengths ring : List ℕ) where
             ∙ ap (λ (x : IsoTransfer). submitted_ring s x lengths ring) w
             ∙ kind_done xs t.kind (λ (n : ℕ). ring) ring_for (λ (x : List ℕ). x) {s = s} {r = ring_for s} e z h refl refl,
       )
-
--- ---- opening
-
-module _ {A : Type 0} (xs : List ℕ) (bad : Bool) (refuse : ℕ → A) (d : A) where
-  open_17 : length xs < 8488 → refuse 17 ≡ by_open xs bad refuse d
-  open_17 h = sym (ap (λ (b : Bool). cond b (refuse 17) (cond bad (refuse 18) d)) (lt-ltb (length xs) 8488 h))
-
-  open_by_lem : (c : Bool) → 8488 ≤ length xs → bad ≡ c → cond c (refuse 18) d ≡ by_open xs bad refuse d
-  open_by_lem c h e =
-      sym
-      (ap (λ (b : Bool). cond b (refuse 17) (cond bad (refuse 18) d)) (le-ltb (length xs) 8488 h)
-      ∙ ap (λ (b : Bool). cond b (refuse 18) d) e)
-
-module _ (xs : List ℕ) (bad : Bool) (cfg : IsoConfig) (ring : List ℕ) where
-  abbrev Opens : ℕ → List ℕ → List ℕ → Type 0
-  Opens r after words =
-      (r ≡ open_by xs bad cfg (length ring)) × (after ≡ open_bytes xs bad cfg (length ring)) × (words ≡ open_ring xs bad cfg ring)
-
-  abbrev number : ℕ
-  number = open_number (opened cfg (length ring)).answer
-
-  abbrev bytes : List ℕ
-  bytes = sets xs 0 (saved (opened cfg (length ring)).session)
-
-  pub open_short : length xs < 8488 → Opens 17 xs ring
-  open_short h =
-      (open_17 xs bad (λ (n : ℕ). n) number h, open_17 xs bad (λ (n : ℕ). xs) bytes h, open_17 xs bad (λ (n : ℕ). ring) (opened_ring cfg ring) h)
-
-  pub open_bad : 8488 ≤ length xs → bad ≡ true → Opens 18 xs ring
-  open_bad h e = (
-    open_by_lem xs bad (λ (n : ℕ). n) number true h e,
-    open_by_lem xs bad (λ (n : ℕ). xs) bytes true h e,
-    open_by_lem xs bad (λ (n : ℕ). ring) (opened_ring cfg ring) true h e,
-  )
-
-  -- with names that name something: the session is written whatever is answered, the ring by the answer
-  open_as :
-      {c : IsoConfig} {after : List ℕ} (a : OpenAnswer) → 8488 ≤ length xs → bad ≡ false → c ≡ cfg
-      → open_answer c (length ring) ≡ a
-      → after ≡ sets xs 0 (saved (idle_session c))
-      → Opens (open_number a) after (ring_after a c ring)
-  open_as {c} a h e k g b =
-      let given : a ≡ open_answer cfg (length ring) = sym g ∙ ap (λ (x : IsoConfig). open_answer x (length ring)) k in (
-        ap open_number given ∙ open_by_lem xs bad (λ (n : ℕ). n) number false h e,
-        b ∙ ap (λ (x : IsoConfig). sets xs 0 (saved (idle_session x))) k ∙ open_by_lem xs bad (λ (n : ℕ). xs) bytes false h e,
-        ap₂ (λ (x : OpenAnswer) (y : IsoConfig). ring_after x y ring) given k ∙ open_by_lem xs bad (λ (n : ℕ). ring) (opened_ring cfg ring) false h e,
-      )
-
-  pub open_short_ring :
-      {c : IsoConfig} {n : ℕ} {after : List ℕ} → 8488 ≤ length xs → bad ≡ false → c ≡ cfg → after ≡ sets xs 0 (saved (idle_session c))
-      → n ≡ ring_words c
-      → length ring < n
-      → Opens 17 after ring
-  open_short_ring {c} {n} h e k b w short = open_as answer.ShortRing h e k told b
-    where
-      told : open_answer c (length ring) ≡ answer.ShortRing
-      told = rw (sym (ap (ltb (length ring)) w) ∙ lt-ltb (length ring) n short)
-
-  pub open_config :
-      {c : IsoConfig} {n : ℕ} {t : Bool} {after : List ℕ} → 8488 ≤ length xs → bad ≡ false → c ≡ cfg → after ≡ sets xs 0 (saved (idle_session c))
-      → n ≡ ring_words c
-      → n ≤ length ring
-      → t ≡ is_bad_config c
-      → t ≡ true
-      → Opens 18 after ring
-  open_config {c} {n} h e k b w long f g = open_as answer.BadConfig h e k told b
-    where
-      told : open_answer c (length ring) ≡ answer.BadConfig
-      told = rw (sym (ap (ltb (length ring)) w) ∙ le-ltb (length ring) n long, sym f ∙ g)
-
-  pub open_done :
-      {c : IsoConfig} {n : ℕ} {t : Bool} {after words : List ℕ} → 8488 ≤ length xs → bad ≡ false → c ≡ cfg → after ≡ sets xs 0 (saved (idle_session c))
-      → n ≡ ring_words c
-      → n ≤ length ring
-      → t ≡ is_bad_config c
-      → t ≡ false
-      → words ≡ cond (ltb (length ring) n) ring (cleared n ring)
-      → Opens 0 after words
-  open_done {c} {n} h e k b w long f g z =
-      let opens = open_as answer.Opened h e k told b in
-      (opens.0, opens.1, z ∙ ap (λ (t : Bool). cond t ring (cleared n ring)) (le-ltb (length ring) n long) ∙ ap (λ (m : ℕ). cleared m ring) w ∙ opens.2)
-    where
-      told : open_answer c (length ring) ≡ answer.Opened
-      told = rw (sym (ap (ltb (length ring)) w) ∙ le-ltb (length ring) n long, sym f ∙ g)

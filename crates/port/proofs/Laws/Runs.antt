@@ -1,12 +1,11 @@
--- Runs of stores, of any list: those that follow one another, what stands before, in and behind one, and a run that moves down a part of the list
--- itself.
-use Rattle.std.proofs.Common.{◌≡◌, ℕ, zero, suc, ◌+◌, ◌-◌, ◌*◌, ◌<◌, ◌≤◌, List, [], ◌∷◌, ◌++◌, length, get_or, take, drop, set, replicate, sym, refl, ap, ◌∙◌, subst, ap₂, add-zero, arith, length-append, take-append-drop, drop_of_length-le, length-take-le, take_all, drop-cons, drop-set-lt, take-add, drop_at}
-use lib.Seq.{slice, sets, sets-eq, length-sets, take-set-le, drop-set-add, length-slice}
-use Rattle.session.proofs.Laws.Lists.{slice_next, slice_past, slice_split, slice_after_set}
-
--- a list that is lent on as the part from its beginning to its end
-pub lent_whole : (P : List ℕ → Type 0) (xs : List ℕ) → P (take (length xs - 0) xs) → P xs
-lent_whole P xs = subst P (take_all (length xs - 0) xs (omega arith))
+-- Runs of stores, of any list: those that follow one another, what stands before, in and behind one, and a part of
+-- the list that is written over.
+use Rattle.std.proofs.Common.{◌≡◌, ℕ, zero, suc, ◌+◌, ◌-◌, ◌*◌, ◌≤◌, List, [], ◌∷◌, ◌++◌, length, get_or, take, drop, set, sym, refl, ap, ◌∙◌, add-zero, arith, length-append, length-drop, take-append-drop, drop_of_length-le, length-take-le, take_all, drop-cons, drop-set-lt, take-add, drop_at}
+use borrow.Rule.Slice.PartMut.{put_mid}
+use Rattle.std.specs.List.{copy_within}
+use Rattle.std.proofs.lemmas.Slice.{put_mid-paste, between_is}
+use lib.Seq.{slice, sets, paste, sets-eq, length-sets, take-set-le, drop-set-add, length-slice}
+use Rattle.session.proofs.Laws.Lists.{slice_after_set}
 
 module _ {A : Type 0} where
   -- one run behind another is one run
@@ -22,14 +21,6 @@ module _ {A : Type 0} where
       → next ≡ sets l at (xs ++ ys)
   then l at p xs ys e f g =
       g ∙ ap (λ (m : List A). sets m p ys) e ∙ ap (λ (n : ℕ). sets (sets l at xs) n ys) f ∙ sets_append xs l at ys
-
-  -- one of a run that is the same throughout, and the rest of it
-  pub same_more :
-      (l : List A) (a : A) (from i n : ℕ) → i < n → sets (set l (from + i) a) (from + (i + 1)) (replicate (n - (i + 1)) a) ≡ sets l (from + i) (replicate (n - i) a)
-  same_more l a from i n h =
-      let on : from + (i + 1) ≡ suc (from + i) = omega arith in
-      let more : suc (n - (i + 1)) ≡ n - i = omega arith in
-      ap (λ (k : ℕ). sets (set l (from + i) a) k (replicate (n - (i + 1)) a)) on ∙ ap (λ (k : ℕ). sets l (from + i) (replicate k a)) more
 
 -- ---- runs stored behind a list's front, or before its end
 
@@ -82,7 +73,7 @@ module _ {A : Type 0} where
       drop_sets_add n (set l i v) (suc i) (suc k) vs on
       ∙ ap (λ (m : List A). sets m (suc k) vs) (ap (λ (j : ℕ). drop n (set l j v)) (sym e) ∙ drop-set-add n l k v)
 
--- ---- a part of a list, and how it moves down in it
+-- ---- a part of a list
 
 module _ {A : Type 0} where
   -- what moves down over a front that was written, and covers it, leaves nothing of what was written
@@ -105,66 +96,23 @@ module _ {A : Type 0} where
   pub slice_take : (f n : ℕ) (l : List A) → f ≤ length l → take n (drop f l) ≡ slice f (f + n) l
   slice_take f n l h = sym (ap (drop f) (take-add f n l) ∙ drop_at (take f l) (take n (drop f l)) f (length-take-le f l h))
 
-  pub slice_one : (f t : ℕ) (l : List A) (d : A) → f + 1 ≡ t → t ≤ length l → get_or l f d ∷ [] ≡ slice f t l
-  slice_one f t l d e h =
-      ap (λ (rest : List A). get_or l f d ∷ rest) (sym (slice_past (f + 1) t l (omega arith))) ∙ sym (slice_next f t l d (omega arith) h)
+-- ---- the library's words for a part that is written over, as a run of stores
 
-  slice_after : (f t : ℕ) (l : List A) (i : ℕ) (vs : List A) → i + length vs ≤ f → f ≤ t → slice f t (sets l i vs) ≡ slice f t l
-  slice_after f t l i [] h k = refl
-  slice_after f t l i (v ∷ vs) h k = slice_after f t (set l i v) (suc i) vs (omega arith) k ∙ slice_after_set f t i l v (omega arith) (omega arith)
+module _ {A : Type 0} where
+  pub pasted : (l : List A) (at : ℕ) (vs : List A) (n : ℕ) → at + n ≤ length l → n ≤ length vs → paste l at vs n ≡ sets l at (take n vs)
+  pasted l at vs n h k =
+      let many : length (take n vs) ≡ n = length-take-le n vs k in
+      sym (sets-eq (take n vs) l at (omega arith) ∙ ap (λ (m : ℕ). take at l ++ take n vs ++ drop (at + m) l) many)
 
-  -- the part of `n` from `from` on moves down to `into`: where `k` are moved and `next` has `w` more, what is left to move gives the same list
-  pub moved_on :
-      (into from n k w : ℕ) (l : List A) {next : List A} → into ≤ from → k + w ≤ n → from + n ≤ length l
-      → next ≡ sets l (into + k) (slice (from + k) (from + (k + w)) l)
-      → sets next (into + (k + w)) (slice (from + (k + w)) (from + n) next) ≡ sets l (into + k) (slice (from + k) (from + n) l)
-  moved_on into from n k w l h few fits e =
-      let part : List A = slice (from + k) (from + (k + w)) l in
-      let left : List A = slice (from + (k + w)) (from + n) l in
-      let many : length part ≡ w = length-slice (from + k) (from + (k + w)) l (omega arith) ∙ omega arith in
-      let on : into + (k + w) ≡ into + k + length part = omega (arith, many) in
-      ap (λ (m : List A). sets m (into + (k + w)) (slice (from + (k + w)) (from + n) m)) e
-      ∙ ap (sets (sets l (into + k) part) (into + (k + w)))
-      (slice_after (from + (k + w)) (from + n) l (into + k) part (omega (arith, many)) (omega arith))
-      ∙ ap (λ (i : ℕ). sets (sets l (into + k) part) i left) on
-      ∙ sets_append part l (into + k) left
-      ∙ ap (sets l (into + k)) (sym (slice_split (from + k) (from + (k + w)) (from + n) l (omega arith) (omega arith) fits))
+  pub part_written : (at n : ℕ) (l part vs : List A) → part ≡ vs → n ≡ length vs → at + n ≤ length l → put_mid at (at + n - at) l part ≡ sets l at vs
+  part_written at n l part vs e k h =
+      put_mid-paste at (at + n - at) l part vs n e (omega arith) k
+      ∙ pasted l at vs n h (omega arith)
+      ∙ ap (sets l at) (take_all n vs (omega arith))
 
-  -- at the end nothing is left to move; at the beginning all was
-  pub moved_all :
-      (into from n k : ℕ) (l first : List A) → n ≤ k
-      → sets l (into + k) (slice (from + k) (from + n) l) ≡ sets first (into + 0) (slice (from + 0) (from + n) first)
-      → l ≡ sets first into (slice from (from + n) first)
-  moved_all into from n k l first h e =
-      sym (ap (sets l (into + k)) (slice_past (from + k) (from + n) l (omega arith)))
-      ∙ e
-      ∙ ap₂ (λ (i f : ℕ). sets first i (slice f (from + n) first)) (add-zero into) (add-zero from)
-
-  -- a run over one that it covers
-  sets_over : (l : List A) (i : ℕ) (ys zs : List A) → length ys ≤ length zs → i + length zs ≤ length l → sets (sets l i ys) i zs ≡ sets l i zs
-  sets_over l i ys zs h k =
-      sets-eq zs (sets l i ys) i (omega (arith, length-sets l i ys))
-      ∙ ap₂ (λ (a b : List A). a ++ zs ++ b) (take_sets i l i ys (omega arith)) (drop_sets (i + length zs) l i ys (omega arith))
-      ∙ sym (sets-eq zs l i k)
-
-  -- `b` of the `n` are moved; then those from the `a`th on, read before, are stored over some that stand there already
-  pub moved_over :
-      (into from n a b : ℕ) (l : List A) → a ≤ b → b ≤ n → into ≤ from → from + n ≤ length l
-      → sets (sets l into (slice from (from + b) l)) (into + a) (slice (from + a) (from + n) l) ≡ sets l into (slice from (from + n) l)
-  moved_over into from n a b l h k down fits =
-      let first : List A = slice from (from + a) l in
-      let some : List A = slice (from + a) (from + b) l in
-      let rest : List A = slice (from + a) (from + n) l in
-      let many : length first ≡ a = length-slice from (from + a) l (omega arith) ∙ omega arith in
-      let few : length some ≡ b - a = length-slice (from + a) (from + b) l (omega arith) ∙ omega arith in
-      let all : length rest ≡ n - a = length-slice (from + a) (from + n) l (omega arith) ∙ omega arith in
-      let on : into + a ≡ into + length first = omega (arith, many) in
-      ap (λ (m : List A). sets (sets l into m) (into + a) rest) (slice_split from (from + a) (from + b) l (omega arith) (omega arith) (omega arith))
-      ∙ ap (λ (m : List A). sets m (into + a) rest) (sym (sets_append first l into some))
-      ∙ ap (λ (i : ℕ). sets (sets (sets l into first) (into + length first) some) i rest) on
-      ∙ sets_over (sets l into first) (into + length first) some rest (omega (arith, few, all)) (omega (arith, many, all, length-sets l into first))
-      ∙ sets_append first l into rest
-      ∙ ap (sets l into) (sym (slice_split from (from + a) (from + n) l (omega arith) (omega arith) fits))
+  pub moved : (into from n : ℕ) (l : List A) → into ≤ from → from + n ≤ length l → copy_within l from (from + n) into ≡ sets l into (slice from (from + n) l)
+  moved into from n l h k =
+      pasted l into (drop from l) (from + n - from) (omega arith) (omega (arith, length-drop from l)) ∙ ap (sets l into) (between_is l from (from + n))
 
 -- n entries from i on, each read at its place, are the rest from there
 abbrev places : List ℕ → ℕ → ℕ → List ℕ

@@ -1,8 +1,8 @@
 -- The record check on a session's bytes: what the parts that were read say of the session.
-use Rattle.std.proofs.Common.{◌≡◌, ℕ, ◌≤◌, Bool, true, false, not, ◌&&◌, ◌||◌, ltb, leb, sym, refl, ap, ◌∙◌, arith, ltb-false}
+use Rattle.std.proofs.Common.{Option, ◌≡◌, ℕ, ◌≤◌, Bool, true, false, not, ◌&&◌, ◌||◌, ltb, leb, sym, refl, ap, ◌∙◌, arith, ltb-false}
 use Rattle.words.proofs.Laws.Tests.{neither}
 use Rattle.session.specs.declared.types.IsoConfig.{IsoConfig}
-use Rattle.session.specs.declared.types.IsoFatal.{IsoFatal}
+use Rattle.session.specs.declared.types.IsoHaltReason.{IsoHaltReason}
 use Rattle.session.specs.declared.types.IsoHead.{IsoHead}
 use Rattle.session.specs.declared.types.IsoChannelState.{IsoChannelState}
 use Rattle.session.specs.Session.{slots, has_reason}
@@ -31,13 +31,13 @@ module _ (s : IsoChannelState) where
 
   -- the state, as the code tests it
   pub state_test :
-      {h : IsoHead} {fatal : IsoFatal} {size : ℕ} {bad : Bool} → h ≡ s.head → fatal ≡ s.fatal → size ≡ slots s.cfg
+      {h : IsoHead} {fatal : Option IsoHaltReason} {size : ℕ} {bad : Bool} → h ≡ s.head → fatal ≡ s.fatal → size ≡ slots s.cfg
       → bad ≡ (leb size h.td_last || not h.live && (ltb h.done h.count || has_reason fatal))
       → bad ≡ is_bad_state s
   state_test {h} {fatal} eh ef es e =
       e
       ∙ ap (λ (n : ℕ). leb n h.td_last || not h.live && (ltb h.done h.count || has_reason fatal)) es
-      ∙ ap (λ (f : IsoFatal). leb (slots s.cfg) h.td_last || not h.live && (ltb h.done h.count || has_reason f)) ef
+      ∙ ap (λ (f : Option IsoHaltReason). leb (slots s.cfg) h.td_last || not h.live && (ltb h.done h.count || has_reason f)) ef
       ∙ ap (λ (k : IsoHead). leb (slots s.cfg) k.td_last || not k.live && (ltb k.done k.count || has_reason s.fatal)) eh
 
   pub counts_in : (is_bad_config s.cfg || is_bad_counts s) ≡ false → (s.head.done ≤ s.head.count) × (s.head.count ≤ 64)

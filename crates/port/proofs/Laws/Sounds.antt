@@ -1,27 +1,28 @@
 -- Both checks of a session's bytes in one walk, of the layout and of the record: each test in the code's order, and what each way out says of the two.
-use Rattle.std.proofs.Common.{◌≡◌, ℕ, ◌+◌, ◌-◌, ◌*◌, ◌/◌, ◌%◌, ◌^◌, ◌<◌, ◌≤◌, Bool, true, false, not, ◌&&◌, ◌||◌, eqb, ltb, leb, List, drop, sym, refl, ap, ◌∙◌, ap₂, arith, drop-drop, ltb-false, le-ltb, ne_eqb}
+use Rattle.std.specs.Prelude.{Option, None, Some}
+use Rattle.std.specs.List.{list_any, range_with_len}
+use Rattle.std.proofs.Common.{cond, ◌≡◌, ℕ, ◌+◌, ◌-◌, ◌*◌, ◌<◌, ◌≤◌, Bool, true, false, not, ◌&&◌, ◌||◌, eqb, ltb, leb, List, drop, sym, refl, ap, ◌∙◌, ap₂, arith, ltb-false}
 use mathlib.Core.Bool.{or_assoc}
 use lib.Seq.{slice}
-use borrow.Author.Tests.{lt-leb}
 use Rattle.words.proofs.Laws.Tests.{neither}
 use Rattle.ring.specs.RingSums.{packet_limit}
 use Rattle.session.specs.declared.types.IsoConfig.{IsoConfig}
-use Rattle.session.specs.declared.types.IsoFatal.{IsoFatal}
+use Rattle.session.specs.declared.types.IsoHaltReason.{IsoHaltReason}
 use Rattle.session.specs.declared.types.IsoHead.{IsoHead}
 use Rattle.session.specs.declared.types.IsoChannelState.{IsoChannelState}
-use Rattle.session.specs.Session.{slots, room, all_packets, pending_packets, has_reason}
+use Rattle.session.specs.Session.{slots, room, packets_of, all_packets, pending_packets, has_reason}
 use Rattle.session.specs.Record.{is_bad_config, is_bad_counts, is_bad_request, any_bad_request, is_bad_sums, is_bad_plan, any_bad_plan, is_bad_state}
-use Rattle.session.proofs.Laws.Sums.{packets_past}
+use Rattle.session.proofs.Laws.Sums.{packets_split}
 use Rattle.session.proofs.Laws.Tests.{none}
-use Rattle.port.specs.declared.scan.RequestSums.{RequestSums}
-use Rattle.port.specs.Bytes.{byte_of, u16_of, u64_of}
-use Rattle.port.specs.Layout.{request_of, plan_of, any_of, is_bad_request_bytes, is_bad_plan_bytes, is_bad_mark, is_bad_head, is_bad_layout, session_of}
+use Rattle.port.specs.Bytes.{u16_of, u64_of}
+use Rattle.port.specs.Layout.{config_of, head_of, request_of, plan_of, any_of, is_bad_request_bytes, is_bad_plan_bytes, is_bad_mark, is_bad_head, is_bad_layout, session_of}
 use Rattle.port.specs.Layout.{requests_in, plans_in}
-use Rattle.port.specs.Scan.{is_bad_request_entry, is_bad_plan_entry, is_unsound, Sounded}
-use Rattle.port.proofs.Laws.Entries.{field, by_plan, ends_here, no_outcome}
-use Rattle.port.proofs.Laws.Kept.{Octets, octets_drop, byte_small, u16_small}
-use Rattle.port.proofs.Laws.Scans.{never, same_tests, front_test, state_test, counts_in}
-use Rattle.port.proofs.Laws.Tables.{any_more, any_either}
+use Rattle.port.specs.Places.{requests_of}
+use Rattle.port.specs.Scan.{is_bad_request_entry, is_bad_plan_entry, is_unsound, is_bad_numbers, sums_of, sums_in}
+use Rattle.port.proofs.Laws.Entries.{field, ends_here, no_outcome}
+use Rattle.port.proofs.Laws.Scans.{same_tests, front_test, state_test, counts_in}
+use Rattle.port.proofs.Laws.Placed.{config_there, head_there, requests_many}
+use Rattle.port.proofs.Laws.Tables.{any_either, any_places}
 use Rattle.port.proofs.Laws.Walks.{requests_in_lem, plans_in_lem}
 
 -- ---- one entry
@@ -38,75 +39,11 @@ good_entry xs at {word} e h =
     let packets : word ≡ u16_of (drop 12 (drop at xs)) = e ∙ sym (ends_here ys small) ∙ field u16_of 12 at xs in
     sym (none (sym (no_outcome xs at small)) (sym (ap (λ (n : ℕ). eqb n 0 || ltb 255 n) packets) ∙ h))
 
--- the same of the word less 1, which wraps where it is 0
-plain_entry :
-    (xs : List ℕ) (at : ℕ) {word less : ℕ} → word ≡ u64_of (drop (at + 12) xs) → (less + 1) % 2 ^ 64 ≡ word → less ≤ 254
-    → false ≡ is_bad_request_entry (drop at xs)
-plain_entry xs at {word} {less} e wraps few =
-    let some : word ≡ less + 1 = omega arith in
-    good_entry xs at e (none (ne_eqb word 0 (λ z. omega arith)) (le-ltb 255 word (omega arith)))
-
--- the word of a plan that is not settled, with the byte before it: below 2^24 for each slot of the ring
-good_packet :
-    (xs : List ℕ) → Octets xs → (at limit size : ℕ) {word : ℕ} → size ≤ 65535 → word ≡ u64_of (drop at xs) → word < 16777216 * size
-    → word / 256 % 65536 ≤ limit
-    → false ≡ is_bad_plan_entry limit size (drop (at + 1) xs)
-unfolding plan_of is_bad_plan_bytes
-good_packet xs octets at limit size {word} narrow ew below short =
-    let ys : List ℕ = drop at xs in
-    let zs : List ℕ = drop (at + 1) xs in
-    let on : (k : ℕ) → drop (1 + k) ys ≡ drop k zs =
-    λ k.
-    let same : at + (1 + k) ≡ at + 1 + k = omega arith in
-    drop-drop (1 + k) at xs ∙ ap (λ (n : ℕ). drop n xs) same ∙ sym (drop-drop k (at + 1) xs) in
-    let parts = by_plan ys in
-    let few : byte_of ys < 256 = byte_small ys (octets_drop at xs octets) in
-    let narrow_length : u16_of (drop 1 ys) < 65536 = u16_small (drop 1 ys) (octets_drop 1 ys (octets_drop at xs octets)) in
-    let length_is : u16_of (drop 1 ys) ≡ word / 256 % 65536 = omega (arith, parts, ew, few, narrow_length) in
-    let planned = ap u16_of (drop-drop 1 at xs) in
-    let slot = ap u16_of (on 2) in
-    let moved = ap u16_of (on 4) in
-    let tag = ap byte_of (on 6) in
-    let in_ring : u16_of (drop 2 zs) < size = omega (arith, parts, slot, ew, below) in
-    let unmoved : u16_of (drop 4 zs) ≡ 0 = omega (arith, parts, moved, ew, below) in
-    let done : byte_of (drop 6 zs) ≡ 0 = omega (arith, parts, tag, ew, below) in
-    let long : u16_of zs ≤ limit = omega (arith, short, planned, length_is) in
-    sym
-    (none (le-ltb 1 (byte_of (drop 6 zs)) (omega (arith, done)))
-    (none (le-ltb limit (u16_of zs) long)
-    (none (le-ltb (u16_of zs) (u16_of (drop 4 zs)) (omega (arith, unmoved))) (lt-leb size (u16_of (drop 2 zs)) in_ring))))
-
--- ---- one turn of a walk, past a good entry
-
--- a request, by the word that begins with its packets
-pub request_passed :
-    (xs : List ℕ) (n i : ℕ) {at word less : ℕ} → i < n → at ≡ 52 + 20 * i → word ≡ u64_of (drop at xs) → (less + 1) % 2 ^ 64 ≡ word → less ≤ 254
-    → any_of is_bad_request_entry 20 (n - (i + 1)) (drop (40 + 20 * (i + 1)) xs) ≡ any_of is_bad_request_entry 20 (n - i) (drop (40 + 20 * i) xs)
-request_passed xs n i {at} h place e wraps few =
-    let begins : at ≡ 40 + 20 * i + 12 = omega arith in
-    let ends : 40 + 20 * (i + 1) ≡ 40 + 20 * i + 20 = omega arith in
-    ap (λ (k : ℕ). any_of is_bad_request_entry 20 (n - (i + 1)) (drop k xs)) ends
-    ∙ any_more is_bad_request_entry 20 n i (40 + 20 * i) xs h (plain_entry xs (40 + 20 * i) (e ∙ ap (λ (k : ℕ). u64_of (drop k xs)) begins) wraps few) refl
-
--- a plan, by the word that begins with the byte before it
-pub plan_passed :
-    (xs : List ℕ) → Octets xs → (limit size n i at : ℕ) {word : ℕ} → i < n → size ≤ 65535 → word ≡ u64_of (drop at xs) → word < 16777216 * size
-    → word / 256 % 65536 ≤ limit
-    → any_of (is_bad_plan_entry limit size) 7 (n - (i + 1)) (drop (at + 7 + 1) xs) ≡ any_of (is_bad_plan_entry limit size) 7 (n - i) (drop (at + 1) xs)
-plan_passed xs octets limit size n i at h narrow e below short =
-    let on : at + 7 + 1 ≡ at + 1 + 7 = omega arith in
-    ap (λ (k : ℕ). any_of (is_bad_plan_entry limit size) 7 (n - (i + 1)) (drop k xs)) on
-    ∙ any_more (is_bad_plan_entry limit size) 7 n i (at + 1) xs h (good_packet xs octets at limit size narrow e below short) refl
-
 -- ---- the tests that ask no entry
-
--- the configuration, the counts and the state
-abbrev pub is_bad_numbers : IsoChannelState → Bool
-is_bad_numbers s = (is_bad_config s.cfg || is_bad_counts s) || is_bad_state s
 
 module _ (s : IsoChannelState) where
   pub numbers_test :
-      {cfg : IsoConfig} {h : IsoHead} {fatal : IsoFatal} {size : ℕ} {bad state b : Bool}
+      {cfg : IsoConfig} {h : IsoHead} {fatal : Option IsoHaltReason} {size : ℕ} {bad state b : Bool}
       → cfg ≡ s.cfg
       → h ≡ s.head
       → fatal ≡ s.fatal
@@ -170,11 +107,6 @@ second_true : (a : Bool) {b : Bool} → b ≡ true → (a || b) ≡ true
 second_true true e = refl
 second_true false e = e
 
--- entries of which none is there
-pub no_entry : (bad : List ℕ → Bool) (w n : ℕ) (xs : List ℕ) → n ≡ 0 → any_of bad w n xs ≡ false
-unfolding any_of
-no_entry bad w n xs e = ap (λ (k : ℕ). any_of bad w k xs) e
-
 module _ (xs : List ℕ) where
   requests_both :
       (n : ℕ) → n ≤ 64
@@ -210,13 +142,11 @@ module _ (xs : List ℕ) where
       (any_bad_request (slice 0 s.head.count s.requests)) (is_bad_sums s)
       (any_bad_plan (packet_limit s.cfg.speed) (slots s.cfg) (slice 0 (all_packets s) s.plans)) (is_bad_state s)
 
-  pub bad_before : (is_bad_mark xs || is_bad_head xs) ≡ true → is_unsound xs ≡ true
-  bad_before e =
-      all_tests ∙ ap (λ (b : Bool). b || (is_bad_numbers (session_of xs) || (request_tests || (is_bad_sums (session_of xs) || plan_tests)))) e
-
-  pub bad_numbers : is_bad_numbers (session_of xs) ≡ true → is_unsound xs ≡ true
-  bad_numbers e =
-      all_tests ∙ second_true (is_bad_mark xs || is_bad_head xs) (ap (λ (b : Bool). b || (request_tests || (is_bad_sums (session_of xs) || plan_tests))) e)
+  pub bad_start : ((is_bad_mark xs || is_bad_head xs) || is_bad_numbers (session_of xs)) ≡ true → is_unsound xs ≡ true
+  bad_start e =
+      all_tests
+      ∙ sym (or_assoc (is_bad_mark xs || is_bad_head xs) (is_bad_numbers (session_of xs)) (request_tests || (is_bad_sums (session_of xs) || plan_tests)))
+      ∙ ap (λ (b : Bool). b || (request_tests || (is_bad_sums (session_of xs) || plan_tests))) e
 
   pub bad_sums : is_bad_sums (session_of xs) ≡ true → is_unsound xs ≡ true
   bad_sums e =
@@ -266,32 +196,101 @@ module _ (xs : List ℕ) where
           ∙ ap₂ (λ (n r : Bool). n || (r || (is_bad_sums (session_of xs) || plan_tests))) numbers (all_requests ∙ requests)
           ∙ ap₂ (λ (m p : Bool). m || p) sums all_plans
 
-  -- without requests there are no packets, and no entry is asked
-  module _ (empty : (session_of xs).head.count ≡ 0) where
-    pub empty_all : 0 ≡ all_packets (session_of xs)
-    empty_all = let s : IsoChannelState = session_of xs in sym (packets_past 0 s.head.count s.requests (omega (arith, empty)))
+-- ---- the walk, as the code makes it
 
-    pub empty_pending : 0 ≡ pending_packets (session_of xs)
-    empty_pending =
+-- what is known past the requests: `all` packets, `before` of them completed
+pub record Walked (xs : List ℕ) (all before : ℕ) : Type 0 where
+  pub front : (is_bad_mark xs || is_bad_head xs) ≡ false
+  pub numbers : is_bad_numbers (session_of xs) ≡ false
+  pub requests : any_of is_bad_request_entry 20 (session_of xs).head.count (drop 40 xs) ≡ false
+  pub all_is : all ≡ all_packets (session_of xs)
+  pub below : before ≤ all
+  pub pending_is : all - before ≡ pending_packets (session_of xs)
+
+module _ (xs : List ℕ) where
+  counted_some : (b : Bool) {n m : ℕ} → Some n ≡ cond b None (Some m) → (b ≡ false) × (n ≡ m)
+  counted_some true e = grind arith
+  counted_some false e = (refl, grind arith)
+
+  counted_none : (b : Bool) (m : ℕ) → None ≡ cond b None (Some m) → b ≡ true
+  counted_none true m e = refl
+  counted_none false m e = grind arith
+
+  module _ {first second : Bool} (is_first : first ≡ (is_bad_mark xs || is_bad_head xs)) (is_second : second ≡ is_bad_numbers (session_of xs)) where
+    pub start_bad : (first || second) ≡ true → is_unsound xs ≡ true
+    start_bad e = bad_start xs (ap₂ (λ (a b : Bool). a || b) (sym is_first) (sym is_second) ∙ e)
+
+    module _ (good : (first || second) ≡ false) {h : IsoHead} (is_head : h ≡ head_of xs) where
+      start : ((is_bad_mark xs || is_bad_head xs) ≡ false) × (is_bad_numbers (session_of xs) ≡ false)
+      start =
+          let both = neither first second good in
+          (sym is_first ∙ both.0, sym is_second ∙ both.1)
+
+      there : h ≡ (session_of xs).head
+      there = is_head ∙ head_there xs
+
+      pub counts_few : (h.done ≤ h.count) × (h.count ≤ 64)
+      counts_few =
+          let few = counts xs start.1 in
+          let done = ap (λ (k : IsoHead). k.done) there in
+          let count = ap (λ (k : IsoHead). k.count) there in
+          (omega (arith, few, done, count), omega (arith, few, count))
+
+      abbrev Counts : Option ℕ → Type 0
+      Counts r = r ≡ cond (any_of is_bad_request_entry 20 h.count (drop 40 xs)) None (Some (packets_of (slice 0 h.count (requests_of xs))))
+
+      pub requests_bad : Counts None → is_unsound xs ≡ true
+      requests_bad e =
+          bad_request xs start.1
+          (sym (ap (λ (k : IsoHead). any_of is_bad_request_entry 20 k.count (drop 40 xs)) there)
+          ∙ counted_none (any_of is_bad_request_entry 20 h.count (drop 40 xs)) _ e)
+
+      pub walked : {all before : ℕ} → Counts (Some all) → before ≡ packets_of (slice 0 h.done (requests_of xs)) → Walked xs all before
+      walked {all} {before} counted eb =
+          let s : IsoChannelState = session_of xs in
+          let few = counts xs start.1 in
+          let some = counted_some (any_of is_bad_request_entry 20 h.count (drop 40 xs)) counted in
+          let all_is : all ≡ all_packets s = some.1 ∙ ap (λ (k : IsoHead). packets_of (slice 0 k.count s.requests)) there in
+          let done : before ≡ packets_of (slice 0 s.head.done s.requests) = eb ∙ ap (λ (k : IsoHead). packets_of (slice 0 k.done s.requests)) there in
+          let split = packets_split s.head.done s.head.count s.requests few.0 (omega (arith, few.1, requests_many xs)) in
+          record {
+            front = start.0;
+            numbers = start.1;
+            requests = sym (ap (λ (k : IsoHead). any_of is_bad_request_entry 20 k.count (drop 40 xs)) there) ∙ some.0;
+            all_is = all_is;
+            below = omega (arith, all_is, done, split);
+            pending_is = omega (arith, all_is, done, split);
+          }
+
+  module _ {all before : ℕ} (w : Walked xs all before) {cfg : IsoConfig} (is_cfg : cfg ≡ config_of xs) {over : Bool} (is_over : over ≡ ltb (room cfg) (all - before)) where
+    there_cfg : cfg ≡ (session_of xs).cfg
+    there_cfg = is_cfg ∙ config_there xs
+
+    sums_are : (ltb 1024 all || over) ≡ is_bad_sums (session_of xs)
+    sums_are = sums_test (session_of xs) there_cfg w.all_is w.pending_is is_over
+
+    pub sums_bad : (ltb 1024 all || over) ≡ true → is_unsound xs ≡ true
+    sums_bad e = bad_sums xs (sym sums_are ∙ e)
+
+    pub plans_tell :
+        {limit size : ℕ} {bad : Bool} → (ltb 1024 all || over) ≡ false → limit ≡ packet_limit cfg.speed → size ≡ slots cfg
+        → bad ≡ list_any (λ (i : ℕ). is_bad_plan_entry limit size (drop (1320 + 7 * i) xs)) (range_with_len 0 all)
+        → bad ≡ is_unsound xs
+    plans_tell {limit} {size} e el ez eb =
         let s : IsoChannelState = session_of xs in
-        sym (packets_past s.head.done s.head.count s.requests (omega (arith, empty)))
+        any_places (is_bad_plan_entry limit size) 7 all 1320 xs eb
+        ∙ ap₂ (λ (l z : ℕ). any_of (is_bad_plan_entry l z) 7 all (drop 1320 xs)) (el ∙ ap (λ (k : IsoConfig). packet_limit k.speed) there_cfg)
+        (ez ∙ ap slots there_cfg)
+        ∙ ap (λ (n : ℕ). any_of (is_bad_plan_entry (packet_limit s.cfg.speed) (slots s.cfg)) 7 n (drop 1320 xs)) w.all_is
+        ∙ sym (by_plans xs w.numbers w.front w.requests (sym sums_are ∙ e))
 
-    pub empty_good : is_bad_numbers (session_of xs) ≡ false → (is_bad_mark xs || is_bad_head xs) ≡ false → is_unsound xs ≡ false
-    empty_good numbers before =
-        let s : IsoChannelState = session_of xs in
-        let few : all_packets s ≤ 1024 = omega (arith, empty_all) in
-        let fits : pending_packets s ≤ room s.cfg = omega (arith, empty_pending) in
-        by_plans numbers before (no_entry is_bad_request_entry 20 s.head.count (drop 40 xs) empty)
-        (none (le-ltb 1024 (all_packets s) few) (le-ltb (room s.cfg) (pending_packets s) fits))
-        ∙ no_entry (is_bad_plan_entry (packet_limit s.cfg.speed) (slots s.cfg)) 7 (all_packets s) (drop 1320 xs) (sym empty_all)
+  -- what is answered
 
-  -- ---- what is answered
+  pub none_counted : is_unsound xs ≡ true → None ≡ sums_in xs
+  none_counted e = sym (ap (λ (b : Bool). cond b None (Some (sums_of (session_of xs)))) e)
 
-  pub bad_sounded : (r : RequestSums) → r.bad ≡ true → is_unsound xs ≡ true → Sounded xs r
-  bad_sounded r b e = record { bad = b ∙ sym e; all = λ g. absurd (never (sym b ∙ g)); pending = λ g. absurd (never (sym b ∙ g)) }
-
-  pub good_sounded :
-      (r : RequestSums) {all pending : ℕ} → (r.bad ≡ false) × (r.all ≡ all) × (r.pending ≡ pending) → all ≡ all_packets (session_of xs)
-      → pending ≡ pending_packets (session_of xs) → is_unsound xs ≡ false
-      → Sounded xs r
-  good_sounded r said ea ep e = record { bad = said.0 ∙ sym e; all = λ g. said.1 ∙ ea; pending = λ g. said.2 ∙ ep }
+  pub some_counted :
+      {all pending : ℕ} → is_unsound xs ≡ false → all ≡ all_packets (session_of xs) → pending ≡ pending_packets (session_of xs)
+      → Some (record { all = all; pending = pending }) ≡ sums_in xs
+  some_counted e ea ep =
+      ap₂ (λ (n m : ℕ). Some (record { all = n; pending = m })) ea ep ∙ sym (ap (λ (b : Bool). cond b None (Some (sums_of (session_of xs)))) e)

@@ -1,19 +1,17 @@
 -- Work on a session's bytes where they stand, step by step: bytes that hold a session hold the next one after each store, and what stands behind
 -- the session stays.
-use Rattle.std.proofs.Common.{◌≡◌, ℕ, ◌+◌, ◌*◌, ◌<◌, ◌≤◌, Bool, true, false, cond, ltb, List, map, length, get_or, drop, set, sym, refl, ap, ◌∙◌, ap₂, le_trans, lt_of_lt_of_le, arith}
+use Rattle.std.specs.Prelude.{⊤}
+use Rattle.std.proofs.Common.{Option, None, Result, Ok, ◌≡◌, ℕ, ◌+◌, ◌*◌, ◌<◌, ◌≤◌, Bool, List, map, length, get_or, drop, set, sym, refl, ap, ◌∙◌, ap₂, le_trans, lt_of_lt_of_le, arith}
 use native.Mathlib.Nat.{min-le_right}
 use lib.Seq.{slice, sets}
 use Rattle.session.specs.declared.reply.IsoReply.{IsoReply}
-use Rattle.session.specs.declared.types.IsoFatal.{IsoFatal}
-use Rattle.session.specs.declared.types.IsoFatal.TheVariants.{Nothing}
+use Rattle.session.specs.declared.types.IsoHaltReason.{IsoHaltReason}
 use Rattle.session.specs.declared.types.IsoHead.{IsoHead}
 use Rattle.session.specs.declared.types.IsoOutcome.{IsoOutcome}
 use Rattle.session.specs.declared.types.IsoRequest.{IsoRequest}
 use Rattle.session.specs.declared.types.IsoChannelState.{IsoChannelState}
-use Rattle.session.specs.Session.{blank_request, ring_words}
-use Rattle.session.specs.Record.{is_bad_record}
-use Rattle.session.specs.declared.reply.IsoAnswer.{IsoAnswer}
-use Rattle.session.specs.declared.reply.IsoAnswer.TheVariants.{Done}
+use Rattle.session.specs.Session.{blank_request}
+use Rattle.session.specs.declared.refusal.IsoRefusal.{IsoRefusal}
 use Rattle.session.specs.declared.reply.PollWay.{PollWay}
 use Rattle.session.specs.declared.reply.PollWay.TheVariants as way
 use Rattle.session.specs.Numbers.{answer_number}
@@ -27,7 +25,7 @@ use Rattle.port.specs.Bytes.{u16_bytes}
 use Rattle.port.specs.Tags.{flag_tag, tagged_bytes, fatal_tagged}
 use Rattle.port.specs.Layout.{head_bytes, request_bytes, request_of, layout_number, session_of, requests_in}
 use Rattle.port.specs.Calls.{port_reply, reply_port}
-use Rattle.port.specs.Parts.{ended_head, lent_number}
+use Rattle.port.specs.Parts.{ended_head}
 use Rattle.port.specs.Places.{requests_of, with_requests, Left}
 use Rattle.port.proofs.Canonical.{loaded_left, request_clear}
 use Rattle.port.proofs.Laws.Calls.{long_enough}
@@ -51,7 +49,7 @@ module _ (xs : List ℕ) (octets : Octets xs) (z : layout_number xs ≡ 0) where
   cursor_here k = kept_cursor long same_bytes k
 
   pub reason_here :
-      (f : IsoFatal) {next : List ℕ} → next ≡ sets xs 34 (tagged_bytes (fatal_tagged f))
+      (f : Option IsoHaltReason) {next : List ℕ} → next ≡ sets xs 34 (tagged_bytes (fatal_tagged f))
       → Left xs next (whole (session_of xs).cfg (session_of xs).head f (session_of xs).requests (session_of xs).plans)
   reason_here f = kept_reason long same_bytes f
 
@@ -109,7 +107,7 @@ pub end_put :
     → Left xs a (with_requests (session_of xs) (sets (requests_of xs) h.done (map (with_outcome o) (slice h.done h.count (requests_of xs)))))
     → e ≡ ended_head h
     → b ≡ sets a 15 (head_bytes e)
-    → t ≡ fatal_tagged Nothing
+    → t ≡ fatal_tagged None
     → c ≡ sets b 34 (tagged_bytes t)
     → Left xs c (ended o (session_of xs))
 end_put xs o enough {a = a} {b} eh ea ee eb et ec =
@@ -118,29 +116,7 @@ end_put xs o enough {a = a} {b} eh ea ee eb et ec =
     left_is ea
     (ap (λ (k : IsoHead). with_requests s (sets s.requests k.done (map (with_outcome o) (slice k.done k.count s.requests)))) eh) in
     let second = kept_head enough first (ended_head s.head) (eb ∙ ap (λ (k : IsoHead). sets a 15 (head_bytes k)) (ee ∙ ap ended_head eh)) in
-    kept_reason enough second Nothing (ec ∙ ap (λ (k : Tagged). sets b 34 (tagged_bytes k)) et)
-
--- ---- a call that is lent the ring: refused with a number, or past both tests
-
-module _ (s : IsoChannelState) (words : ℕ) {n : ℕ} (is : n ≡ lent_number s words) where
-  pub lent_refused :
-      {A : Type 0} (answer : ℕ → A) (r : A) → (n ≡ 0 → ⊥)
-      → cond (ltb words (ring_words s.cfg)) (answer 17) (cond (is_bad_record s) (answer 18) r) ≡ answer n
-  lent_refused {A} answer r z = go (ltb words (ring_words s.cfg)) (is_bad_record s) is
-    where
-      go : (a b : Bool) → n ≡ cond a 17 (cond b 18 0) → cond a (answer 17) (cond b (answer 18) r) ≡ answer n
-      go true b e = ap answer (sym e)
-      go false true e = ap answer (sym e)
-      go false false e = absurd (z e)
-
-  pub lent_passed : n ≡ 0 → (ltb words (ring_words s.cfg) ≡ false) × (is_bad_record s ≡ false)
-  lent_passed z = go (ltb words (ring_words s.cfg)) (is_bad_record s) refl refl (sym is ∙ z)
-    where
-      go : (a b : Bool) → ltb words (ring_words s.cfg) ≡ a → is_bad_record s ≡ b → ◌≡◌ {A = ℕ} (cond a 17 (cond b 18 0)) 0
-          → (ltb words (ring_words s.cfg) ≡ false) × (is_bad_record s ≡ false)
-      go true b p q e = absurd (omega arith)
-      go false true p q e = absurd (omega arith)
-      go false false p q e = (p, q)
+    kept_reason enough second None (ec ∙ ap (λ (k : Tagged). sets b 34 (tagged_bytes k)) et)
 
 -- ---- a poll by its way
 
@@ -161,7 +137,7 @@ module _ (xs ring : List ℕ) {w v : PollWay} (way_is : v ≡ w) where
 
 -- a poll that was not refused answers 0
 module _ (s : IsoChannelState) (ring : List ℕ) where
-  done_always : (w : PollWay) → (polled_by w s ring).answer ≡ Done
+  done_always : (w : PollWay) → (polled_by w s ring).answer ≡ Ok tt
   done_always way.Nothing = refl
   done_always (way.End o) = refl
   done_always (way.Halt r) = refl
@@ -175,4 +151,4 @@ module _ (s : IsoChannelState) (ring : List ℕ) where
   reply_said w e t h =
       e
       ∙ ap₂ (λ (a b : Bool). port_reply 0 (flag_tag a) (flag_tag b)) t h
-      ∙ ap (λ (a : IsoAnswer). port_reply (answer_number a) (flag_tag (polled_by w s ring).taken) (flag_tag (polled_by w s ring).halt)) (sym (done_always w))
+      ∙ ap (λ (a : Result ⊤ IsoRefusal). port_reply (answer_number a) (flag_tag (polled_by w s ring).taken) (flag_tag (polled_by w s ring).halt)) (sym (done_always w))

@@ -1,10 +1,10 @@
 -- A submission on the bytes of a session: the packets' plans, the request and the numbers, each written where it stands, are the submission's session.
 -- Bytes of the layout are as if all entries in use were written, so each entry that is added is the next behind those written.
-use Rattle.std.proofs.Common.{◌≡◌, ℕ, suc, ◌+◌, ◌*◌, ◌<◌, ◌≤◌, min, List, [], ◌∷◌, ◌++◌, length, get_or, take, drop, sym, refl, ap, ◌∙◌, subst, ap₂, zero-add, arith, length-take-le, get_or-take}
+use Rattle.std.proofs.Common.{Option, ◌≡◌, ℕ, suc, ◌+◌, ◌*◌, ◌<◌, ◌≤◌, min, List, [], ◌∷◌, ◌++◌, length, get_or, take, drop, sym, refl, ap, ◌∙◌, subst, ap₂, zero-add, arith, length-take-le, get_or-take}
 use lib.Seq.{slice, sets}
 use Rattle.ring.specs.RingSums.{slot_at}
 use Rattle.session.specs.declared.types.IsoConfig.{IsoConfig}
-use Rattle.session.specs.declared.types.IsoFatal.{IsoFatal}
+use Rattle.session.specs.declared.types.IsoHaltReason.{IsoHaltReason}
 use Rattle.session.specs.declared.types.IsoHead.{IsoHead}
 use Rattle.session.specs.declared.types.IsoRequest.{IsoRequest}
 use Rattle.session.specs.declared.types.IsoPacketPlan.{IsoPacketPlan}
@@ -21,7 +21,6 @@ use Rattle.session.proofs.Laws.Stores.{new_plan, length-plans_from, get_or-plans
 use Rattle.session.proofs.Laws.Submits.{pushed}
 use Rattle.session.proofs.Laws.Sums.{packets_append}
 use Rattle.session.specs.Scan.{whole}
-use Rattle.port.specs.declared.tags.Tagged.{Tagged}
 use Rattle.port.specs.Tags.{tagged_of, fatal_of}
 use Rattle.port.specs.Layout.{config_of, head_of, head_bytes, request_bytes, is_bad_request_bytes, plan_bytes, is_bad_plan_bytes, table_bytes}
 use Rattle.port.specs.Layout.{layout_number, session_of, requests_in, plans_in, front, kept}
@@ -94,11 +93,11 @@ plans_put {n} {m} {to} {xs} {now} {next} {s} enough k (p ∷ ps) ends fits e =
 
 -- the parts that are read where they stand, with the tables, are the session
 pub parts_read :
-    (xs : List ℕ) {cfg : IsoConfig} {head : IsoHead} {fatal : IsoFatal} {t : Tagged} → cfg ≡ config_of xs → head ≡ head_of xs → t ≡ tagged_of (drop 34 xs)
-    → fatal ≡ fatal_of t
+    (xs : List ℕ) {cfg : IsoConfig} {head : IsoHead} {fatal : Option IsoHaltReason} → cfg ≡ config_of xs → head ≡ head_of xs
+    → fatal ≡ fatal_of (tagged_of (drop 34 xs))
     → whole cfg head fatal (session_of xs).requests (session_of xs).plans ≡ session_of xs
 unfolding session_of
-parts_read xs ec eh et ef = session_at xs ec eh et ef refl refl
+parts_read xs ec eh ef = session_at xs ec eh refl ef refl refl
 
 module _ (xs : List ℕ) (octets : Octets xs) (z : layout_number xs ≡ 0) (lengths : List ℕ) (r : SubmitParts) where
   abbrev s : IsoChannelState

@@ -1,4 +1,5 @@
 -- Tables of entries: one turn and the end of a walk that reads, tests or writes them.
+use Rattle.std.specs.List.{list_any, range_with_len}
 use Rattle.std.proofs.Common.{◌≡◌, ℕ, zero, suc, ◌+◌, ◌-◌, ◌*◌, ◌<◌, ◌≤◌, Bool, true, false, ◌||◌, List, [], ◌∷◌, ◌++◌, length, get_or, take, drop, set, sym, refl, ap, ◌∙◌, subst, ap₂, append_assoc, add-one, arith, length-append, drop_of_length-le, drop-cons, drop-drop, drop_at}
 use mathlib.Core.Bool.{or_assoc}
 use lib.Seq.{slice, sets, drop-nil, drop-append-add}
@@ -46,6 +47,22 @@ module _ (bad : List ℕ → Bool) (w : ℕ) where
       → any_of bad w (n - (i + 1)) (drop (at + w) xs) ≡ any_of bad w (n - i) (drop at xs)
   any_more n i at xs h e clear = any_by n i at xs false h (sym clear ∙ e)
 
+  -- the same where the place is counted from the first
+  pub any_on :
+      (n i from : ℕ) (xs : List ℕ) {b : Bool} → i < n → b ≡ bad (drop (from + w * i) xs) → b ≡ false
+      → any_of bad w (n - (i + 1)) (drop (from + w * (i + 1)) xs) ≡ any_of bad w (n - i) (drop (from + w * i) xs)
+  any_on n i from xs h e clear =
+      let on : from + w * (i + 1) ≡ from + w * i + w = omega arith in
+      ap (λ (k : ℕ). any_of bad w (n - (i + 1)) (drop k xs)) on ∙ any_more n i (from + w * i) xs h e clear
+
+  -- the same where the places are counted
+  pub any_step :
+      (n i at : ℕ) (xs : List ℕ) → i < n → bad (drop (at + w * i) xs) ≡ false
+      → any_of bad w (n - (i + 1)) (drop (at + w * (i + 1)) xs) ≡ any_of bad w (n - i) (drop (at + w * i) xs)
+  any_step n i at xs h clear =
+      let on : at + w * (i + 1) ≡ at + w * i + w = omega arith in
+      ap (λ (k : ℕ). any_of bad w (n - (i + 1)) (drop k xs)) on ∙ any_more n i (at + w * i) xs h (sym clear) refl
+
   pub any_found :
       (n i at : ℕ) (xs : List ℕ) {b : Bool} → i < n → b ≡ bad (drop at xs) → b ≡ true → true ≡ any_of bad w (n - i) (drop at xs)
   any_found n i at xs h e found = any_by n i at xs true h (sym found ∙ e)
@@ -79,16 +96,6 @@ module _ (bad : List ℕ → Bool) (w : ℕ) where
       let clear = neither (bad xs) (any_of bad w n (drop w xs)) e in
       ap₂ (λ (x y : Bool). x || y) clear.0 (any_less n m (drop w xs) (omega arith) clear.1)
 
-  -- of the last `k` none is bad, and of those before them, or of more than those
-  pub any_over :
-      (n i k at : ℕ) (xs : List ℕ) → k ≤ n → n - k ≤ i → any_of bad w i (drop at xs) ≡ false → any_of bad w k (drop (at + w * (n - k)) xs) ≡ false
-      → any_of bad w n (drop at xs) ≡ false
-  any_over n i k at xs fits reach before last =
-      let all : n ≡ n - k + k = omega arith in
-      ap (λ (m : ℕ). any_of bad w m (drop at xs)) all
-      ∙ any_split (n - k) k at xs
-      ∙ ap₂ (λ (x y : Bool). x || y) (any_less i (n - k) (drop at xs) reach before) last
-
   pub any_clear : (n i : ℕ) (xs : List ℕ) → i < n → any_of bad w n xs ≡ false → bad (drop (w * i) xs) ≡ false
   unfolding any_of
   any_clear zero i xs h e = absurd (omega arith)
@@ -100,6 +107,22 @@ module _ (bad : List ℕ → Bool) (w : ℕ) where
       ap (λ (k : ℕ). bad (drop k xs)) on
       ∙ ap bad (sym (drop-drop (w * i) w xs))
       ∙ any_clear n i (drop w xs) (omega arith) (neither (bad xs) (any_of bad w n (drop w xs)) e).1
+
+  -- the entries asked by their places, as a chain over these asks them
+  any_range :
+      (n i at : ℕ) (xs : List ℕ) → list_any (λ (k : ℕ). bad (drop (at + w * k) xs)) (range_with_len i n) ≡ any_of bad w n (drop (at + w * i) xs)
+  unfolding any_of
+  any_range zero i at xs = refl
+  any_range (suc n) i at xs =
+      let on : at + w * (i + 1) ≡ at + w * i + w = omega arith in
+      ap (λ (x : Bool). bad (drop (at + w * i) xs) || x) (any_range n (i + 1) at xs ∙ ap (λ (k : ℕ). any_of bad w n (drop k xs)) on)
+      ∙ sym (any_next n (at + w * i) xs)
+
+  pub any_places :
+      (n at : ℕ) (xs : List ℕ) {b : Bool} → b ≡ list_any (λ (k : ℕ). bad (drop (at + w * k) xs)) (range_with_len 0 n) → b ≡ any_of bad w n (drop at xs)
+  any_places n at xs e =
+      let here : at + w * 0 ≡ at = omega arith in
+      e ∙ any_range n 0 at xs ∙ ap (λ (k : ℕ). any_of bad w n (drop k xs)) here
 
 -- a test of an entry's bytes and one of the entry, both made of each in turn
 module _ {A : Type 0} (f : List ℕ → A) (w : ℕ) (bad : List ℕ → Bool) (test : A → Bool) (any : List A → Bool)

@@ -1,22 +1,24 @@
 -- A session in its bytes, worked on in place: single fields read where they stand, one turn of a walk that writes a table's entries, and how many
 -- entries are in use.
-use Rattle.std.proofs.Common.{◌≡◌, ℕ, ◌+◌, ◌*◌, ◌<◌, ◌≤◌, min, List, get_or, drop, set, sym, refl, ap, ◌∙◌, lt_of_lt_of_le, arith}
+use Rattle.std.proofs.Common.{◌≡◌, ℕ, ◌+◌, ◌*◌, ◌<◌, ◌≤◌, min, false, List, get_or, drop, set, sym, refl, ap, ◌∙◌, lt_of_lt_of_le, arith}
 use native.Mathlib.Nat.{min-le_right, min-eq_left}
 use lib.Seq.{slice, sets}
 use Rattle.session.specs.declared.types.IsoRequest.{IsoRequest}
 use Rattle.session.specs.declared.types.IsoPacketPlan.{IsoPacketPlan}
 use Rattle.session.specs.declared.types.IsoChannelState.{IsoChannelState}
 use Rattle.session.specs.Session.{blank_request, blank_plan, packets_of, all_packets}
+use Rattle.session.specs.Record.{is_bad_record}
+use Rattle.session.proofs.Laws.Record.{Sound, sound}
 use Rattle.session.proofs.Laws.Sums.{packets_next}
 use Rattle.port.specs.Bytes.{byte_of, u16_of, u64_of}
-use Rattle.port.specs.Tags.{speed_of, direction_of, flag_of}
+use Rattle.port.specs.Tags.{direction_of}
 use Rattle.port.specs.Layout.{config_of, head_of, request_bytes, request_of, plan_bytes, plan_of, layout_number, session_of, requests_in, plans_in}
 use Rattle.port.specs.Places.{requests_of, plans_of, with_requests, with_plans, Left}
 use Rattle.port.proofs.Canonical.{request_clear, plan_clear}
 use Rattle.port.proofs.Laws.Calls.{long_enough}
 use Rattle.port.proofs.Laws.Entries.{field}
 use Rattle.port.proofs.Laws.Left.{left_is, left_request, left_plan}
-use Rattle.port.proofs.Laws.Placed.{plan_there, request_there, requests_many}
+use Rattle.port.proofs.Laws.Placed.{plan_there, request_there, requests_many, plans_many}
 
 -- ---- single fields, read where they stand
 
@@ -31,18 +33,6 @@ count_there xs = refl
 pub direction_there : (xs : List ℕ) → direction_of (byte_of (drop 6 xs)) ≡ (session_of xs).cfg.direction
 unfolding session_of config_of
 direction_there xs = refl
-
-pub live_there : (xs : List ℕ) → flag_of (byte_of (drop 15 xs)) ≡ (session_of xs).head.live
-unfolding session_of head_of
-live_there xs = refl
-
-pub interval_there : (xs : List ℕ) → u16_of (drop 8 xs) ≡ (session_of xs).cfg.interval
-unfolding session_of config_of
-interval_there xs = refl
-
-pub speed_there : (xs : List ℕ) → speed_of (byte_of (drop 5 xs)) ≡ (session_of xs).cfg.speed
-unfolding session_of config_of
-speed_there xs = refl
 
 pub packets_there : (xs : List ℕ) (i : ℕ) → i < 64 → u16_of (drop (52 + 20 * i) xs) ≡ (get_or (requests_of xs) i blank_request).packets
 unfolding request_of
@@ -64,15 +54,11 @@ slot_there xs i h =
     let on : 1322 + 7 * i ≡ 1320 + 7 * i + 2 = omega arith in
     ap (λ (n : ℕ). u16_of (drop n xs)) on ∙ field u16_of 2 (1320 + 7 * i) xs ∙ ap (λ (p : IsoPacketPlan). p.desc_index) (plan_there xs i blank_plan h)
 
--- the sum of the packets so far and those of the requests still to come, after one request more
-pub packets_more :
-    (xs : List ℕ) (n i sum all : ℕ) {at packets : ℕ} → i < n → n ≤ 64 → at ≡ 52 + 20 * i → packets ≡ u16_of (drop at xs)
+pub packets_step :
+    (xs : List ℕ) (n i sum all : ℕ) {packets : ℕ} → i < n → n ≤ 64 → packets ≡ (get_or (requests_of xs) i blank_request).packets
     → sum + packets_of (slice i n (requests_of xs)) ≡ all
     → sum + packets + packets_of (slice (i + 1) n (requests_of xs)) ≡ all
-packets_more xs n i sum all {packets = packets} h few place e so_far =
-    let here : packets ≡ (get_or (requests_of xs) i blank_request).packets =
-    e ∙ ap (λ (k : ℕ). u16_of (drop k xs)) place ∙ packets_there xs i (omega arith) in
-    omega (arith, packets_next i n (requests_of xs) h (omega (arith, requests_many xs)), here, so_far)
+packets_step xs n i sum all h few here so_far = omega (arith, packets_next i n (requests_of xs) h (omega (arith, requests_many xs)), here, so_far)
 
 -- ---- one turn of a walk: `now` holds the session `s` but for one table, and an entry of that table that is in use is written
 
@@ -95,6 +81,10 @@ module _ (xs : List ℕ) (z : layout_number xs ≡ 0) (s : IsoChannelState) {now
       let put = left_request (long_enough xs refl z) k i r small (request_clear xs z i h) n in
       let held : requests_of next ≡ set (requests_of now) i r = ap (λ (t : IsoChannelState). t.requests) put.holds in
       (held, left_is put (ap (with_requests s) (sym held)))
+
+-- a good record, read from bytes: its tables are as long as the layout says
+pub sound_there : (xs : List ℕ) → is_bad_record (session_of xs) ≡ false → Sound (session_of xs)
+sound_there xs good = sound (session_of xs) (requests_many xs) (plans_many xs) good
 
 -- ---- the entries in use of a good record are those that its numbers name
 

@@ -3,22 +3,23 @@ use mathlib.Core.Path.{◌≡◌, refl, ◌∙◌, ap, sym, subst}
 use mathlib.Core.Bool.{Bool, true, false, not, ◌&&◌, cond}
 use mathlib.Core.List.{List}
 use Prim.Native.Nat.{ℕ, ◌+◌, ◌*◌, ◌≤◌, ◌<◌}
+use Rattle.std.specs.Prelude.{None, Result, Ok, Err, ⊤}
 use native.Mathlib.Omega.{arith}
 use lib.Dec.{T, eqb, ltb}
 use lib.ListN.{length, get_or}
-use borrow.Author.Tests.{ltb-true, ltb-false, lt-ltb, le-ltb, eqb-true, eqb-false, eq-eqb, ne_eqb, not-true, not-false}
+use borrow.Author.Tests.{ltb-true, ltb-false, lt-ltb, le-ltb, eqb-true, eqb-false, eq-eqb, ne_eqb, not-false}
 use Rattle.ring.specs.RingSums.{packet_limit}
 use Rattle.ring.specs.declared.speed.Speed.{Speed}
 use Rattle.ring.specs.declared.speed.Speed.TheVariants.{High, Full, Low}
 use Rattle.session.specs.declared.types.IsoChannelState.{IsoChannelState}
-use Rattle.session.specs.declared.types.IsoFatal.TheVariants.{Nothing}
+use Rattle.session.specs.declared.refusal.IsoRefusal.{IsoRefusal}
 use Rattle.session.specs.declared.transfer.IsoTransfer.{IsoTransfer}
 use Rattle.session.specs.declared.transfer.SubmitWay.{SubmitWay}
 use Rattle.session.specs.declared.transfer.SubmitWay.TheVariants.{Refuse, TooLong, Spend, Early, Cut, Late, Accept}
 use Rattle.session.specs.Session.{ring_words, room, all_packets, pending_packets, has_reason}
 use Rattle.session.specs.Record.{is_bad_record}
 use Rattle.session.specs.Scan.{is_gate}
-use Rattle.session.specs.Way.{is_low, sum, is_clash, is_over, entry_checks, entry_refusal, spend_checks, too_long, spend_refusal, submit_way}
+use Rattle.session.specs.Way.{is_low, sum, is_clash, is_over, entry_checks, entry_refusal, spend_checks, too_long, spend_refusal, refuse_or, spend_or, submit_way}
 use Rattle.session.proofs.Laws.Sums.{room_few}
 use Rattle.session.proofs.Laws.Record.{no_reason}
 use Rattle.session.proofs.Laws.Stores.{none_long}
@@ -28,35 +29,35 @@ use Rattle.session.proofs.Laws.Checks.{◌and◌, none_holds, none_first, short_
 
 -- what holds of each way where the tests choose it holds of the way chosen
 choose :
-    (P : SubmitWay → Type 0) (e i p : ℕ) (a b c x y z : Bool)
-    → (a ≡ true → P (Refuse e))
-    → (a ≡ false → b ≡ true → P (TooLong i))
-    → (a ≡ false → b ≡ false → c ≡ true → P (Spend p))
-    → (a ≡ false → b ≡ false → c ≡ false → x ≡ true → P Early)
-    → (a ≡ false → b ≡ false → c ≡ false → x ≡ false → y ≡ true → P Cut)
-    → (a ≡ false → b ≡ false → c ≡ false → x ≡ false → y ≡ false → z ≡ true → P Late)
-    → (a ≡ false → b ≡ false → c ≡ false → x ≡ false → y ≡ false → z ≡ false → P Accept)
-    → P (cond a (Refuse e) (cond b (TooLong i) (cond c (Spend p) (cond x Early (cond y Cut (cond z Late Accept))))))
-choose P e i p true b c x y z h1 h2 h3 h4 h5 h6 h7 = h1 refl
-choose P e i p false true c x y z h1 h2 h3 h4 h5 h6 h7 = h2 refl refl
-choose P e i p false false true x y z h1 h2 h3 h4 h5 h6 h7 = h3 refl refl refl
-choose P e i p false false false true y z h1 h2 h3 h4 h5 h6 h7 = h4 refl refl refl refl
-choose P e i p false false false false true z h1 h2 h3 h4 h5 h6 h7 = h5 refl refl refl refl refl
-choose P e i p false false false false false true h1 h2 h3 h4 h5 h6 h7 = h6 refl refl refl refl refl refl
-choose P e i p false false false false false false h1 h2 h3 h4 h5 h6 h7 = h7 refl refl refl refl refl refl
+    (P : SubmitWay → Type 0) (i : ℕ) (a c : Result ⊤ IsoRefusal) (b x y z : Bool)
+    → ((r : IsoRefusal) → a ≡ Err r → P (Refuse r))
+    → (a ≡ Ok tt → b ≡ true → P (TooLong i))
+    → (a ≡ Ok tt → b ≡ false → (r : IsoRefusal) → c ≡ Err r → P (Spend r))
+    → (a ≡ Ok tt → b ≡ false → c ≡ Ok tt → x ≡ true → P Early)
+    → (a ≡ Ok tt → b ≡ false → c ≡ Ok tt → x ≡ false → y ≡ true → P Cut)
+    → (a ≡ Ok tt → b ≡ false → c ≡ Ok tt → x ≡ false → y ≡ false → z ≡ true → P Late)
+    → (a ≡ Ok tt → b ≡ false → c ≡ Ok tt → x ≡ false → y ≡ false → z ≡ false → P Accept)
+    → P (refuse_or a (cond b (TooLong i) (spend_or c (cond x Early (cond y Cut (cond z Late Accept))))))
+choose P i (Err r) c b x y z h1 h2 h3 h4 h5 h6 h7 = h1 r refl
+choose P i (Ok u) c true x y z h1 h2 h3 h4 h5 h6 h7 = h2 refl refl
+choose P i (Ok u) (Err r) false x y z h1 h2 h3 h4 h5 h6 h7 = h3 refl refl r refl
+choose P i (Ok u) (Ok v) false true y z h1 h2 h3 h4 h5 h6 h7 = h4 refl refl refl refl
+choose P i (Ok u) (Ok v) false false true z h1 h2 h3 h4 h5 h6 h7 = h5 refl refl refl refl refl
+choose P i (Ok u) (Ok v) false false false true h1 h2 h3 h4 h5 h6 h7 = h6 refl refl refl refl refl refl
+choose P i (Ok u) (Ok v) false false false false h1 h2 h3 h4 h5 h6 h7 = h7 refl refl refl refl refl refl
 
 -- none of the tests 17, 18 and 1 to 13 holds
 pub record Clear (s : IsoChannelState) (t : IsoTransfer) (lengths ring : List ℕ) : Type 0 where
-  pub entry : entry_refusal s t (length lengths) (length ring) ≡ 0
+  pub entry : entry_refusal s t (length lengths) (length ring) ≡ Ok tt
   pub short : length lengths ≤ too_long s lengths
-  pub spend : spend_refusal s t lengths ring ≡ 0
+  pub spend : spend_refusal s t lengths ring ≡ Ok tt
 
 -- what each way says of the tests
 abbrev pub Told : IsoChannelState → IsoTransfer → List ℕ → List ℕ → SubmitWay → Type 0
-Told s t lengths ring (Refuse n) = (n ≡ entry_refusal s t (length lengths) (length ring)) × (n ≡ 0 → ⊥)
-Told s t lengths ring (TooLong i) = (entry_refusal s t (length lengths) (length ring) ≡ 0) × (i ≡ too_long s lengths) × (i < length lengths)
-Told s t lengths ring (Spend n) =
-    (entry_refusal s t (length lengths) (length ring) ≡ 0) × (length lengths ≤ too_long s lengths) × (n ≡ spend_refusal s t lengths ring) × (n ≡ 0 → ⊥)
+Told s t lengths ring (Refuse r) = entry_refusal s t (length lengths) (length ring) ≡ Err r
+Told s t lengths ring (TooLong i) = (entry_refusal s t (length lengths) (length ring) ≡ Ok tt) × (i ≡ too_long s lengths) × (i < length lengths)
+Told s t lengths ring (Spend r) =
+    (entry_refusal s t (length lengths) (length ring) ≡ Ok tt) × (length lengths ≤ too_long s lengths) × (spend_refusal s t lengths ring ≡ Err r)
 Told s t lengths ring Early = Clear s t lengths ring × (s.head.live ≡ false) × (t.gate_program ≡ false)
 Told s t lengths ring Cut = Clear s t lengths ring × (t.words < 2 * length lengths) × (s.head.live ≡ false → t.gate_program ≡ true)
 Told s t lengths ring Late = Clear s t lengths ring × (s.head.live ≡ false) × (t.gate_enable ≡ false)
@@ -77,50 +78,40 @@ given_if : (live given : Bool) → (live ≡ false → given ≡ true) → (not 
 given_if true given h = refl
 given_if false given h = ap not (h refl)
 
--- a number is 0, or it is not
-is_zero : (n : ℕ) → not (eqb n 0) ≡ false → n ≡ 0
-is_zero n e = eqb-true n 0 (not-false (eqb n 0) e)
-
-is_some : (n : ℕ) → not (eqb n 0) ≡ true → n ≡ 0 → ⊥
-is_some n e = eqb-false n 0 (not-true (eqb n 0) e)
-
 module _ (s : IsoChannelState) (t : IsoTransfer) (lengths ring : List ℕ) where
-  -- the three tests of the way say that none holds
-  clear :
-      not (eqb (entry_refusal s t (length lengths) (length ring)) 0) ≡ false → ltb (too_long s lengths) (length lengths) ≡ false
-      → not (eqb (spend_refusal s t lengths ring) 0) ≡ false → Clear s t lengths ring
-  clear a b c =
-      record {
-        entry = is_zero (entry_refusal s t (length lengths) (length ring)) a;
-        short = ltb-false (too_long s lengths) (length lengths) b;
-        spend = is_zero (spend_refusal s t lengths ring) c;
-      }
-
   -- the way that a submission goes says so of its tests
   pub told : Told s t lengths ring (submit_way s t lengths ring)
   told =
-      let e = entry_refusal s t (length lengths) (length ring) in
       let i = too_long s lengths in
       let n = length lengths in
-      let p = spend_refusal s t lengths ring in
-      choose (Told s t lengths ring) e i p (not (eqb e 0)) (ltb i n) (not (eqb p 0)) (not s.head.live && not t.gate_program) (ltb t.words (2 * n))
-      (not s.head.live && not t.gate_enable)
-      (λ a. (refl, is_some e a))
-      (λ a b. (is_zero e a, refl, ltb-true i n b))
-      (λ a b c. (is_zero e a, ltb-false i n b, refl, is_some p c))
-      (λ a b c x. (clear a b c, (both s.head.live t.gate_program x).0, (both s.head.live t.gate_program x).1))
-      (λ a b c x y. (clear a b c, ltb-true t.words (2 * n) y, free s.head.live t.gate_program x))
-      (λ a b c x y z. (clear a b c, (both s.head.live t.gate_enable z).0, (both s.head.live t.gate_enable z).1))
-      (λ a b c x y z. (clear a b c, ltb-false t.words (2 * n) y, free s.head.live t.gate_program x, free s.head.live t.gate_enable z))
+      let short : ltb i n ≡ false → n ≤ i = ltb-false i n in
+      choose (Told s t lengths ring) i (entry_refusal s t n (length ring)) (spend_refusal s t lengths ring) (ltb i n)
+      (not s.head.live && not t.gate_program) (ltb t.words (2 * n)) (not s.head.live && not t.gate_enable)
+      (λ r a. a)
+      (λ a b. (a, refl, ltb-true i n b))
+      (λ a b r c. (a, short b, c))
+      (λ a b c x. (record { entry = a; short = short b; spend = c }, (both s.head.live t.gate_program x).0, (both s.head.live t.gate_program x).1))
+      (λ a b c x y. (record { entry = a; short = short b; spend = c }, ltb-true t.words (2 * n) y, free s.head.live t.gate_program x))
+      (λ a b c x y z. (
+        record { entry = a; short = short b; spend = c },
+        (both s.head.live t.gate_enable z).0,
+        (both s.head.live t.gate_enable z).1,
+      ))
+      (λ a b c x y z. (
+        record { entry = a; short = short b; spend = c },
+        ltb-false t.words (2 * n) y,
+        free s.head.live t.gate_program x,
+        free s.head.live t.gate_enable z,
+      ))
 
   -- the same of a way that is known
   pub told_of : (way : SubmitWay) → submit_way s t lengths ring ≡ way → Told s t lengths ring way
   told_of way h = subst (Told s t lengths ring) h told
 
 passed : (s : IsoChannelState) (t : IsoTransfer) (lengths ring : List ℕ) (way : SubmitWay) → Told s t lengths ring way → T (is_gate way) → Clear s t lengths ring
-passed s t lengths ring (Refuse n) h g = absurd g
+passed s t lengths ring (Refuse r) h g = absurd g
 passed s t lengths ring (TooLong i) h g = absurd g
-passed s t lengths ring (Spend n) h g = absurd g
+passed s t lengths ring (Spend r) h g = absurd g
 passed s t lengths ring Early h g = h.0
 passed s t lengths ring Cut h g = h.0
 passed s t lengths ring Late h g = h.0
@@ -132,7 +123,7 @@ passed s t lengths ring Accept h g = h.0
 pub record Entered (s : IsoChannelState) (t : IsoTransfer) (n words : ℕ) : Type 0 where
   pub ring_long : ring_words s.cfg ≤ words
   pub record_good : is_bad_record s ≡ false
-  pub no_reason : s.fatal ≡ Nothing
+  pub no_reason : s.fatal ≡ None
   pub not_low : is_low s.cfg.speed ≡ false
   pub isochronous : t.isochronous ≡ true
   pub some : 0 < n
@@ -157,9 +148,9 @@ limit_few Full = omega arith
 limit_few Low = omega arith
 
 -- the plain facts
-pub entered : (s : IsoChannelState) (t : IsoTransfer) (n words : ℕ) → entry_refusal s t n words ≡ 0 → Entered s t n words
+pub entered : (s : IsoChannelState) (t : IsoTransfer) (n words : ℕ) → entry_refusal s t n words ≡ Ok tt → Entered s t n words
 entered s t n words h =
-    let e = none_holds (entry_checks s t n words) (omega arith) h in
+    let e = none_holds (entry_checks s t n words) h in
     let full = neither (ltb 64 (s.head.count + 1)) (ltb 1024 (all_packets s + n)) e.1.1.1.1.1.1.1.1.1.0 in
     let zero_test = eqb-false n 0 e.1.1.1.1.1.0 in
     record {
@@ -177,7 +168,7 @@ entered s t n words h =
 
 pub admitted : (s : IsoChannelState) (t : IsoTransfer) (lengths ring : List ℕ) → Clear s t lengths ring → Admitted s t lengths ring
 admitted s t lengths ring h =
-    let p = none_holds (spend_checks s t lengths ring) (omega arith) h.spend in
+    let p = none_holds (spend_checks s t lengths ring) h.spend in
     record {
       entry = entered s t (length lengths) (length ring) h.entry;
       short = none_long (packet_limit s.cfg.speed) lengths h.short;
@@ -222,27 +213,23 @@ clear_if s t lengths ring h =
     }
 
 -- past the tests and the first gate, the words and the second gate decide
-pass : (a b c x y z : Bool) (u v w : SubmitWay) → a ≡ false → b ≡ false → c ≡ false → x ≡ false
-    → cond a u (cond b v (cond c w (cond x Early (cond y Cut (cond z Late Accept))))) ≡ cond y Cut (cond z Late Accept)
-pass a b c x y z u v w e f g h = rw (e, f, g, h)
+pass : (a c : Result ⊤ IsoRefusal) (b x y z : Bool) (i : ℕ) → a ≡ Ok tt → b ≡ false → c ≡ Ok tt → x ≡ false
+    → refuse_or a (cond b (TooLong i) (spend_or c (cond x Early (cond y Cut (cond z Late Accept))))) ≡ cond y Cut (cond z Late Accept)
+pass a c b x y z i e f g h = rw (e, f, g, h)
 
 module _ (s : IsoChannelState) (t : IsoTransfer) (lengths ring : List ℕ) (c : Clear s t lengths ring)
     (gate : s.head.live ≡ false → t.gate_program ≡ true) where
   pub passes :
       submit_way s t lengths ring ≡ cond (ltb t.words (2 * length lengths)) Cut (cond (not s.head.live && not t.gate_enable) Late Accept)
   passes =
-      let e = entry_refusal s t (length lengths) (length ring) in
       let i = too_long s lengths in
       let n = length lengths in
-      let p = spend_refusal s t lengths ring in
-      pass (not (eqb e 0)) (ltb i n) (not (eqb p 0)) (not s.head.live && not t.gate_program) (ltb t.words (2 * n))
+      pass (entry_refusal s t n (length ring)) (spend_refusal s t lengths ring) (ltb i n) (not s.head.live && not t.gate_program) (ltb t.words (2 * n))
       (not s.head.live && not t.gate_enable)
-      (Refuse e)
-      (TooLong i)
-      (Spend p)
-      (ap (λ (k : ℕ). not (eqb k 0)) c.entry)
+      i
+      c.entry
       (le-ltb i n c.short)
-      (ap (λ (k : ℕ). not (eqb k 0)) c.spend)
+      c.spend
       (given_if s.head.live t.gate_program gate)
 
   -- with words enough, and past the second gate, it is accepted; with fewer it is cut

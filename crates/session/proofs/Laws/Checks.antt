@@ -1,15 +1,18 @@
--- The laws of a submission's tests: where the first number is 0 no test holds and back, which numbers can come, and the first long packet.
-use mathlib.Core.Path.{◌≡◌, refl, ◌∙◌, ap, subst⁻¹}
+-- The laws of a submission's tests: where none refuses no test holds and back, which refusals can come, and the first long packet.
+use mathlib.Core.Path.{◌≡◌, refl, ◌∙◌, sym, ap, subst}
 use mathlib.Core.Bool.{Bool, true, false, cond}
 use mathlib.Core.List.{List, [], ◌∷◌}
 use mathlib.Core.Logic.{◌⊎◌, inl, inr}
 use Prim.Native.Nat.{ℕ, zero, suc, ◌≤◌, ◌<◌}
+use Rattle.std.specs.Prelude.{Result, Ok, Err, ⊤}
 use native.Mathlib.Omega.{arith}
 use lib.Dec.{ltb}
 use lib.ListN.{length, get_or}
 use borrow.Author.Tests.{ltb-true, ltb-false, le-ltb}
 use Rattle.session.specs.declared.types.IsoChannelState.{IsoChannelState}
+use Rattle.session.specs.declared.refusal.IsoRefusal.{IsoRefusal}
 use Rattle.session.specs.declared.transfer.IsoTransfer.{IsoTransfer}
+use Rattle.session.specs.Numbers.{refusal_number}
 use Rattle.session.specs.Way.{first_long, Check, first_of, entry_checks, entry_refusal, spend_checks, spend_refusal}
 
 -- no test of a list holds
@@ -17,41 +20,56 @@ abbrev pub NoneHolds : List Check → Type 0
 NoneHolds [] = Unit
 NoneHolds (c ∷ cs) = (c.holds ≡ false) × NoneHolds cs
 
--- each number of a list is one of these
-abbrev pub Numbers : (ℕ → Type 0) → List Check → Type 0
-Numbers P [] = Unit
-Numbers P (c ∷ cs) = P c.number × Numbers P cs
+-- each refusal of a list is one of these
+abbrev pub Refusals : (IsoRefusal → Type 0) → List Check → Type 0
+Refusals P [] = Unit
+Refusals P (c ∷ cs) = P c.refusal × Refusals P cs
 
 -- a fact and those after it
 infixr 5 ◌and◌
 pub ◌and◌ : {A B : Type 0} → A → B → A × B
 a and b = (a, b)
 
--- where the choice between a number above 0 and the rest is 0, the test does not hold and the rest is 0
-not_held : (b : Bool) (n r : ℕ) → 0 < n → cond b n r ≡ 0 → (b ≡ false) × (r ≡ 0)
-not_held true n r h e = absurd (omega arith)
-not_held false n r h e = (refl, e)
-
--- where the first test that holds has the number 0, none does
-pub none_holds : (cs : List Check) → Numbers (λ (n : ℕ). 0 < n) cs → first_of cs ≡ 0 → NoneHolds cs
-none_holds [] n e = tt
-none_holds (c ∷ cs) n e =
-    let h = not_held c.holds c.number (first_of cs) n.0 e in
-    (h.0, none_holds cs n.1 h.1)
-
--- the number of the first test that holds is one of theirs, or 0
-pub one_of : (P : ℕ → Type 0) (cs : List Check) → Numbers P cs → P 0 → P (first_of cs)
-one_of P [] n z = z
-one_of P (c ∷ cs) n z = pick c.holds n.0 (one_of P cs n.1 z)
+-- a refusal is no pass, and two that are answered alike are one
+pub refused_passed : {r : IsoRefusal} {A : Type 0} → ◌≡◌ {A = Result ⊤ IsoRefusal} (Err r) (Ok tt) → A
+refused_passed {r} e = let z : ◌≡◌ {A = ℕ} 0 1 = ap passes e in absurd (omega arith)
   where
-    pick : (b : Bool) → P c.number → P (first_of cs) → P (cond b c.number (first_of cs))
-    pick true p q = p
-    pick false p q = q
+    passes : Result ⊤ IsoRefusal → ℕ
+    passes (Ok u) = 1
+    passes (Err r) = 0
 
--- where no test of a list holds, the number is 0
-pub none_first : (cs : List Check) → NoneHolds cs → first_of cs ≡ 0
+pub same_refusal : (r q : IsoRefusal) → ◌≡◌ {A = Result ⊤ IsoRefusal} (Err r) (Err q) → r ≡ q
+same_refusal r q e = ap its e
+  where
+    its : Result ⊤ IsoRefusal → IsoRefusal
+    its (Ok u) = r
+    its (Err x) = x
+
+-- where the choice between a refusal and the rest passes, the test does not hold and the rest passes
+not_held : (b : Bool) (r : IsoRefusal) (rest : Result ⊤ IsoRefusal) → cond b (Err r) rest ≡ Ok tt → (b ≡ false) × (rest ≡ Ok tt)
+not_held true r rest e = refused_passed e
+not_held false r rest e = (refl, e)
+
+-- where the first test that holds refuses nothing, none does
+pub none_holds : (cs : List Check) → first_of cs ≡ Ok tt → NoneHolds cs
+none_holds [] e = tt
+none_holds (c ∷ cs) e =
+    let h = not_held c.holds c.refusal (first_of cs) e in
+    (h.0, none_holds cs h.1)
+
+-- the refusal of the first test that holds is one of theirs
+pub one_of : (P : IsoRefusal → Type 0) (cs : List Check) → Refusals P cs → (r : IsoRefusal) → first_of cs ≡ Err r → P r
+one_of P [] n r e = refused_passed (sym e)
+one_of P (c ∷ cs) n r e = pick c.holds (one_of P cs n.1 r) e
+  where
+    pick : (b : Bool) → (first_of cs ≡ Err r → P r) → cond b (Err c.refusal) (first_of cs) ≡ Err r → P r
+    pick true rest q = subst P (same_refusal c.refusal r q) n.0
+    pick false rest q = rest q
+
+-- where no test of a list holds, none refuses
+pub none_first : (cs : List Check) → NoneHolds cs → first_of cs ≡ Ok tt
 none_first [] h = refl
-none_first (c ∷ cs) h = ap (λ (b : Bool). cond b c.number (first_of cs)) h.0 ∙ none_first cs h.1
+none_first (c ∷ cs) h = ap (λ (b : Bool). cond b (Err c.refusal) (first_of cs)) h.0 ∙ none_first cs h.1
 
 -- ---- the numbers
 
@@ -63,40 +81,29 @@ pub record SpendNumber (n : ℕ) : Type 0 where
   pub from : 10 ≤ n
   pub to : n ≤ 13
 
--- a number of a list that is not 0 is one of its numbers
-not_zero : (P : ℕ → Type 0) (n : ℕ) → (n ≡ 0) ⊎ P n → (n ≡ 0 → ⊥) → P n
-not_zero P n (inl z) h = absurd (h z)
-not_zero P n (inr p) h = p
-
-module _ (s : IsoChannelState) (t : IsoTransfer) (lengths ring : List ℕ) (n : ℕ) where
-  -- a number of the first tests, and of the later ones
-  pub entry_number_lem : n ≡ entry_refusal s t (length lengths) (length ring) → (n ≡ 0 → ⊥) → EntryNumber n
-  entry_number_lem e h =
-      let low : (k : ℕ) → (1 ≤ k) × (k ≤ 8) → (k ≡ 0) ⊎ EntryNumber k = λ k b. inr (inr (inr b)) in
-      not_zero EntryNumber n
-      (subst⁻¹ (λ (k : ℕ). (k ≡ 0) ⊎ EntryNumber k) e
-      (one_of (λ (k : ℕ). (k ≡ 0) ⊎ EntryNumber k) (entry_checks s t (length lengths) (length ring))
-      (inr (inl refl)
-      and inr (inr (inl refl))
-      and low 1 (omega arith)
-      and low 2 (omega arith)
-      and low 3 (omega arith)
-      and low 4 (omega arith)
-      and low 5 (omega arith)
-      and low 6 (omega arith)
-      and low 7 (omega arith)
-      and low 8 (omega arith)
+module _ (s : IsoChannelState) (t : IsoTransfer) (lengths ring : List ℕ) (r : IsoRefusal) where
+  -- the refusals of the first tests, and of the later ones
+  pub entry_number_lem : entry_refusal s t (length lengths) (length ring) ≡ Err r → EntryNumber (refusal_number r)
+  entry_number_lem =
+      one_of (λ (q : IsoRefusal). EntryNumber (refusal_number q)) (entry_checks s t (length lengths) (length ring))
+      (inl refl
+      and inr (inl refl)
+      and inr (inr (omega arith))
+      and inr (inr (omega arith))
+      and inr (inr (omega arith))
+      and inr (inr (omega arith))
+      and inr (inr (omega arith))
+      and inr (inr (omega arith))
+      and inr (inr (omega arith))
+      and inr (inr (omega arith))
       and tt)
-      (inl refl)))
-      h
+      r
 
-  pub spend_number_lem : n ≡ spend_refusal s t lengths ring → (n ≡ 0 → ⊥) → SpendNumber n
-  spend_number_lem e h =
-      not_zero SpendNumber n
-      (subst⁻¹ (λ (k : ℕ). (k ≡ 0) ⊎ SpendNumber k) e
-      (one_of (λ (k : ℕ). (k ≡ 0) ⊎ SpendNumber k) (spend_checks s t lengths ring)
-      (inr (omega arith) and inr (omega arith) and inr (omega arith) and inr (omega arith) and tt) (inl refl)))
-      h
+  pub spend_number_lem : spend_refusal s t lengths ring ≡ Err r → SpendNumber (refusal_number r)
+  spend_number_lem =
+      one_of (λ (q : IsoRefusal). SpendNumber (refusal_number q)) (spend_checks s t lengths ring)
+      (omega arith and omega arith and omega arith and omega arith and tt)
+      r
 
 -- ---- the first long packet
 

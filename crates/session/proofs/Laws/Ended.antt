@@ -4,6 +4,7 @@ use mathlib.Core.Path.{◌≡◌, refl, ◌∙◌, sym, ap}
 use mathlib.Core.Bool.{Bool, true, false, cond}
 use mathlib.Core.List.{List, [], ◌∷◌, map}
 use Prim.Native.Nat.{ℕ, ◌+◌, ◌-◌, ◌<◌}
+use Rattle.std.specs.Prelude.{Some, Ok}
 use native.Mathlib.Omega.{arith}
 use lib.Dec.{ltb}
 use lib.ListN.{get_or, set, length-set, get_or-map}
@@ -11,13 +12,12 @@ use lib.Seq.{slice, length-sets, map-set_same}
 use borrow.Author.Tests.{ltb-true, ltb-false}
 use Rattle.ring.proofs.RingFacts.{ring_size_pos}
 use Rattle.session.specs.declared.types.IsoChannelState.{IsoChannelState}
-use Rattle.session.specs.declared.types.IsoFatal.TheVariants.{Reason}
 use Rattle.session.specs.declared.types.IsoHaltReason.{IsoHaltReason}
 use Rattle.session.specs.declared.types.IsoHaltReason.TheVariants as reason
 use Rattle.session.specs.declared.types.IsoOutcome.{IsoOutcome}
 use Rattle.session.specs.declared.types.IsoOutcome.TheVariants as outcome
 use Rattle.session.specs.declared.types.IsoRequest.{IsoRequest}
-use Rattle.session.specs.declared.reply.IsoAnswer.TheVariants as answer
+use Rattle.session.specs.declared.refusal.IsoRefusal.TheVariants as refusal
 use Rattle.session.specs.declared.reply.IsoReply.{IsoReply}
 use Rattle.session.specs.Session.{blank_request, ring_words, packets_of, all_packets, pending_packets, has_reason}
 use Rattle.session.specs.Record.{is_bad_record}
@@ -118,7 +118,7 @@ module _ (at : ℕ) (s : IsoChannelState) (g : Sound s) where
 -- requests are pending, so the channel is live and a reason may stand
 pub reason_sound : (r : IsoHaltReason) (s : IsoChannelState) → Sound s → s.head.done < s.head.count → Sound (with_reason r s)
 reason_sound r s g h =
-    renewed_sound s s.head.next_request_id s.head.td_last s.head.start_full_frame (Reason r) g g.cursor
+    renewed_sound s s.head.next_request_id s.head.td_last s.head.start_full_frame (Some r) g g.cursor
     (λ off. absurd (omega (arith, g.idle_done off, h)))
 
 -- ---- the calls, whatever they answer
@@ -130,32 +130,32 @@ module _ (P : IsoChannelState → Type 0) where
 
   pub reset_picked : (s : IsoChannelState) → P s → P (at_start s) → P (reset_reply s).session
   reset_picked s g h =
-      let empty = reply answer.Done false false (at_start s) in
-      picked (is_bad_record s) (refused_reply 18 s) (cond (is_empty s) empty (refused_reply 16 s)) (λ b. g)
-      (λ b. picked (is_empty s) empty (refused_reply 16 s) (λ e. h) (λ e. g))
+      let empty = reply (Ok tt) false false (at_start s) in
+      picked (is_bad_record s) (refused_reply refusal.BadRecord s) (cond (is_empty s) empty (refused_reply refusal.NotEmpty s)) (λ b. g)
+      (λ b. picked (is_empty s) empty (refused_reply refusal.NotEmpty s) (λ e. h) (λ e. g))
 
   pub cancel_picked :
       (s : IsoChannelState) (id : ℕ) → P s → P (with_cancelled (request_at id s) s) → (s.head.done < s.head.count → P (with_reason reason.Cancelled s))
       → P (cancelled s id).session
   cancel_picked s id g h r =
       let at : ℕ = request_at id s in
-      let amended-reply = reply answer.Done false false (with_cancelled at s) in
-      let stands = reply answer.Done false false s in
-      let halting = reply answer.Done false true (with_reason reason.Cancelled s) in
+      let amended-reply = reply (Ok tt) false false (with_cancelled at s) in
+      let stands = reply (Ok tt) false false s in
+      let halting = reply (Ok tt) false true (with_reason reason.Cancelled s) in
       let pending = cond (has_reason s.fatal) stands halting in
-      let known = cond (ltb at s.head.count) pending (refused_reply 15 s) in
-      picked (is_bad_record s) (refused_reply 18 s) (cond (ltb at s.head.done) amended-reply known) (λ b. g)
+      let known = cond (ltb at s.head.count) pending (refused_reply refusal.UnknownRequest s) in
+      picked (is_bad_record s) (refused_reply refusal.BadRecord s) (cond (ltb at s.head.done) amended-reply known) (λ b. g)
       (λ b. picked (ltb at s.head.done) amended-reply known (λ e. h)
-      (λ e. picked (ltb at s.head.count) pending (refused_reply 15 s)
+      (λ e. picked (ltb at s.head.count) pending (refused_reply refusal.UnknownRequest s)
       (λ u. picked (has_reason s.fatal) stands halting (λ f. g)
       (λ f. r (omega (arith, ltb-false at s.head.done e, ltb-true at s.head.count u))))
       (λ u. g)))
 
 pub recovered_sound : (s : IsoChannelState) (words : ℕ) → Sound s → Sound (recovered s words).session
 recovered_sound s words g =
-    let over = reply answer.Done false false (ended outcome.Disconnected s) in
-    picked Sound (ltb words (ring_words s.cfg)) (refused_reply 17 s) (cond (is_bad_record s) (refused_reply 18 s) over) (λ e. g)
-    (λ e. picked Sound (is_bad_record s) (refused_reply 18 s) over (λ b. g) (λ b. ended_sound outcome.Disconnected s g))
+    let over = reply (Ok tt) false false (ended outcome.Disconnected s) in
+    picked Sound (ltb words (ring_words s.cfg)) (refused_reply refusal.ShortBuffer s) (cond (is_bad_record s) (refused_reply refusal.BadRecord s) over) (λ e. g)
+    (λ e. picked Sound (is_bad_record s) (refused_reply refusal.BadRecord s) over (λ b. g) (λ b. ended_sound outcome.Disconnected s g))
 
 pub reset_reply_sound : (s : IsoChannelState) → Sound s → Sound (reset_reply s).session
 reset_reply_sound s g = reset_picked Sound s g (reset_sound s g)

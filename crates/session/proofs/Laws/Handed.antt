@@ -1,6 +1,6 @@
 -- Laws of reclaiming: where the plans of a request lie, the results that it hands out, and the session that is left without it.
 use mathlib.Core.Path.{◌≡◌, sym, ap, ◌∙◌}
-use mathlib.Core.Bool.{Bool, true, false, cond}
+use mathlib.Core.Bool.{Bool, true, cond}
 use mathlib.Core.List.{List, map}
 use Prim.Native.Nat.{ℕ, ◌+◌, ◌≤◌, ◌<◌}
 use native.Mathlib.Omega.{arith}
@@ -47,6 +47,10 @@ module _ (at : ℕ) (s : IsoChannelState) (from to : ℕ) (ef : from ≡ plans_b
       ∙ ap (λ (t : ℕ). sets results 0 (map result_word (slice (plans_begin at s) t s.plans))) et
       ∙ sym (ap (λ (b : Bool). cond b (sets results 0 (map result_word (slice (plans_begin at s) (plans_end at s) s.plans))) results) e)
 
-pub none_handed : (at : ℕ) (s : IsoChannelState) (results : List ℕ) → is_done (request_of at s).outcome ≡ false → results ≡ handed_results at s results
-none_handed at s results e =
-    sym (ap (λ (b : Bool). cond b (sets results 0 (map result_word (slice (plans_begin at s) (plans_end at s) s.plans))) results) e)
+-- there are some, and at most 255, and no more than the table holds
+pub plans_fit :
+    (s : IsoChannelState) → Sound s → (at : ℕ) → at < s.head.count
+    → (plans_begin at s < plans_end at s) × (plans_end at s ≤ plans_begin at s + 255) × (plans_end at s ≤ 1024)
+plans_fit s g at h =
+    let r = g.request at h in
+    (omega (arith, r.some), omega (arith, r.few), omega (arith, g.all_few, plans_in_lem s g at h))

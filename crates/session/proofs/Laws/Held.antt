@@ -23,12 +23,6 @@ use Rattle.session.proofs.Laws.Sums.{ring_few}
 -- ---- looked up in the table
 
 module _ (held : List Bool) (R insert step i n : ℕ) where
-  -- no slot is left to look up
-  pub marked_end : n ≤ i → any_marked held (slots_from R insert step i (n - i)) ≡ false
-  marked_end h =
-      let e : n - i ≡ 0 = omega arith in
-      rw e
-
   -- packet i's slot, and those of the packets after it
   marked_more :
       i < n
@@ -40,9 +34,6 @@ module _ (held : List Bool) (R insert step i n : ℕ) where
 
   -- packet i's slot is marked, so one is; it is not, so the others decide
   module _ (slot : ℕ) (h : i < n) (at : slot ≡ slot_at R insert step i) where
-    pub marked_here : get_or held slot false ≡ true → true ≡ any_marked held (slots_from R insert step i (n - i))
-    marked_here e = rw (marked_more h, ← at, e)
-
     pub marked_later :
         get_or held slot false ≡ false
         → any_marked held (slots_from R insert step (i + 1) (n - (i + 1))) ≡ any_marked held (slots_from R insert step i (n - i))
@@ -109,10 +100,3 @@ mark_pending held marked plans from j to slot k l h fits at e =
     ap (λ (i : ℕ). get_or marked k false || is_held (slice i to plans) k) next
     ∙ mark_more held marked plans j to slot k h fits at e
     ∙ ap (λ (i : ℕ). get_or held k false || is_held (slice i to plans) k) (sym here)
-
-pub mark_done : (held marked : List Bool) (plans : List IsoPacketPlan) (from j to k : ℕ) → j < from → marked ≡ held
-    → (get_or marked k false || is_held (slice (from + ((j + 1) - from)) to plans) k) ≡ (get_or held k false || is_held (slice (from + (j - from)) to plans) k)
-mark_done held marked plans from j to k l e =
-    let same : from + ((j + 1) - from) ≡ from + (j - from) = omega arith in
-    ap (λ (m : List Bool). get_or m k false || is_held (slice (from + ((j + 1) - from)) to plans) k) e
-    ∙ ap (λ (i : ℕ). get_or held k false || is_held (slice i to plans) k) same

@@ -2,7 +2,7 @@
 -- part of a list is changed in place, and how it is written elsewhere, moved down and read after that.
 use mathlib.Core.Path.{◌≡◌, refl, ◌∙◌, sym, ap, subst, subst⁻¹}
 use mathlib.Core.Bool.{Bool, true, false}
-use mathlib.Core.List.{List, [], ◌∷◌, ◌++◌, map, append-nil}
+use mathlib.Core.List.{List, [], ◌∷◌, ◌++◌, map}
 use mathlib.Core.Logic.{◌≢◌}
 use Prim.Native.Nat.{ℕ, zero, suc, ◌+◌, ◌-◌, ◌≤◌, ◌<◌}
 use native.Mathlib.Nat.{add-zero, le_trans, min-le_left}
@@ -10,7 +10,7 @@ use native.Mathlib.Numerals.{add-one}
 use native.Mathlib.Omega.{arith}
 use lib.Dec.{ltb}
 use lib.ListN.{length, get_or, set, take, drop, length-map, length-take, length-set, length-append, take-append-drop, drop_of_length-le}
-use lib.Seq.{sets, slice, map-set_same, take-length, length-sets, sets-eq, take-suc-set, take-set-lt, drop-set-lt, get_or-set_same, get_or-set_other, slice-cons, length-slice, length-take-le, take-take, take_at, take-append-add, drop-append-le, drop-append-add, drop-drop, get_or-drop, get_or-take}
+use lib.Seq.{sets, slice, map-set_same, length-sets, sets-eq, take-suc-set, take-set-lt, drop-set-lt, get_or-set_same, get_or-set_other, slice-cons, length-slice, length-take-le, take-take, take_at, take-append-add, drop-append-le, drop-append-add, drop-drop, get_or-drop, get_or-take}
 use borrow.Author.Tests.{ltb-true, ltb-false}
 
 module _ {ℓ} {A : Type ℓ} where
@@ -121,17 +121,6 @@ module _ {ℓ} {A : Type ℓ} where
       ap (λ (vs : List A). sets (set l into v) (into + 1) (g vs)) (slice_after_set (i + 1) t into l v (omega arith) (omega arith))
       ∙ write_next g into i t l d l v k fits turn
 
-  -- and where all is left, each entry is changed
-  pub amend_all : (f : A → A) (l : List A) → sets l 0 (map f (slice 0 (length l) l)) ≡ map f l
-  amend_all f l =
-      let whole : slice 0 (length l) l ≡ l = take-length l in
-      let long : length (map f l) ≡ length l = length-map l f in
-      let past : length l ≤ 0 + length (map f l) = omega (arith, long) in
-      ap (λ (vs : List A). sets l 0 (map f vs)) whole
-      ∙ sets-eq (map f l) l 0 (omega (arith, long))
-      ∙ ap (λ (vs : List A). map f l ++ vs) (drop_of_length-le l past)
-      ∙ append-nil (map f l)
-
   -- a part of a list between what stands before it and behind it, and another of its length in its place
   pub before_part : (f t : ℕ) (l : List A) → f ≤ t → t ≤ length l → length (take f (take t l)) ≡ f
   before_part f t l h k = length-take-le f (take t l) (omega (arith, length-take-le t l k))
@@ -213,32 +202,6 @@ module _ {ℓ} {A : Type ℓ} where
       (P : A → Type 0) (at f t : ℕ) (l : List A) (d : A) → at ≤ f → f ≤ t → t ≤ length l → ((i : ℕ) → i < t → P (get_or l i d))
       → (i : ℕ) → i < at + (t - f) → P (get_or (sets l at (slice f t l)) i d)
   closed_each P at f t l d h k n g = closed_parts P at f t l d h k n (λ i u. g i (omega arith)) (λ i u v. g i v)
-
--- where a walk over a table from `from` to `to` stands that puts what the entries become at `at` and behind it: what is still to put, put into the
--- table as it is now, gives the goal; one turn more; and where nothing is left, the table is the goal
-module _ {A : Type 0} where
-  pub record Walk (g : List A → List A) (size at from to : ℕ) (first : List A) (end : ℕ) (now : List A) (into i : ℕ) : Type 0 where
-    pub ends : end ≡ to
-    pub within : i ≤ to
-    pub behind : into ≤ i
-    pub long : length now ≡ size
-    pub goal : sets now into (g (slice i to now)) ≡ sets first at (g (slice from to first))
-
-  module _ {g : List A → List A} {size at from to : ℕ} {first : List A} {end : ℕ} {now : List A} {into i : ℕ} where
-    pub walk_on :
-        (d v : A) → Walk g size at from to first end now into i → i < to → to ≤ size → ((rest : List A) → g (get_or now i d ∷ rest) ≡ v ∷ g rest)
-        → Walk g size at from to first end (set now into v) (into + 1) (i + 1)
-    walk_on d v w h fits turn =
-        record {
-          ends = w.ends;
-          within = omega arith;
-          behind = omega arith;
-          long = length-set now into v ∙ w.long;
-          goal = amend_next g into i to now d v w.behind h (omega arith) turn ∙ w.goal;
-        }
-
-    pub walked : Walk g size at from to first end now into i → g [] ≡ [] → to ≤ i → now ≡ sets first at (g (slice from to first))
-    walked w none h = sym (write_past g into i to now now none h) ∙ w.goal
 
 -- ---- lists of which a part is changed in place
 

@@ -3,16 +3,17 @@ use mathlib.Core.Path.{◌≡◌, ◌∙◌, sym, ap}
 use mathlib.Core.Bool.{Bool, true, false, cond}
 use mathlib.Core.List.{List}
 use Prim.Native.Nat.{ℕ, ◌≤◌, ◌<◌}
+use Rattle.std.specs.Prelude.{Option, Some, None, Result, Ok, Err}
 use lib.Dec.{ltb}
 use lib.ListN.{length}
 use borrow.Author.Tests.{ltb-true}
 use Rattle.session.specs.declared.types.IsoChannelState.{IsoChannelState}
-use Rattle.session.specs.declared.reply.IsoAnswer.TheVariants as answer
 use Rattle.session.specs.declared.reply.IsoEvent.{IsoEvent}
 use Rattle.session.specs.declared.reply.IsoReply.{IsoReply}
 use Rattle.session.specs.declared.reply.PollWay.{PollWay}
-use Rattle.session.specs.declared.reply.ReclaimAnswer.{ReclaimAnswer}
-use Rattle.session.specs.declared.reply.ReclaimAnswer.TheVariants as reclaim
+use Rattle.session.specs.declared.reply.IsoCompletion.{IsoCompletion}
+use Rattle.session.specs.declared.refusal.IsoRefusal.{IsoRefusal}
+use Rattle.session.specs.declared.refusal.IsoRefusal.TheVariants as refusal
 use Rattle.session.specs.declared.reply.Reclaimed.{Reclaimed}
 use Rattle.session.specs.Record.{is_bad_record}
 use Rattle.session.specs.Poll.{reply, poll_way, polled_by, polled_ring_by}
@@ -25,6 +26,9 @@ use Rattle.session.proofs.Laws.Record.{Sound}
 use Rattle.session.proofs.Laws.Removed.{removed_sound}
 use Rattle.session.proofs.Laws.Tests.{below, not_below, first, second, in_turn, chosen}
 
+abbrev Answer : Type 0
+Answer = Result (Option IsoCompletion) IsoRefusal
+
 -- completed, or not, by the place `n` of the request, which the code found as `at`
 module _ (s : IsoChannelState) {at n : ℕ} (place : at ≡ n) where
   found : at < s.head.done → ltb n s.head.done ≡ true
@@ -36,10 +40,10 @@ module _ (s : IsoChannelState) {at n : ℕ} (place : at ≡ n) where
   -- ---- looking
 
   abbrev stands : IsoReply
-  stands = reply answer.Done false false s
+  stands = reply (Ok tt) false false s
 
   pub looked_found :
-      (e : IsoEvent) (ring : List ℕ) {r : IsoReply} → at < s.head.done → r ≡ stands → (r ≡ looked_at n e s ring) × (ring ≡ looked_ring_at n e s ring)
+      (e : Option IsoEvent) (ring : List ℕ) {r : IsoReply} → at < s.head.done → r ≡ stands → (r ≡ looked_at n e s ring) × (ring ≡ looked_ring_at n e s ring)
   looked_found e ring h p =
       let way = poll_way s e in (
         p ∙ sym (first (ltb n s.head.done) stands (polled_by way s ring) (found h)),
@@ -47,7 +51,7 @@ module _ (s : IsoChannelState) {at n : ℕ} (place : at ≡ n) where
       )
 
   pub looked_polled :
-      (e : IsoEvent) (ring : List ℕ) {w : PollWay} {r : IsoReply} {words : List ℕ} → s.head.done ≤ at → w ≡ poll_way s e
+      (e : Option IsoEvent) (ring : List ℕ) {w : PollWay} {r : IsoReply} {words : List ℕ} → s.head.done ≤ at → w ≡ poll_way s e
       → r ≡ polled_by w s ring → words ≡ polled_ring_by w s ring → (r ≡ looked_at n e s ring) × (words ≡ looked_ring_at n e s ring)
   looked_polled e ring h by p q = (
     polled_by_lem s ring (sym by) p ∙ sym (second (ltb n s.head.done) stands (polled_by (poll_way s e) s ring) (not_found h)),
@@ -58,56 +62,56 @@ module _ (s : IsoChannelState) {at n : ℕ} (place : at ≡ n) where
 
   module _ (taken halt : Bool) (results : List ℕ) where
     abbrev out : Reclaimed
-    out = reclaim_reply (handed_answer (request_of (n) s)) taken halt (removed (n) s)
+    out = reclaim_reply (Ok (Some (handed_answer (request_of (n) s)))) taken halt (removed (n) s)
 
     abbrev within : Bool
     within = ltb (n) s.head.count
 
-    abbrev stays : ReclaimAnswer → Reclaimed
+    abbrev stays : Answer → Reclaimed
     stays a = reclaim_reply a taken halt s
 
     abbrev handed : List ℕ
     handed = handed_results (n) s results
 
     pub again_found :
-        {r : Reclaimed} {a : ReclaimAnswer} {t : IsoChannelState} {words : List ℕ} → at < s.head.done → a ≡ handed_answer (request_of at s) → t ≡ removed at s
-        → r ≡ reclaim_reply a taken halt t → words ≡ handed_results at s results
+        {r : Reclaimed} {a : IsoCompletion} {t : IsoChannelState} {words : List ℕ} → at < s.head.done → a ≡ handed_answer (request_of at s) → t ≡ removed at s
+        → r ≡ reclaim_reply (Ok (Some a)) taken halt t → words ≡ handed_results at s results
         → (r ≡ looked_again_at n taken halt s) × (words ≡ looked_results_at n s results)
     again_found {r} {a} {t} h f g p q = (
       p
-          ∙ ap (λ (x : ReclaimAnswer). reclaim_reply x taken halt t) (f ∙ ap (λ (k : ℕ). handed_answer (request_of k s)) place)
-          ∙ ap (reclaim_reply (handed_answer (request_of (n) s)) taken halt) (g ∙ ap (λ (k : ℕ). removed k s) place)
-          ∙ sym (first (ltb n s.head.done) out (stays (cond within reclaim.NotYet (reclaim.Refused 15))) (found h)),
+          ∙ ap (λ (x : IsoCompletion). reclaim_reply (Ok (Some x)) taken halt t) (f ∙ ap (λ (k : ℕ). handed_answer (request_of k s)) place)
+          ∙ ap (reclaim_reply (Ok (Some (handed_answer (request_of (n) s)))) taken halt) (g ∙ ap (λ (k : ℕ). removed k s) place)
+          ∙ sym (first (ltb n s.head.done) out (stays (cond within (Ok None) (Err refusal.UnknownRequest))) (found h)),
       q ∙ ap (λ (k : ℕ). handed_results k s results) place ∙ sym (first (ltb n s.head.done) handed results (found h)),
     )
 
     again_left :
-        {r : Reclaimed} (a : ReclaimAnswer) → s.head.done ≤ at → cond within reclaim.NotYet (reclaim.Refused 15) ≡ a → r ≡ stays a
+        {r : Reclaimed} (a : Answer) → s.head.done ≤ at → cond within (Ok None) (Err refusal.UnknownRequest) ≡ a → r ≡ stays a
         → (r ≡ looked_again_at n taken halt s) × (results ≡ looked_results_at n s results)
     again_left a h e p = (
-      p ∙ ap stays (sym e) ∙ sym (second (ltb n s.head.done) out (stays (cond within reclaim.NotYet (reclaim.Refused 15))) (not_found h)),
+      p ∙ ap stays (sym e) ∙ sym (second (ltb n s.head.done) out (stays (cond within (Ok None) (Err refusal.UnknownRequest))) (not_found h)),
       sym (second (ltb n s.head.done) handed results (not_found h)),
     )
 
     pub again_pending :
-        {r : Reclaimed} → s.head.done ≤ at → at < s.head.count → r ≡ stays reclaim.NotYet
+        {r : Reclaimed} → s.head.done ≤ at → at < s.head.count → r ≡ stays (Ok None)
         → (r ≡ looked_again_at n taken halt s) × (results ≡ looked_results_at n s results)
     again_pending h k p =
         let known : within ≡ true = below s.head.count place k in
-        again_left reclaim.NotYet h (first within reclaim.NotYet (reclaim.Refused 15) known) p
+        again_left (Ok None) h (first within (Ok None) (Err refusal.UnknownRequest) known) p
 
     pub again_unknown :
-        {r : Reclaimed} → s.head.done ≤ at → s.head.count ≤ at → r ≡ stays (reclaim.Refused 15)
+        {r : Reclaimed} → s.head.done ≤ at → s.head.count ≤ at → r ≡ stays (Err refusal.UnknownRequest)
         → (r ≡ looked_again_at n taken halt s) × (results ≡ looked_results_at n s results)
     again_unknown h k p =
         let unknown : within ≡ false = not_below s.head.count place k in
-        again_left (reclaim.Refused 15) h (second within reclaim.NotYet (reclaim.Refused 15) unknown) p
+        again_left (Err refusal.UnknownRequest) h (second within (Ok None) (Err refusal.UnknownRequest) unknown) p
 
 -- ---- the whole call
 
-module _ (s : IsoChannelState) (id : ℕ) (e : IsoEvent) (ring results : List ℕ) where
-  abbrev refusal : ℕ → Reclaimed
-  refusal n = reclaim_reply (reclaim.Refused n) false false s
+module _ (s : IsoChannelState) (id : ℕ) (e : Option IsoEvent) (ring results : List ℕ) where
+  abbrev refused : IsoRefusal → Reclaimed
+  refused r = reclaim_reply (Err r) false false s
 
   abbrev short : Bool
   short = is_short s (length ring) (length results)
@@ -125,16 +129,16 @@ module _ (s : IsoChannelState) (id : ℕ) (e : IsoEvent) (ring results : List �
   abbrev after_again : List ℕ
   after_again = looked_results id (looked id e s ring).session results
 
-  pub reclaim_short : {r : Reclaimed} → short ≡ true → r ≡ refusal 17 → Told r ring results
+  pub reclaim_short : {r : Reclaimed} → short ≡ true → r ≡ refused refusal.ShortBuffer → Told r ring results
   reclaim_short h p = (
-    p ∙ sym (first short (refusal 17) (cond (is_bad_record s) (refusal 18) again) h),
+    p ∙ sym (first short (refused refusal.ShortBuffer) (cond (is_bad_record s) (refused refusal.BadRecord) again) h),
     sym (first short ring (cond (is_bad_record s) ring (looked_ring id e s ring)) h),
     sym (first short results (cond (is_bad_record s) results after_again) h),
   )
 
-  pub reclaim_bad : {r : Reclaimed} → short ≡ false → is_bad_record s ≡ true → r ≡ refusal 18 → Told r ring results
+  pub reclaim_bad : {r : Reclaimed} → short ≡ false → is_bad_record s ≡ true → r ≡ refused refusal.BadRecord → Told r ring results
   reclaim_bad h b p = (
-    p ∙ sym (in_turn (refusal 17) (refusal 18) again h b),
+    p ∙ sym (in_turn (refused refusal.ShortBuffer) (refused refusal.BadRecord) again h b),
     sym (in_turn ring ring (looked_ring id e s ring) h b),
     sym (in_turn results results after_again h b),
   )
@@ -146,16 +150,16 @@ module _ (s : IsoChannelState) (id : ℕ) (e : IsoEvent) (ring results : List �
   reclaim_done h b l p q u = (
     p
         ∙ ap (λ (x : IsoReply). looked_again id x.taken x.halt x.session) l
-        ∙ sym (in_turn (refusal 17) (refusal 18) again h b),
+        ∙ sym (in_turn (refused refusal.ShortBuffer) (refused refusal.BadRecord) again h b),
     q ∙ sym (in_turn ring ring (looked_ring id e s ring) h b),
     u ∙ ap (λ (x : IsoReply). looked_results id x.session results) l ∙ sym (in_turn results results after_again h b),
   )
 
 -- ---- a sound record stays sound
 
-pub looked_sound : (id : ℕ) (e : IsoEvent) (s : IsoChannelState) (ring : List ℕ) → Sound s → Sound (looked id e s ring).session
+pub looked_sound : (id : ℕ) (e : Option IsoEvent) (s : IsoChannelState) (ring : List ℕ) → Sound s → Sound (looked id e s ring).session
 looked_sound id e s ring g =
-    picked Sound (is_found id s) (reply answer.Done false false s) (polled_by (poll_way s e) s ring) (λ f. g) (λ f. polled_sound s e ring g)
+    picked Sound (is_found id s) (reply (Ok tt) false false s) (polled_by (poll_way s e) s ring) (λ f. g) (λ f. polled_sound s e ring g)
 
 picked_sound : (b : Bool) (x y : Reclaimed) → (b ≡ true → Sound x.session) → (b ≡ false → Sound y.session) → Sound (cond b x y).session
 picked_sound = chosen (λ (x : Reclaimed). Sound x.session)
@@ -163,15 +167,15 @@ picked_sound = chosen (λ (x : Reclaimed). Sound x.session)
 pub again_sound : (id : ℕ) (taken halt : Bool) (s : IsoChannelState) → Sound s → Sound (looked_again id taken halt s).session
 again_sound id taken halt s g =
     let at : ℕ = request_at id s in
-    picked_sound (is_found id s) (reclaim_reply (handed_answer (request_of at s)) taken halt (removed at s))
-    (reclaim_reply (cond (ltb at s.head.count) reclaim.NotYet (reclaim.Refused 15)) taken halt s)
+    picked_sound (is_found id s) (reclaim_reply (Ok (Some (handed_answer (request_of at s)))) taken halt (removed at s))
+    (reclaim_reply (cond (ltb at s.head.count) (Ok None) (Err refusal.UnknownRequest)) taken halt s)
     (λ f. removed_sound at s g (ltb-true at s.head.done f)) (λ f. g)
 
 pub reclaimed_sound :
-    (s : IsoChannelState) (id : ℕ) (e : IsoEvent) (ring : List ℕ) (results : ℕ) → Sound s → Sound (reclaimed s id e ring results).session
+    (s : IsoChannelState) (id : ℕ) (e : Option IsoEvent) (ring : List ℕ) (results : ℕ) → Sound s → Sound (reclaimed s id e ring results).session
 reclaimed_sound s id e ring results g =
     let l = looked id e s ring in
     let again = looked_again id l.taken l.halt l.session in
-    let bad = reclaim_reply (reclaim.Refused 18) false false s in
-    picked_sound (is_short s (length ring) results) (reclaim_reply (reclaim.Refused 17) false false s) (cond (is_bad_record s) bad again) (λ h. g)
+    let bad = reclaim_reply (Err refusal.BadRecord) false false s in
+    picked_sound (is_short s (length ring) results) (reclaim_reply (Err refusal.ShortBuffer) false false s) (cond (is_bad_record s) bad again) (λ h. g)
     (λ h. picked_sound (is_bad_record s) bad again (λ b. g) (λ b. again_sound id l.taken l.halt l.session (looked_sound id e s ring g)))

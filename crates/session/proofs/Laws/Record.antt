@@ -3,6 +3,7 @@ use mathlib.Core.Path.{◌≡◌, refl, ap}
 use mathlib.Core.Bool.{Bool, false, not, ◌||◌, ◌&&◌}
 use mathlib.Core.List.{List, [], ◌∷◌}
 use Prim.Native.Nat.{ℕ, zero, suc, ◌≤◌, ◌<◌}
+use Rattle.std.specs.Prelude.{Option, Some, None}
 use native.Mathlib.Omega.{arith}
 use lib.Dec.{eqb, leb, ltb}
 use lib.ListN.{length, get_or}
@@ -14,8 +15,7 @@ use Rattle.ring.specs.RingSums.{packet_limit}
 use Rattle.ring.proofs.RingFacts.{ring_size_pos}
 use Rattle.session.specs.declared.types.IsoChannelState.{IsoChannelState}
 use Rattle.session.specs.declared.types.IsoConfig.{IsoConfig}
-use Rattle.session.specs.declared.types.IsoFatal.{IsoFatal}
-use Rattle.session.specs.declared.types.IsoFatal.TheVariants.{Nothing, Reason}
+use Rattle.session.specs.declared.types.IsoHaltReason.{IsoHaltReason}
 use Rattle.session.specs.declared.types.IsoPacketPlan.{IsoPacketPlan}
 use Rattle.session.specs.declared.types.IsoRequest.{IsoRequest}
 use Rattle.session.specs.Session.{blank_request, blank_plan, slots, room, all_packets, pending_packets, has_reason, idle_session}
@@ -96,10 +96,10 @@ pub record Sound (s : IsoChannelState) : Type 0 where
   pub plan : (i : ℕ) → i < all_packets s → GoodPlan (packet_limit s.cfg.speed) (slots s.cfg) (get_or s.plans i blank_plan)
   pub cursor : s.head.td_last < slots s.cfg
   pub idle_done : s.head.live ≡ false → s.head.done ≡ s.head.count
-  pub idle_nothing : s.head.live ≡ false → s.fatal ≡ Nothing
+  pub idle_nothing : s.head.live ≡ false → s.fatal ≡ None
 
 -- other numbers in the head and another reason keep a record sound: the cursor below R, and no reason without a live channel
-abbrev renewed : IsoChannelState → ℕ → ℕ → ℕ → IsoFatal → IsoChannelState
+abbrev renewed : IsoChannelState → ℕ → ℕ → ℕ → Option IsoHaltReason → IsoChannelState
 renewed s next cursor start f =
     record {
       cfg = s.cfg;
@@ -118,7 +118,7 @@ renewed s next cursor start f =
     }
 
 pub renewed_sound :
-    (s : IsoChannelState) (next cursor start : ℕ) (f : IsoFatal) → Sound s → cursor < slots s.cfg → (s.head.live ≡ false → f ≡ Nothing)
+    (s : IsoChannelState) (next cursor start : ℕ) (f : Option IsoHaltReason) → Sound s → cursor < slots s.cfg → (s.head.live ≡ false → f ≡ None)
     → Sound (renewed s next cursor start f)
 renewed_sound s next cursor start f g below idle =
     record {
@@ -136,9 +136,9 @@ renewed_sound s next cursor start f g below idle =
       idle_nothing = idle;
     }
 
-pub no_reason : (f : IsoFatal) → has_reason f ≡ false → f ≡ Nothing
-no_reason Nothing e = refl
-no_reason (Reason r) e = let z : ◌≡◌ {A = ℕ} 0 1 = cc in absurd (omega arith)
+pub no_reason : (f : Option IsoHaltReason) → has_reason f ≡ false → f ≡ None
+no_reason None e = refl
+no_reason (Some r) e = let z : ◌≡◌ {A = ℕ} 0 1 = cc in absurd (omega arith)
 
 idle_tests : (live a b : Bool) → (not live && (a || b)) ≡ false → live ≡ false → (a ≡ false) × (b ≡ false)
 idle_tests live a b e off = neither a b (not_both (not live) (a || b) e (ap not off))

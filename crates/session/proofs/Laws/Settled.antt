@@ -18,20 +18,17 @@ use Rattle.session.specs.declared.types.IsoOutcome.TheVariants.{Done}
 use Rattle.session.specs.declared.types.IsoChannelState.{IsoChannelState}
 use Rattle.session.specs.Session.{blank_request, blank_plan, slots, packets_of, all_packets, pending_packets}
 use Rattle.session.specs.Settle.{settled_plan, oldest, oldest_from, oldest_to, oldest_plans, settled_plans, moved_total, settled_request, one_more, settled_session, slots_cleared, settled_ring, is_served, drain, drained}
-use Rattle.session.proofs.Laws.Lists.{slice_next, slice_past, slice_after_set, slice_sets, get_or-slice, get_d_sets_before, get_or-sets_in, get_or-sets_after, get_or-map_in}
+use Rattle.session.proofs.Laws.Lists.{slice_next, slice_after_set, slice_sets, get_or-slice, get_d_sets_before, get_or-sets_in, get_or-sets_after, get_or-map_in}
 use Rattle.session.proofs.Laws.Sums.{packets_next, packets_split}
 use Rattle.session.proofs.Laws.Record.{Sound, GoodRequest, GoodPlan}
 
--- the slots still to clear, after one plan's is, and where none is left
+-- the slots still to clear, after one plan's is
 pub cleared_next :
     (i t : ℕ) (l : List IsoPacketPlan) (ring now : List ℕ) → i < t → t ≤ length l
     → now ≡ set (set ring (2 * (get_or l i blank_plan).desc_index) 0) (2 * (get_or l i blank_plan).desc_index + 1) 0
     → slots_cleared (slice (i + 1) t l) now ≡ slots_cleared (slice i t l) ring
 cleared_next i t l ring now h k e =
     ap (slots_cleared (slice (i + 1) t l)) e ∙ sym (ap (λ (ps : List IsoPacketPlan). slots_cleared ps ring) (slice_next i t l blank_plan h k))
-
-pub cleared_past : (i t : ℕ) (l : List IsoPacketPlan) (ring : List ℕ) → t ≤ i → ring ≡ slots_cleared (slice i t l) ring
-cleared_past i t l ring h = sym (ap (λ (ps : List IsoPacketPlan). slots_cleared ps ring) (slice_past i t l h))
 
 -- ---- the oldest pending request
 

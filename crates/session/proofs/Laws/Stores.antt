@@ -11,7 +11,7 @@ use native.Mathlib.Omega.{arith}
 use lib.Dec.{ltb}
 use lib.ListN.{length, get_or, set, take, drop, length-take, drop_of_length-le}
 use lib.Seq.{sets, get_or-take, length-take-le}
-use borrow.Author.Tests.{lt-ltb, le-ltb, ltb-false}
+use borrow.Author.Tests.{ltb-false}
 use Rattle.words.specs.Words.{iso_status}
 use Rattle.ring.specs.RingSums.{slot_at}
 use Rattle.session.specs.declared.types.IsoPacketPlan.{IsoPacketPlan}
@@ -126,26 +126,6 @@ module _ (R insert step i n : ℕ) (lengths : List ℕ) (table : List IsoPacketP
       ∙ plans_more R insert step i (take n lengths) table to slot (omega (arith, length-take-le n lengths fits)) at
 
 -- ---- lengths
-
--- the first long packet of what is left: here, further on, or none
-pub long_here : (limit : ℕ) (lengths : List ℕ) (i : ℕ) → i < length lengths → limit < get_or lengths i 0 → first_long limit (drop i lengths) ≡ 0
-long_here limit lengths i h l = rw (drop_more lengths i h, lt-ltb limit (get_or lengths i 0) l)
-
-pub long_later : (limit : ℕ) (lengths : List ℕ) (i : ℕ) → i < length lengths → get_or lengths i 0 ≤ limit
-    → first_long limit (drop i lengths) ≡ suc (first_long limit (drop (i + 1) lengths))
-long_later limit lengths i h l = rw (drop_more lengths i h, le-ltb limit (get_or lengths i 0) l)
-
-pub long_end : (limit : ℕ) (lengths : List ℕ) (i : ℕ) → length lengths ≤ i → first_long limit (drop i lengths) ≡ 0
-long_end limit lengths i h = rw (drop_of_length-le lengths h)
-
--- the first long packet is one of them, or their number
-pub first_long-within : (limit : ℕ) (lengths : List ℕ) → first_long limit lengths ≤ length lengths
-first_long-within limit [] = omega arith
-first_long-within limit (l ∷ ls) = within (ltb limit l) (first_long-within limit ls)
-  where
-    within : (b : Bool) → first_long limit ls ≤ length ls → cond b 0 (suc (first_long limit ls)) ≤ suc (length ls)
-    within true h = omega arith
-    within false h = omega arith
 
 -- where no packet is long, the first is not, and none after it is
 first_short : (limit l n m : ℕ) (b : Bool) → ltb limit l ≡ b → suc n ≤ cond b 0 (suc m) → (l ≤ limit) × (n ≤ m)

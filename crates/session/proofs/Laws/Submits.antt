@@ -4,7 +4,7 @@ use mathlib.Core.Bool.{Bool, true, false, not, ◌&&◌, cond}
 use mathlib.Core.List.{List}
 use mathlib.Core.Logic.{◌⊎◌, ⊎_elim}
 use Prim.Native.Nat.{ℕ, ◌+◌, ◌*◌, ◌≤◌, ◌<◌}
-use native.Mathlib.Decide.{dec_le}
+use Rattle.std.specs.Prelude.{Option, Some, None, Result}
 use native.Mathlib.Omega.{arith}
 use lib.Dec.{T, ltb}
 use lib.ListN.{length, set, take}
@@ -19,16 +19,18 @@ use Rattle.session.specs.declared.transfer.IsoTransfer.{IsoTransfer}
 use Rattle.session.specs.declared.transfer.SubmitWay.{SubmitWay}
 use Rattle.session.specs.declared.transfer.SubmitWay.TheVariants.{Refuse, TooLong, Spend, Early, Cut, Late, Accept}
 use Rattle.session.specs.declared.transfer.IsoChannelStart.{IsoChannelStart}
-use Rattle.session.specs.declared.transfer.SubmitAnswer.{SubmitAnswer}
+use Rattle.session.specs.declared.transfer.IsoSubmission.{IsoSubmission}
+use Rattle.session.specs.declared.refusal.IsoRefusal.{IsoRefusal}
 use Rattle.session.specs.declared.transfer.Submitted.{Submitted}
 use Rattle.session.specs.declared.transfer.SubmitParts.{SubmitParts}
 use Rattle.session.specs.declared.transfer.SubmitScan.{SubmitScan}
 use Rattle.session.specs.Session.{slots, all_packets}
-use Rattle.session.specs.Scan.{whole, only, Found, Asked, is_gate, added, head_after, ring_by}
+use Rattle.session.specs.Record.{is_bad_record}
+use Rattle.session.specs.Scan.{whole, only, Found, is_gate, added, head_after, ring_by}
 use Rattle.ring.specs.Stores.{stored, stores_from}
 use Rattle.session.specs.Place.{step_of, insert_of, plans_from}
 use Rattle.session.specs.Way.{submit_way}
-use Rattle.session.specs.Submit.{new_request, start_words, no_start, answer_of, start_after, session_after, ring_after, submitted_by, submitted_ring}
+use Rattle.session.specs.Submit.{new_request, start_words, answer_of, start_after, session_after, ring_after, submitted_by, submitted_ring}
 use Rattle.session.specs.Parts.{requests_with, plans_with, joined, Parted}
 use Rattle.ring.proofs.Stores.{whole_plan}
 use Rattle.session.proofs.Laws.Admitted.{Admitted, gate_admitted, acceptable, told_of}
@@ -58,14 +60,6 @@ module _ (s : IsoChannelState) (t : IsoTransfer) (slot : ℕ) where
   none_counted Late n e h = refl
   none_counted Accept n e h = let some : 0 < n = h refl in absurd (omega arith)
 
--- what an accepted submission is sure of, packets that are added are
-pub few_added : (way : SubmitWay) (count n limit : ℕ) → n ≡ added way count → (way ≡ Accept → count ≤ limit) → n ≤ limit
-few_added way count n limit e h = go (dec_le 1 n)
-  where
-    go : Dec (1 ≤ n) → n ≤ limit
-    go (yes some) = let q = some_added way count n e (omega arith) in omega (arith, q.1, h q.0)
-    go (no none) = omega arith
-
 -- an accepted submission passed every refusal
 pub gate : (way : SubmitWay) → way ≡ Accept → T (is_gate way)
 gate way e = subst⁻¹ (λ (w : SubmitWay). T (is_gate w)) e tt
@@ -81,21 +75,21 @@ answer_only Late s = refl
 answer_only Accept s = refl
 
 module _ (s : IsoChannelState) (t : IsoTransfer) (n : ℕ) where
-  none_starts : n ≡ 0 → cond (ltb 0 n && not s.head.live) (start_words (only s.cfg s.head) t) no_start ≡ no_start
+  none_starts : n ≡ 0 → cond (ltb 0 n && not s.head.live) (Some (start_words (only s.cfg s.head) t)) None ≡ None
   none_starts e = rw e
 
-  one_starts : 0 < n → cond (ltb 0 n && not s.head.live) (start_words (only s.cfg s.head) t) no_start ≡ cond s.head.live no_start (start_words s t)
+  one_starts : 0 < n → cond (ltb 0 n && not s.head.live) (Some (start_words (only s.cfg s.head) t)) None ≡ cond s.head.live None (Some (start_words s t))
   one_starts h =
-      ap (λ (b : Bool). cond (b && not s.head.live) (start_words (only s.cfg s.head) t) no_start) (lt-ltb 0 n h) ∙ turned s.head.live
+      ap (λ (b : Bool). cond (b && not s.head.live) (Some (start_words (only s.cfg s.head) t)) None) (lt-ltb 0 n h) ∙ turned s.head.live
     where
-      turned : (live : Bool) → cond (not live) (start_words s t) no_start ≡ cond live no_start (start_words s t)
+      turned : (live : Bool) → cond (not live) (Some (start_words s t)) None ≡ cond live None (Some (start_words s t))
       turned true = refl
       turned false = refl
 
   -- a channel starts where the submission adds packets and none is live
   pub start_by :
       (way : SubmitWay) (count : ℕ) → n ≡ added way count → (way ≡ Accept → 0 < count)
-      → cond (ltb 0 n && not s.head.live) (start_words (only s.cfg s.head) t) no_start ≡ start_after way s t
+      → cond (ltb 0 n && not s.head.live) (Some (start_words (only s.cfg s.head) t)) None ≡ start_after way s t
   start_by (Refuse k) count e f = none_starts e
   start_by (TooLong k) count e f = none_starts e
   start_by (Spend k) count e f = none_starts e
@@ -159,7 +153,7 @@ module _ (s : IsoChannelState) (t : IsoTransfer) (lengths ring : List ℕ) (inse
         ∙ ap₂ (whole s.cfg (head_after Accept s.cfg s.head t (slot_at R i step (length lengths))) s.fatal) asked plans
 
 -- the whole answer, from its parts
-abbrev of : SubmitAnswer → IsoChannelStart → IsoChannelState → Submitted
+abbrev of : Result IsoSubmission IsoRefusal → Option IsoChannelStart → IsoChannelState → Submitted
 of x y z = record { answer = x; start = y; session = z }
 
 module _ (s : IsoChannelState) (t : IsoTransfer) (lengths ring : List ℕ) (r : SubmitParts) (way : SubmitWay) where
@@ -172,27 +166,27 @@ module _ (s : IsoChannelState) (t : IsoTransfer) (lengths ring : List ℕ) (r : 
       → (T (is_gate way) → r.insert ≡ insert_of s t ring)
       → (way ≡ Accept → (r.to ≡ all_packets s) × (0 < length lengths)) → slot ≡ slot_at r.slots r.insert r.step r.added
       → r.answer ≡ answer_of way (only s.cfg s.head)
-      → r.start ≡ cond (ltb 0 r.added && not s.head.live) (start_words (only s.cfg s.head) t) no_start
+      → r.start ≡ cond (ltb 0 r.added && not s.head.live) (Some (start_words (only s.cfg s.head) t)) None
       → r.head ≡ head_after way s.cfg s.head t slot
       → joined s r lengths ≡ submitted_by way s t lengths ring
   parts_by slot eR ek e at f last a b h =
       let R = slots s.cfg in
       let step = step_of s.cfg in
       ap₂ (λ (x y : ℕ). of r.answer r.start (placed x y r.head)) eR ek
-      ∙ ap₂ (λ (x : SubmitAnswer) (y : IsoChannelStart). of x y (placed R step r.head)) (a ∙ answer_only way s)
+      ∙ ap₂ (λ (x : Result IsoSubmission IsoRefusal) (y : Option IsoChannelStart). of x y (placed R step r.head)) (a ∙ answer_only way s)
       (b ∙ start_by s t r.added way (length lengths) e (λ w. (f w).1))
       ∙ ap (λ (x : IsoHead). of (answer_of way s) (start_after way s t) (placed R step x)) h
       ∙ ap (of (answer_of way s) (start_after way s t))
       (session_left s t lengths ring r.insert r.added r.to slot way e at f (last ∙ ap₂ (λ (x y : ℕ). slot_at x r.insert y r.added) eR ek))
 
--- the parts in a session that was asked: what it answered is used only past every refusal
+-- the parts in a session that was asked: what it answered is used only past every refusal, so in a good record
 module _ (s : IsoChannelState) (t : IsoTransfer) (lengths ring : List ℕ) (scan : SubmitScan) (way : SubmitWay)
-    (asked : Asked s t lengths ring scan) (e : way ≡ submit_way s t lengths ring) where
+    (asked : is_bad_record s ≡ false → Found s t lengths ring scan) (e : way ≡ submit_way s t lengths ring) where
   passed : T (is_gate way) → Admitted s t lengths ring
   passed = gate_admitted s t lengths ring way e
 
   found : T (is_gate way) → Found s t lengths ring scan
-  found g = asked.found (passed g).entry.record_good
+  found g = asked (passed g).entry.record_good
 
   pub ring_parted : ring_by way s.cfg t scan.insert lengths ring ≡ submitted_ring s t lengths ring
   ring_parted =
@@ -205,7 +199,7 @@ module _ (s : IsoChannelState) (t : IsoTransfer) (lengths ring : List ℕ) (scan
       → r.added ≡ added way (length lengths)
       → slot ≡ slot_at r.slots r.insert r.step r.added
       → r.answer ≡ answer_of way (only s.cfg s.head)
-      → r.start ≡ cond (ltb 0 r.added && not s.head.live) (start_words (only s.cfg s.head) t) no_start
+      → r.start ≡ cond (ltb 0 r.added && not s.head.live) (Some (start_words (only s.cfg s.head) t)) None
       → r.head ≡ head_after way s.cfg s.head t slot
       → Parted s t lengths ring r
   parted r slot ei et eR ek en last a b h =

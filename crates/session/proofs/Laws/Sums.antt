@@ -1,14 +1,11 @@
 -- Sums over the requests in use, request by request, and the room that the ring has for their packets.
-use mathlib.Core.Path.{◌≡◌, refl, ◌∙◌, sym, ap}
-use mathlib.Core.Bool.{Bool, true, false, cond}
+use mathlib.Core.Path.{◌≡◌, ◌∙◌, sym, ap}
 use mathlib.Core.List.{List, [], ◌∷◌, ◌++◌}
-use Prim.Native.Nat.{ℕ, ◌+◌, ◌-◌, ◌*◌, ◌/◌, ◌≤◌, ◌<◌, max}
+use Prim.Native.Nat.{ℕ, ◌+◌, ◌*◌, ◌/◌, ◌≤◌, ◌<◌, max}
 use native.Mathlib.Nat.{zero-add, div-le_self, le_trans, le_of_dvd, le-div_iff_mul-le, mul-le-mul_left}
 use native.Mathlib.Omega.{arith}
-use lib.Dec.{ltb}
 use lib.ListN.{length, get_or}
 use lib.Seq.{slice}
-use borrow.Author.Tests.{ltb-true, ltb-false}
 use Rattle.ring.specs.RingSums.{ring_size, grid_step}
 use Rattle.ring.specs.declared.speed.Speed.{Speed}
 use Rattle.ring.specs.declared.speed.Speed.TheVariants.{High, Full, Low}
@@ -61,23 +58,3 @@ pub packets_split :
     → packets_of (slice 0 count l) ≡ packets_of (slice 0 done l) + packets_of (slice done count l)
 packets_split done count l h k =
     ap packets_of (slice_split 0 done count l (omega arith) h k) ∙ packets_append (slice 0 done l) (slice done count l)
-
--- the packets of the pending ones, in a walk from the first request on: before the first pending one nothing is counted
-pub pending_next :
-    (done i t : ℕ) (l : List IsoRequest) → i < t → t ≤ length l
-    → packets_of (slice (done + (i - done)) t l) ≡ cond (ltb i done) 0 (get_or l i blank_request).packets + packets_of (slice (done + ((i + 1) - done)) t l)
-pending_next done i t l h k = go (ltb i done) refl
-  where
-    go : (b : Bool) → ltb i done ≡ b
-        → packets_of (slice (done + (i - done)) t l) ≡ cond b 0 (get_or l i blank_request).packets + packets_of (slice (done + ((i + 1) - done)) t l)
-    go true e =
-        let less : i < done = ltb-true i done e in
-        let same : done + (i - done) ≡ done + ((i + 1) - done) = omega arith in
-        ap (λ (f : ℕ). packets_of (slice f t l)) same ∙ sym (zero-add (packets_of (slice (done + ((i + 1) - done)) t l)))
-    go false e =
-        let past : done ≤ i = ltb-false i done e in
-        let here : done + (i - done) ≡ i = omega arith in
-        let next : i + 1 ≡ done + ((i + 1) - done) = omega arith in
-        ap (λ (f : ℕ). packets_of (slice f t l)) here
-        ∙ packets_next i t l h k
-        ∙ ap (λ (f : ℕ). (get_or l i blank_request).packets + packets_of (slice f t l)) next

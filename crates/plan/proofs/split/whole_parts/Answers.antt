@@ -1,7 +1,7 @@
--- `whole_parts` counts the parts: an empty length is one, and any other has one more than there are whole parts before its last byte.
-use Rattle.std.proofs.Common.{sym, pos_of_ne-zero}
-use Rattle.plan.proofs.Laws.Split.{parts_pos}
+-- `whole_parts` counts the parts: those that the length fills, one more for a rest, and one where there is none.
+use Rattle.std.proofs.Common.{arith}
+use Rattle.plan.proofs.Laws.Split.{parts_ceil}
 use Rattle.plan.proofs.split.whole_parts.Goals as goal
 
 pub returns : goal.returns
-returns c = let a = c.args in sym (parts_pos a.len a.part (pos_of_ne-zero c.if-len-eq0.false) c.requires)
+returns c = omega (arith, parts_ceil c.args.len c.args.part c.requires)

@@ -1,14 +1,15 @@
--- Refused at the bytes, answered at once where there is nothing to do, or read from the number of the usual way.
-use Rattle.std.proofs.Common.{◌≡◌, ℕ, arith, not, eqb, refl, ap, ◌∙◌}
+-- Bytes that no call works on are refused with their number.
+use Rattle.std.proofs.Common.{ℕ}
+use Rattle.session.specs.declared.types.IsoChannelState.{IsoChannelState}
+use Rattle.session.specs.Poll.{polled, polled_ring}
 use Rattle.port.specs.Calls.{event_of}
-use Rattle.port.proofs.Laws.Polling.{poll_done}
+use Rattle.port.proofs.Laws.Verdict.{refused_by, reply_refused_by}
 use Rattle.port.proofs.calls.dwc2_iso_poll.Goals as goal
 
-pub returns-then-is_void : goal.returns-then-is_void
-returns-then-is_void c =
+pub returns-in-Err : goal.returns-in-Err
+returns-in-Err c =
     let a = c.args in
+    let xs = a.session.now in
     let event = event_of a.reported a.unplugged a.hcint in
-    let unreported : a.reported ≡ 0 = omega arith in
-    let none = ap (λ (n : ℕ). not (eqb n 0)) unreported in
-    let found = c.is_void.ensures c.if-is_void.true event none in
-    poll_done a.session.now a.ring.now event refl found.0 (c.reply_still.ensures ∙ found.1, found.2, found.3)
+    let both = reply_refused_by xs (λ (s : IsoChannelState). polled s event a.ring.now) c.in-Err.ensures c.reply_refused.ensures in
+    (both.0, both.1, refused_by xs (λ (n : ℕ). a.ring.now) (λ (s : IsoChannelState). polled_ring s event a.ring.now) c.in-Err.ensures)

@@ -1,4 +1,4 @@
--- The invariant: the slots still to be cleared, cleared on the ring as it is now, give the goal. The measure is how many plans are left.
+-- The invariant: the slots still to be cleared, cleared on the ring as it is now, give the goal.
 use Rattle.std.proofs.Common.{ℕ, ◌+◌, ◌*◌, set, ap, ◌∙◌, arith, length-set}
 use Rattle.session.proofs.Laws.Settled.{cleared_next}
 use Rattle.port.specs.Places.{plans_of}
@@ -12,7 +12,6 @@ loop-i-preserved c =
     let plans = plans_of a.bytes.now in
     let at = 2 * c.slot_at.result in
     let zero-at = ap (λ (n : ℕ). set (set now.ring (2 * n) 0) (2 * n + 1) 0) c.slot_at.ensures in (
-      omega arith,
-      length-set (set now.ring at 0) (at + 1) 0 ∙ length-set now.ring at 0 ∙ now.invariant.1,
-      cleared_next now.i a.to plans now.ring _ (omega arith) (omega (arith, plans_many a.bytes.now)) zero-at ∙ now.invariant.2,
+      length-set (set now.ring at 0) (at + 1) 0 ∙ length-set now.ring at 0 ∙ now.invariant.0,
+      cleared_next now.i a.to plans now.ring _ (omega arith) (omega (arith, plans_many a.bytes.now)) zero-at ∙ now.invariant.1,
     )

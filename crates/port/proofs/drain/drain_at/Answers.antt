@@ -8,7 +8,7 @@ use Rattle.session.specs.declared.types.IsoHead.{IsoHead}
 use Rattle.session.specs.declared.types.IsoChannelState.{IsoChannelState}
 use Rattle.session.specs.Session.{blank_plan, packets_of, ring_words}
 use Rattle.session.specs.Settle.{oldest_from, oldest_to, is_served, settled_session, Drained, drained}
-use Rattle.session.proofs.Laws.Record.{Sound, sound, not_bad}
+use Rattle.session.proofs.Laws.Record.{Sound, not_bad}
 use Rattle.session.proofs.Laws.Settled.{oldest_in, oldest_some, settled_sound, drained_stop, drained_next}
 use Rattle.port.specs.Layout.{session_of}
 use Rattle.port.specs.Places.{requests_of, plans_of}
@@ -17,35 +17,36 @@ use Rattle.port.proofs.Laws.Calls.{long_enough}
 use Rattle.port.proofs.Laws.InUse.{kept_layout, settled_in_use}
 use Rattle.port.proofs.Laws.Left.{left_is, left_over}
 use Rattle.port.proofs.Laws.Settling.{oldest_ends, settled_from}
-use Rattle.port.proofs.Laws.Placed.{head_there, requests_many, plans_many}
+use Rattle.port.proofs.Laws.Placed.{head_there}
+use Rattle.port.proofs.Laws.Walks.{sound_there}
 use Rattle.port.proofs.drain.drain_at.Goals as goal
 
 pub packets_before-from-requires : goal.packets_before-from-requires
 packets_before-from-requires c =
-    let long : 8488 ≤ length c.args.bytes.now = long_enough c.args.bytes.now refl c.requires.0 in
-    let good : Sound (session_of c.args.bytes.now) = let xs = c.args.bytes.now in sound (session_of xs) (requests_many xs) (plans_many xs) c.requires.1 in
+    let long : 8488 ≤ length c.args.bytes.now = long_enough c.args.bytes.now refl c.requires.0.0 in
+    let good = sound_there c.args.bytes.now c.requires.0.1 in
     let head_is : c.head_at-head.result ≡ (session_of c.args.bytes.now).head = c.head_at-head.ensures ∙ head_there c.args.bytes.now in
     let g = good in
     (long, omega (arith, ap (λ (h : IsoHead). h.done) head_is, g.done_in, g.count_in))
 
 pub loop-done-init : goal.loop-done-init
 loop-done-init c =
-    let good : Sound (session_of c.args.bytes.now) = let xs = c.args.bytes.now in sound (session_of xs) (requests_many xs) (plans_many xs) c.requires.1 in
+    let good = sound_there c.args.bytes.now c.requires.0.1 in
     let head_is : c.head_at-head.result ≡ (session_of c.args.bytes.now).head = c.head_at-head.ensures ∙ head_there c.args.bytes.now in
     let start = c in
     let xs = start.args.bytes.now in
     let eh = head_is in (
       good,
-      start.requires.0,
+      start.requires.0.0,
       refl,
       refl,
       ap (λ (h : IsoHead). h.done) eh,
       ap (λ (h : IsoHead). h.count) eh,
       c.packets_before-from.ensures ∙ ap (λ (h : IsoHead). packets_of (slice 0 h.done (requests_of xs))) eh,
-      loaded_left xs start.requires.0
+      loaded_left xs start.requires.0.0
           (λ i. omega (arith, c.slice_known-1.given i)),
       refl,
-      start.requires.2,
+      start.requires.1,
     )
 
 pub overflow_add-to : goal.overflow_add-to
@@ -60,7 +61,7 @@ overflow_add-to c =
 
 pub is_served_at-requires : goal.is_served_at-requires
 is_served_at-requires c =
-    let long : 8488 ≤ length c.args.bytes.now = long_enough c.args.bytes.now refl c.requires.0 in
+    let long : 8488 ≤ length c.args.bytes.now = long_enough c.args.bytes.now refl c.requires.0.0 in
     let to_is : c.loop-done.from + c.packets_at.result ≡ oldest_to (session_of c.loop-done.bytes) = let now = c.loop-done in
     oldest_ends (session_of now.bytes) now.from now.done c.packets_at.result now.invariant.6 now.invariant.4 c.packets_at.ensures.0 in
     let pending : (session_of c.loop-done.bytes).head.done < (session_of c.loop-done.bytes).head.count = omega (arith, c.loop-done.invariant.4, c.loop-done.invariant.5) in
@@ -105,8 +106,7 @@ settle_at-requires c =
     oldest_ends (session_of now.bytes) now.from now.done c.packets_at.result now.invariant.6 now.invariant.4 c.packets_at.ensures.0 in
     let pending : (session_of c.loop-done.bytes).head.done < (session_of c.loop-done.bytes).head.count = omega (arith, c.loop-done.invariant.4, c.loop-done.invariant.5) in
     let now = c.loop-done in (
-      now.invariant.1,
-      not_bad (session_of now.bytes) now.invariant.0,
+      (now.invariant.1, not_bad (session_of now.bytes) now.invariant.0),
       pending,
       now.invariant.6,
       to_is,
@@ -115,7 +115,7 @@ settle_at-requires c =
 
 pub loop-done-preserved : goal.loop-done-preserved
 loop-done-preserved c =
-    let long : 8488 ≤ length c.args.bytes.now = long_enough c.args.bytes.now refl c.requires.0 in
+    let long : 8488 ≤ length c.args.bytes.now = long_enough c.args.bytes.now refl c.requires.0.0 in
     let to_is : c.loop-done.from + c.packets_at.result ≡ oldest_to (session_of c.loop-done.bytes) = let now = c.loop-done in
     oldest_ends (session_of now.bytes) now.from now.done c.packets_at.result now.invariant.6 now.invariant.4 c.packets_at.ensures.0 in
     let pending : (session_of c.loop-done.bytes).head.done < (session_of c.loop-done.bytes).head.count = omega (arith, c.loop-done.invariant.4, c.loop-done.invariant.5) in

@@ -1,6 +1,6 @@
 -- The invariant: the bytes are of the layout and hold, in the place of those at the beginning, a good record whose plans pending begin at `from` and
--- whose words the ring has, and draining it from here gives the goal. The measure is how many requests are pending.
-use Rattle.std.proofs.Common.{◌≡◌, ◌-◌, ◌≤◌, length}
+-- whose words the ring has, and draining it from here gives the goal.
+use Rattle.std.proofs.Common.{◌≡◌, ◌≤◌, length}
 use Rattle.session.specs.Session.{ring_words}
 use Rattle.session.specs.Settle.{oldest_from, drained}
 use Rattle.session.proofs.Laws.Record.{Sound}
@@ -12,8 +12,5 @@ abbrev pub invariant-loop-done : goal.invariant-loop-done
 invariant-loop-done l =
     Sound (session_of l.bytes) × (layout_number l.bytes ≡ 0) × (length l.bytes ≡ length l.initial.bytes) × (length l.ring ≡ length l.initial.ring) ×
     (l.done ≡ (session_of l.bytes).head.done)
-    × (l.count ≡ (session_of l.bytes).head.count) × (l.from ≡ oldest_from (session_of l.bytes)) × (Left l.initial.bytes l.bytes (session_of l.bytes))
+    × (l.done-end ≡ (session_of l.bytes).head.count) × (l.from ≡ oldest_from (session_of l.bytes)) × (Left l.initial.bytes l.bytes (session_of l.bytes))
     × (drained l.at_once (session_of l.bytes) l.ring ≡ drained l.bit (session_of l.initial.bytes) l.initial.ring) × (ring_words (session_of l.bytes).cfg ≤ length l.ring)
-
-abbrev pub decreases-loop-done : goal.decreases-loop-done
-decreases-loop-done l = l.count - l.done

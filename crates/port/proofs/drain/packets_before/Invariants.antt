@@ -1,5 +1,5 @@
--- The invariant: the sum so far and the packets of the requests still to be counted are those of all. The measure is how many are left.
-use Rattle.std.proofs.Common.{◌≡◌, ◌+◌, ◌-◌, ◌*◌, ◌≤◌}
+-- The invariant: the sum so far and the packets of the requests still to be counted are those of all.
+use Rattle.std.proofs.Common.{◌≡◌, ◌+◌, ◌*◌, ◌≤◌}
 use lib.Seq.{slice}
 use Rattle.session.specs.Session.{packets_of}
 use Rattle.port.specs.Places.{requests_of}
@@ -7,7 +7,4 @@ use Rattle.port.proofs.drain.packets_before.Given as goal
 
 abbrev pub invariant-loop-i : goal.invariant-loop-i
 invariant-loop-i l =
-    (l.i ≤ l.end) × (l.sum ≤ 65535 * l.i) × (l.sum + packets_of (slice l.i l.end (requests_of l.bytes)) ≡ packets_of (slice 0 l.end (requests_of l.bytes)))
-
-abbrev pub decreases-loop-i : goal.decreases-loop-i
-decreases-loop-i l = l.end - l.i
+    (l.sum ≤ 65535 * l.i) × (l.sum + packets_of (slice l.i l.end (requests_of l.bytes)) ≡ packets_of (slice 0 l.end (requests_of l.bytes)))

@@ -15,5 +15,5 @@ returns c =
     (λ i. omega (arith, c.slice_known-1.given i))
     start.requires a.direction a.status planned.result moved.result tag.result planned.ensures moved.ensures
     c.put_u16.ensures tag.ensures
-    c.put_byte.ensures in
+    c.put.ensures in
     (settled.0, omega arith, settled.1)

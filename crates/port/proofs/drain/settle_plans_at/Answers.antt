@@ -1,5 +1,5 @@
 -- The invariant: the bytes hold, in the place of those at the beginning, the session with its plans as they are now; what is left to settle of them
--- gives the settled table, what is left to add gives the sum, and the slots of those left are in the ring. The measure is how many plans are left.
+-- gives the settled table, what is left to add gives the sum, and the slots of those left are in the ring.
 use Rattle.std.proofs.Common.{◌≡◌, ℕ, ◌+◌, ◌*◌, ◌<◌, ◌≤◌, length, get_or, drop, refl, ap, ◌∙◌, le_trans, lt_of_lt_of_le, zero-add, arith}
 use native.Mathlib.Nat.{min-le_right}
 use lib.Seq.{slice}
@@ -18,7 +18,6 @@ pub loop-i-init : goal.loop-i-init
 loop-i-init c =
     let start = c in
     let xs = start.args.bytes.now in (
-      omega arith,
       refl,
       omega arith,
       loaded_left xs start.requires.0 (λ i. omega (arith, c.slice_known-1.given i)),
@@ -48,12 +47,11 @@ loop-i-preserved c =
     let ev : v ≡ f here =
     ap (λ (p : IsoPacketPlan). settled_by a.direction p word) (plan_there now.bytes now.i blank_plan below)
     ∙ ap (λ (n : ℕ). settled_by a.direction here (get_or ring (2 * n) 0)) slot.ensures in
-    let turn = plan_turn xs start.requires.0 (session_of xs) now.i v (lt_of_lt_of_le less start.requires.2) now.invariant.3 after.ensures.2 in (
-      omega arith,
-      after.auto.bytes ∙ now.invariant.1,
+    let turn = plan_turn xs start.requires.0 (session_of xs) now.i v (lt_of_lt_of_le less start.requires.2) now.invariant.2 after.ensures.2 in (
+      after.auto.bytes ∙ now.invariant.0,
       omega arith,
       turn.1,
-      plans_turn f now.i a.to plans less many turn.0 ev ∙ now.invariant.4,
-      sum_turn f now.i a.to plans less many turn.0 ev now.sum after.result after.ensures.0 ∙ now.invariant.5,
-      slots_turn now.i a.to plans ring v turn.0 now.invariant.6,
+      plans_turn f now.i a.to plans less many turn.0 ev ∙ now.invariant.3,
+      sum_turn f now.i a.to plans less many turn.0 ev now.sum after.result after.ensures.0 ∙ now.invariant.4,
+      slots_turn now.i a.to plans ring v turn.0 now.invariant.5,
     )

@@ -46,7 +46,7 @@ returns c =
           c.fail_at.ensures
           c.ended_head.ensures
           c.put_head.ensures
-          c.fatal_tagged.ensures
+          c.from.ensures
           c.put_tagged.ensures,
       c.clear_first.ensures
           ∙ ap (λ (n : ℕ). cond (ltb (length ring) n) ring (cleared n ring)) words

@@ -1,6 +1,5 @@
--- The invariant: the bytes hold the session with other requests, and the outcome put into what is still to do of them gives the goal. The measure
--- is how many requests are left.
-use Rattle.std.proofs.Common.{◌≡◌, ◌-◌, ◌≤◌, map, length}
+-- The invariant: the bytes hold the session with other requests, and the outcome put into what is still to do of them gives the goal.
+use Rattle.std.proofs.Common.{◌≡◌, ◌≤◌, map, length}
 use lib.Seq.{slice, sets}
 use Rattle.session.specs.End.{with_outcome}
 use Rattle.port.specs.Layout.{session_of}
@@ -13,6 +12,3 @@ invariant-loop-i l =
     × Left l.initial.bytes l.bytes (with_requests (session_of l.initial.bytes) (requests_of l.bytes))
     × (sets (requests_of l.bytes) l.i (map (with_outcome l.outcome) (slice l.i l.to (requests_of l.bytes)))
     ≡ sets (requests_of l.initial.bytes) l.from (map (with_outcome l.outcome) (slice l.from l.to (requests_of l.initial.bytes))))
-
-abbrev pub decreases-loop-i : goal.decreases-loop-i
-decreases-loop-i l = l.to - l.i

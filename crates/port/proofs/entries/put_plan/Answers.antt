@@ -10,4 +10,4 @@ returns c =
     c.put_u16.ensures
     c.put_u16-2.ensures
     c.put_u16-3.ensures c.status_tag.ensures
-    c.put_byte.ensures
+    c.put.ensures

@@ -6,8 +6,8 @@ pub returns : goal.returns
 returns c =
     let a =
     c.args in
-    request_put a.bytes.now a.at a.request c.outcome_tagged.result
+    request_put a.bytes.now a.at a.request c.from.result
     c.put_u64.ensures
     c.put_u32.ensures
-    c.put_u16.ensures c.outcome_tagged.ensures
+    c.put_u16.ensures c.from.ensures
     c.put_tagged.ensures

@@ -1,107 +1,67 @@
 -- The first request is settled, by the bit or since it is served, and the second is not: its slot is none of those that are cleared.
-use Rattle.std.proofs.Common.{◌≡◌, ℕ, ◌-◌, ◌*◌, ◌<◌, ◌≤◌, not, ◌||◌, length, get_or, sym, refl, ap, ◌∙◌, arith}
+use Rattle.std.proofs.Common.{◌≡◌, ℕ, ◌-◌, ◌*◌, not, ◌||◌, eqb, get_or, sym, refl, ap, ◌∙◌, arith}
+use Rattle.std.specs.List.{list_any, range_with_len}
+use borrow.Author.Tests.{not-true}
 use Rattle.words.specs.Words.{is_set, active}
 use Rattle.session.specs.Session.{blank_plan}
 use Rattle.session.specs.Settle.{is_served}
-use Rattle.session.proofs.Laws.Record.{Sound, sound}
 use Rattle.port.specs.Layout.{session_of}
 use Rattle.port.specs.Places.{plans_of}
 use Rattle.port.proofs.Laws.Calls.{long_enough}
-use Rattle.port.proofs.Laws.First.{first_to, second_in, first_alone}
-use Rattle.port.proofs.Laws.Placed.{requests_many, plans_many}
+use Rattle.port.proofs.Laws.First.{apart, first_to, ends_in, first_alone}
+use Rattle.port.proofs.Laws.Walks.{sound_there}
 use Rattle.port.proofs.first.is_alone.Goals as goal
 
 pub is_settled-requires : goal.is_settled-requires
 is_settled-requires c =
-    let long : 8488 ≤ length c.args.bytes.now = long_enough c.args.bytes.now refl c.requires.0 in
-    let good : Sound (session_of c.args.bytes.now) = let xs = c.args.bytes.now in sound (session_of xs) (requests_many xs) (plans_many xs) c.requires.1 in
-    let ends : (0 < c.args.n) × (c.args.n < c.args.to) × (c.args.to ≤ 1024) = let s = session_of c.args.bytes.now in
-    let g = good in
-    let one = (g.request 0 (omega (arith, c.requires.3))).some in
-    let two = (g.request 1 c.requires.3).some in (
-      omega (arith, c.requires.4, one),
-      omega (arith, c.requires.5, two),
-      omega (arith, second_in s c.args.ring.now g c.requires.2 c.requires.3 c.requires.4 c.requires.5, g.all_few),
-    ) in
-    let start = c in
-    let e = ends in
-    (long, e.0, omega (arith, e.1, e.2))
+    let xs = c.args.bytes.now in
+    let r = c.requires in
+    let ends = ends_in (session_of xs) c.args.ring.now (sound_there xs r.0.1) r.1 r.2 r.3 r.4 in
+    (long_enough xs refl r.0.0, ends.0, omega (arith, ends))
 
 pub is_served_at-requires : goal.is_served_at-requires
 is_served_at-requires c =
-    let long : 8488 ≤ length c.args.bytes.now = long_enough c.args.bytes.now refl c.requires.0 in
-    let good : Sound (session_of c.args.bytes.now) = let xs = c.args.bytes.now in sound (session_of xs) (requests_many xs) (plans_many xs) c.requires.1 in
-    let ends : (0 < c.args.n) × (c.args.n < c.args.to) × (c.args.to ≤ 1024) = let s = session_of c.args.bytes.now in
-    let g = good in
-    let one = (g.request 0 (omega (arith, c.requires.3))).some in
-    let two = (g.request 1 c.requires.3).some in (
-      omega (arith, c.requires.4, one),
-      omega (arith, c.requires.5, two),
-      omega (arith, second_in s c.args.ring.now g c.requires.2 c.requires.3 c.requires.4 c.requires.5, g.all_few),
-    ) in
-    let start = c in
-    let e = ends in
-    (long, omega (arith, e.0, e.1), e.2)
+    let xs = c.args.bytes.now in
+    let r = c.requires in
+    let ends = ends_in (session_of xs) c.args.ring.now (sound_there xs r.0.1) r.1 r.2 r.3 r.4 in
+    (long_enough xs refl r.0.0, omega (arith, ends), ends.2)
 
 pub overflow_sub-to : goal.overflow_sub-to
 overflow_sub-to c =
-    let good : Sound (session_of c.args.bytes.now) = let xs = c.args.bytes.now in sound (session_of xs) (requests_many xs) (plans_many xs) c.requires.1 in
-    let ends : (0 < c.args.n) × (c.args.n < c.args.to) × (c.args.to ≤ 1024) = let s = session_of c.args.bytes.now in
-    let g = good in
-    let one = (g.request 0 (omega (arith, c.requires.3))).some in
-    let two = (g.request 1 c.requires.3).some in (
-      omega (arith, c.requires.4, one),
-      omega (arith, c.requires.5, two),
-      omega (arith, second_in s c.args.ring.now g c.requires.2 c.requires.3 c.requires.4 c.requires.5, g.all_few),
-    ) in
-    let e = ends in omega (arith, e.0, e.1)
+    let r = c.requires in
+    let ends = ends_in (session_of c.args.bytes.now) c.args.ring.now (sound_there c.args.bytes.now r.0.1) r.1 r.2 r.3 r.4 in
+    omega (arith, ends)
 
-pub slot_at-requires : goal.slot_at-requires
-slot_at-requires c =
-    let long : 8488 ≤ length c.args.bytes.now = long_enough c.args.bytes.now refl c.requires.0 in
-    let good : Sound (session_of c.args.bytes.now) = let xs = c.args.bytes.now in sound (session_of xs) (requests_many xs) (plans_many xs) c.requires.1 in
-    let ends : (0 < c.args.n) × (c.args.n < c.args.to) × (c.args.to ≤ 1024) = let s = session_of c.args.bytes.now in
-    let g = good in
-    let one = (g.request 0 (omega (arith, c.requires.3))).some in
-    let two = (g.request 1 c.requires.3).some in (
-      omega (arith, c.requires.4, one),
-      omega (arith, c.requires.5, two),
-      omega (arith, second_in s c.args.ring.now g c.requires.2 c.requires.3 c.requires.4 c.requires.5, g.all_few),
-    ) in
-    let start = c in
-    let e = ends in
-    (long, omega (arith, e.0, e.1, e.2))
+pub slot_at-slot-requires : goal.slot_at-slot-requires
+slot_at-slot-requires c =
+    let xs = c.args.bytes.now in
+    let r = c.requires in
+    let ends = ends_in (session_of xs) c.args.ring.now (sound_there xs r.0.1) r.1 r.2 r.3 r.4 in
+    (long_enough xs refl r.0.0, omega (arith, ends))
 
-pub is_apart-requires : goal.is_apart-requires
-is_apart-requires c =
-    let long : 8488 ≤ length c.args.bytes.now = long_enough c.args.bytes.now refl c.requires.0 in
-    let good : Sound (session_of c.args.bytes.now) = let xs = c.args.bytes.now in sound (session_of xs) (requests_many xs) (plans_many xs) c.requires.1 in
-    let ends : (0 < c.args.n) × (c.args.n < c.args.to) × (c.args.to ≤ 1024) = let s = session_of c.args.bytes.now in
-    let g = good in
-    let one = (g.request 0 (omega (arith, c.requires.3))).some in
-    let two = (g.request 1 c.requires.3).some in (
-      omega (arith, c.requires.4, one),
-      omega (arith, c.requires.5, two),
-      omega (arith, second_in s c.args.ring.now g c.requires.2 c.requires.3 c.requires.4 c.requires.5, g.all_few),
-    ) in
-    let start = c in
-    let e = ends in
-    (long, omega (arith, e.1, e.2))
+pub has_slot-requires : goal.has_slot-requires
+has_slot-requires c =
+    let xs = c.args.bytes.now in
+    let r = c.requires in
+    let ends = ends_in (session_of xs) c.args.ring.now (sound_there xs r.0.1) r.1 r.2 r.3 r.4 in
+    (long_enough xs refl r.0.0, omega (arith, ends))
 
 pub returns : goal.returns
 returns c =
-    let good : Sound (session_of c.args.bytes.now) = let xs = c.args.bytes.now in sound (session_of xs) (requests_many xs) (plans_many xs) c.requires.1 in
-    let start = c in
-    let a = start.args in
-    let s = session_of a.bytes.now in
+    let a = c.args in
+    let xs = a.bytes.now in
+    let s = session_of xs in
     let ring = a.ring.now in
-    let g = good in
+    let r = c.requires in
+    let good = sound_there xs r.0.1 in
     let settled : c.is_settled.result ≡ (a.bit || is_served s ring) =
     c.is_settled.ensures
-    ∙ ap (λ (n : ℕ). a.bit || not (is_set active (get_or ring (2 * (get_or (plans_of a.bytes.now) (n - 1) blank_plan).desc_index) 0)))
-    (sym (first_to s ring g start.requires.2 start.requires.3 start.requires.4)) in
+    ∙ ap (λ (n : ℕ). a.bit || not (is_set active (get_or ring (2 * (get_or (plans_of xs) (n - 1) blank_plan).desc_index) 0)))
+    (sym (first_to s ring good r.1 r.2 r.3)) in
     λ e.
-    first_alone s ring g start.requires.2 start.requires.3 start.requires.4 start.requires.5 a.bit
-    (sym settled ∙ c.if-not-is_settled.false)
-    (sym c.is_served_at.ensures ∙ c.if-is_served_at.false)
-    (λ k h x. c.is_apart.ensures e k h (x ∙ sym c.slot_at.ensures))
+    first_alone s ring good r.1 r.2 r.3 r.4 a.bit (sym settled ∙ c.if-not-is_settled.false) (sym c.is_served_at.ensures ∙ c.if-is_served_at.false)
+    (apart a.n (get_or (plans_of xs) (a.to - 1) blank_plan).desc_index (plans_of xs)
+    (sym
+    (c.has_slot.ensures
+    ∙ ap (λ (n : ℕ). list_any (λ (i : ℕ). eqb (get_or (plans_of xs) i blank_plan).desc_index n) (range_with_len 0 a.n)) c.slot_at-slot.ensures)
+    ∙ not-true c.has_slot.result e))

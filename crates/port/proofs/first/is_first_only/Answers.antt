@@ -1,6 +1,5 @@
 -- The way settles, and of the requests the first alone.
-use Rattle.std.proofs.Common.{◌≡◌, ℕ, ◌+◌, ◌<◌, Bool, true, false, ◌&&◌, eqb, ltb, sym, ap, ◌∙◌, arith, ltb-true, eqb-true}
-use Rattle.session.specs.declared.reply.IsoAnswer.TheVariants.{Done}
+use Rattle.std.proofs.Common.{Ok, ◌≡◌, ℕ, ◌+◌, ◌<◌, Bool, true, false, ◌&&◌, eqb, ltb, sym, ap, ◌∙◌, arith, ltb-true, eqb-true}
 use Rattle.session.specs.declared.reply.PollWay.{PollWay}
 use Rattle.session.specs.declared.reply.PollWay.TheVariants.{Settle}
 use Rattle.session.specs.Settle.{Drained}
@@ -26,7 +25,6 @@ is_alone-requires c =
     ) in
     let first = told in (
       c.requires.0,
-      c.requires.1,
       first.0,
       first.1,
       c.packets_at-n.ensures.0,
@@ -52,16 +50,16 @@ returns c =
     let ring = start.args.ring.now in
     let first = told in
     let way : Settle c.hcint_xfercompl.result ≡ poll_way s start.args.event =
-    ap Settle c.hcint_xfercompl.ensures ∙ c.is_settling_way.ensures first.2 in
+    ap Settle c.hcint_xfercompl.ensures ∙ c.is_settling_way.ensures first.2 ∙ ap (poll_way s) (sym c.in-Some.is) in
     λ e. (
       first.3,
       record {
         none_done = first.0;
         others = first.1;
-        covered = omega (arith, c.packets_at-n.ensures.0, c.if-n-all.false, start.requires.2);
+        covered = omega (arith, c.packets_at-n.ensures.0, c.if-n-all.false, start.requires.1);
         polled =
             ap (λ (w : PollWay). polled_by w s ring) (sym way)
-            ∙ ap (λ (d : Drained). reply Done true false d.session) (c.is_alone.ensures e);
+            ∙ ap (λ (d : Drained). reply (Ok tt) true false d.session) (c.is_alone.ensures e);
         cleared = ap (λ (w : PollWay). polled_ring_by w s ring) (sym way) ∙ ap (λ (d : Drained). d.ring) (c.is_alone.ensures e);
       },
     )

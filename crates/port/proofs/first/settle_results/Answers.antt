@@ -32,11 +32,10 @@ loop-i-preserved c =
     ∙ ap₂ (λ (m n : ℕ). moved_length a.direction m n + 4096 * m + error_bit (status_of (is_packet_error n))) planned_is status_is in
     let next = slice_next now.i a.n plans blank_plan less many in
     let on = ap (λ (l : List IsoPacketPlan). moved_total (map f l)) next in (
-      omega arith,
-      length-set now.results now.i c.settled_word.result ∙ now.invariant.1,
+      length-set now.results now.i c.settled_word.result ∙ now.invariant.0,
       omega (arith, c.moved_length.type_inv),
-      omega (arith, on, moved, c.moved_length.ensures, now.invariant.3),
+      omega (arith, on, moved, c.moved_length.ensures, now.invariant.2),
       write_next (λ (l : List IsoPacketPlan). map result_word (map f l)) now.i now.i a.n plans blank_plan now.results
           c.settled_word.result less many (λ rest. ap (λ (x : ℕ). x ∷ map result_word (map f rest)) (sym word))
-          ∙ now.invariant.4,
+          ∙ now.invariant.3,
     )

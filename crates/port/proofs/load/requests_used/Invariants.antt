@@ -1,5 +1,5 @@
 -- The invariant: a bad entry is among those still to be looked at exactly if one is in use, and the sum so far and their packets are the packets of
--- all. The measure is how many are left.
+-- all.
 use Rattle.std.proofs.Common.{◌≡◌, ◌+◌, ◌-◌, ◌*◌, ◌≤◌, drop}
 use lib.Seq.{slice}
 use Rattle.session.specs.Session.{packets_of}
@@ -9,11 +9,6 @@ use Rattle.port.proofs.load.requests_used.Given as goal
 
 abbrev pub invariant-loop-i : goal.invariant-loop-i
 invariant-loop-i l =
-    (l.i ≤ l.n)
-    × (l.at ≡ 40 + 20 * l.i)
-    × (l.sum ≤ 65535 * l.i)
-    × (any_of is_bad_request_bytes 20 (l.n - l.i) (drop l.at l.bytes) ≡ any_of is_bad_request_bytes 20 l.n (drop 40 l.bytes))
+    (l.sum ≤ 65535 * l.i)
+    × (any_of is_bad_request_bytes 20 (l.n - l.i) (drop (40 + 20 * l.i) l.bytes) ≡ any_of is_bad_request_bytes 20 l.n (drop 40 l.bytes))
     × (l.sum + packets_of (slice l.i l.n (requests_of l.bytes)) ≡ packets_of (slice 0 l.n (requests_of l.bytes)))
-
-abbrev pub decreases-loop-i : goal.decreases-loop-i
-decreases-loop-i l = l.n - l.i

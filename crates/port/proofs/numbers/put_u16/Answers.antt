@@ -1,6 +1,8 @@
--- Two stores, the low byte first.
-use Rattle.port.proofs.Laws.Numbers.{u16_put}
+-- The library's bytes of the number are the layout's.
+use Rattle.std.proofs.Common.{ap, ◌∙◌, arith}
+use lib.Seq.{sets}
+use Rattle.port.proofs.Laws.Numbers.{u16_written}
 use Rattle.port.proofs.numbers.put_u16.Goals as goal
 
 pub returns : goal.returns
-returns c = u16_put c.args.bytes.now c.args.at c.args.x
+returns c = c.put.ensures ∙ ap (sets c.args.bytes.now c.args.at) (c.to_le_bytes.ensures ∙ u16_written c.args.x (omega arith))

@@ -1,9 +1,8 @@
--- Two halves, the low one first.
-use Rattle.port.proofs.Laws.Numbers.{u32_put}
+-- The library's bytes of the number are the layout's.
+use Rattle.std.proofs.Common.{ap, ◌∙◌, arith}
+use lib.Seq.{sets}
+use Rattle.port.proofs.Laws.Numbers.{u32_written}
 use Rattle.port.proofs.numbers.put_u32.Goals as goal
 
 pub returns : goal.returns
-returns c =
-    let a = c.args in
-    u32_put a.bytes.now c.put_u16.new.bytes c.put_u16-2.new.bytes a.at
-    a.x c.put_u16.ensures c.put_u16-2.ensures
+returns c = c.put.ensures ∙ ap (sets c.args.bytes.now c.args.at) (c.to_le_bytes.ensures ∙ u32_written c.args.x (omega arith))

@@ -1,9 +1,8 @@
--- Two halves, the low one first.
-use Rattle.port.proofs.Laws.Numbers.{u64_put}
+-- The library's bytes of the number are the layout's.
+use Rattle.std.proofs.Common.{ap, ◌∙◌, arith}
+use lib.Seq.{sets}
+use Rattle.port.proofs.Laws.Numbers.{u64_written}
 use Rattle.port.proofs.numbers.put_u64.Goals as goal
 
 pub returns : goal.returns
-returns c =
-    let a = c.args in
-    u64_put a.bytes.now c.put_u32.new.bytes c.put_u32-2.new.bytes a.at
-    a.x c.put_u32.ensures c.put_u32-2.ensures
+returns c = c.put.ensures ∙ ap (sets c.args.bytes.now c.args.at) (c.to_le_bytes.ensures ∙ u64_written c.args.x (omega arith))

@@ -1,8 +1,8 @@
--- Two bytes, the low one first.
-use Rattle.port.proofs.Laws.Numbers.{u16_at}
+-- The library's number of the bytes read is the layout's.
+use Rattle.std.proofs.Common.{drop, ap, ◌∙◌}
+use Rattle.std.specs.Int.{w16, from_le_bytes}
+use Rattle.port.proofs.Laws.Numbers.{u16_read}
 use Rattle.port.proofs.numbers.u16_at.Goals as goal
 
 pub returns : goal.returns
-returns c =
-    let a = c.args in
-    u16_at a.bytes.now a.at c.wide.result c.wide-2.result c.wide.ensures.0 c.wide-2.ensures.0
+returns c = c.from_le_bytes.ensures ∙ ap (from_le_bytes w16) c.part.ensures ∙ u16_read (drop c.args.at c.args.bytes.now)

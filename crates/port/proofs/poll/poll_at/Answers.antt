@@ -1,6 +1,6 @@
 -- Each arm knows the way, and there the definitions are the arm's own.
-use Rattle.std.proofs.Common.{◌≡◌, sym, refl, ◌∙◌, ap₂, arith}
-use Rattle.session.specs.declared.types.IsoFatal.{IsoFatal}
+use Rattle.std.proofs.Common.{Option, ◌≡◌, sym, refl, ◌∙◌, ap₂, arith}
+use Rattle.session.specs.declared.types.IsoHaltReason.{IsoHaltReason}
 use Rattle.session.specs.declared.types.IsoHead.{IsoHead}
 use Rattle.session.specs.Poll.{way_of, poll_way}
 use Rattle.port.specs.Layout.{session_of}
@@ -12,12 +12,12 @@ use Rattle.port.proofs.poll.poll_at.Goals as goal
 pub returns-in-Nothing : goal.returns-in-Nothing
 returns-in-Nothing c =
     let octets : Octets c.args.bytes.now = (λ i. omega (arith, c.slice_known-1.given i)) in
-    let way_is : c.way_of-way.result
+    let way_is : c.way_of.result
     ≡ poll_way (session_of c.args.bytes.now)
     c.args.event = let start = c in
     let xs = start.args.bytes.now in
-    c.way_of-way.ensures
-    ∙ ap₂ (λ (h : IsoHead) (f : IsoFatal). way_of h f start.args.event)
+    c.way_of.ensures
+    ∙ ap₂ (λ (h : IsoHead) (f : Option IsoHaltReason). way_of h f start.args.event)
     (c.head_at-head.ensures ∙ head_there xs) (c.reason_at-fatal.ensures ∙ reason_there xs) in
     let start = c in
     let xs = start.args.bytes.now in
@@ -25,16 +25,16 @@ returns-in-Nothing c =
     acted xs ring {w = poll_way (session_of xs) start.args.event}
     (sym c.in-Nothing.is ∙ way_is) c.said.ensures.0 c.said.ensures.1
     (same_bytes xs octets
-    start.requires.0) refl
+    start.requires.0.0) refl
 
 pub returns-in-End : goal.returns-in-End
 returns-in-End c =
-    let way_is : c.way_of-way.result
+    let way_is : c.way_of.result
     ≡ poll_way (session_of c.args.bytes.now)
     c.args.event = let start = c in
     let xs = start.args.bytes.now in
-    c.way_of-way.ensures
-    ∙ ap₂ (λ (h : IsoHead) (f : IsoFatal). way_of h f start.args.event)
+    c.way_of.ensures
+    ∙ ap₂ (λ (h : IsoHead) (f : Option IsoHaltReason). way_of h f start.args.event)
     (c.head_at-head.ensures ∙ head_there xs) (c.reason_at-fatal.ensures ∙ reason_there xs) in
     let start = c in
     let xs =
@@ -49,12 +49,12 @@ returns-in-End c =
 
 pub returns-in-Halt : goal.returns-in-Halt
 returns-in-Halt c =
-    let way_is : c.way_of-way.result
+    let way_is : c.way_of.result
     ≡ poll_way (session_of c.args.bytes.now)
     c.args.event = let start = c in
     let xs = start.args.bytes.now in
-    c.way_of-way.ensures
-    ∙ ap₂ (λ (h : IsoHead) (f : IsoFatal). way_of h f start.args.event)
+    c.way_of.ensures
+    ∙ ap₂ (λ (h : IsoHead) (f : Option IsoHaltReason). way_of h f start.args.event)
     (c.head_at-head.ensures ∙ head_there xs) (c.reason_at-fatal.ensures ∙ reason_there xs) in
     let start = c in
     let xs = start.args.bytes.now in
@@ -68,12 +68,12 @@ returns-in-Halt c =
 pub returns-in-Wait : goal.returns-in-Wait
 returns-in-Wait c =
     let octets : Octets c.args.bytes.now = (λ i. omega (arith, c.slice_known-1.given i)) in
-    let way_is : c.way_of-way.result
+    let way_is : c.way_of.result
     ≡ poll_way (session_of c.args.bytes.now)
     c.args.event = let start = c in
     let xs = start.args.bytes.now in
-    c.way_of-way.ensures
-    ∙ ap₂ (λ (h : IsoHead) (f : IsoFatal). way_of h f start.args.event)
+    c.way_of.ensures
+    ∙ ap₂ (λ (h : IsoHead) (f : Option IsoHaltReason). way_of h f start.args.event)
     (c.head_at-head.ensures ∙ head_there xs) (c.reason_at-fatal.ensures ∙ reason_there xs) in
     let start = c in
     let xs = start.args.bytes.now in
@@ -81,16 +81,16 @@ returns-in-Wait c =
     acted xs ring {w = poll_way (session_of xs) start.args.event}
     (sym c.in-Wait.is ∙ way_is) c.said-in-Wait.ensures.0 c.said-in-Wait.ensures.1
     (same_bytes xs octets
-    start.requires.0) refl
+    start.requires.0.0) refl
 
 pub returns-in-Settle : goal.returns-in-Settle
 returns-in-Settle c =
-    let way_is : c.way_of-way.result
+    let way_is : c.way_of.result
     ≡ poll_way (session_of c.args.bytes.now)
     c.args.event = let start = c in
     let xs = start.args.bytes.now in
-    c.way_of-way.ensures
-    ∙ ap₂ (λ (h : IsoHead) (f : IsoFatal). way_of h f start.args.event)
+    c.way_of.ensures
+    ∙ ap₂ (λ (h : IsoHead) (f : Option IsoHaltReason). way_of h f start.args.event)
     (c.head_at-head.ensures ∙ head_there xs) (c.reason_at-fatal.ensures ∙ reason_there xs) in
     let start = c in
     let xs =

@@ -2,21 +2,21 @@
 use Rattle.std.proofs.Common.{◌≡◌, ℕ, ◌+◌, ◌*◌, ◌<◌, ◌≤◌, false, length, get_or, drop, sym, refl, ap, ◌∙◌, arith, drop-drop}
 use Rattle.session.specs.Session.{blank_request}
 use Rattle.session.specs.Reclaim.{plans_end, handed_answer}
-use Rattle.session.proofs.Laws.Record.{Sound, sound}
 use Rattle.session.proofs.Laws.Handed.{plans_in_lem}
 use Rattle.port.specs.Layout.{is_bad_plan_bytes, session_of}
 use Rattle.port.specs.Places.{requests_of}
 use Rattle.port.proofs.Laws.Calls.{long_enough}
-use Rattle.port.proofs.Laws.Placed.{request_there, requests_many, plans_many}
+use Rattle.port.proofs.Laws.Placed.{request_there}
 use Rattle.port.proofs.Laws.Closing.{handed_in_place}
 use Rattle.port.proofs.Laws.Walks as InWalk
 use Rattle.port.proofs.Canonical.{plan_clear}
+use Rattle.port.proofs.Laws.Walks.{sound_there}
 use Rattle.port.proofs.reclaim.hand_out_at.Goals as goal
 
 pub overflow_add-to : goal.overflow_add-to
 overflow_add-to c =
-    let good : Sound (session_of c.args.bytes.now) = let xs = c.args.bytes.now in sound (session_of xs) (requests_many xs) (plans_many xs) c.requires.1 in
-    let in_use : c.args.at < (session_of c.args.bytes.now).head.count = omega (arith, c.requires.2, good.done_in) in
+    let good = sound_there c.args.bytes.now c.requires.0.1 in
+    let in_use : c.args.at < (session_of c.args.bytes.now).head.count = omega (arith, c.requires.1, good.done_in) in
     let to_is : c.packets_before-from.result + c.packets_at.result
     ≡ plans_end c.args.at
     (session_of c.args.bytes.now) = omega (arith, c.packets_before-from.ensures, c.packets_at.ensures.0) in
@@ -34,9 +34,9 @@ overflow_add-to c =
 
 pub hand_results_at-requires : goal.hand_results_at-requires
 hand_results_at-requires c =
-    let long : 8488 ≤ length c.args.bytes.now = long_enough c.args.bytes.now refl c.requires.0 in
-    let good : Sound (session_of c.args.bytes.now) = let xs = c.args.bytes.now in sound (session_of xs) (requests_many xs) (plans_many xs) c.requires.1 in
-    let in_use : c.args.at < (session_of c.args.bytes.now).head.count = omega (arith, c.requires.2, good.done_in) in
+    let long : 8488 ≤ length c.args.bytes.now = long_enough c.args.bytes.now refl c.requires.0.0 in
+    let good = sound_there c.args.bytes.now c.requires.0.1 in
+    let in_use : c.args.at < (session_of c.args.bytes.now).head.count = omega (arith, c.requires.1, good.done_in) in
     let to_is : c.packets_before-from.result + c.packets_at.result
     ≡ plans_end c.args.at
     (session_of c.args.bytes.now) = omega (arith, c.packets_before-from.ensures, c.packets_at.ensures.0) in
@@ -56,7 +56,7 @@ hand_results_at-requires c =
     let g = good in
     let few = plans_in_lem (session_of xs) g start.args.at in_use in
     let used = InWalk.plans_in_lem (session_of xs) g.count_in g.all_few in
-    ap is_bad_plan_bytes (sym (drop-drop (7 * k) 1320 xs)) ∙ plan_clear xs start.requires.0 k (omega (arith, h, to_is, few, used))) in
+    ap is_bad_plan_bytes (sym (drop-drop (7 * k) 1320 xs)) ∙ plan_clear xs start.requires.0.0 k (omega (arith, h, to_is, few, used))) in
     let start = c in
     let few =
     (good.request
@@ -69,15 +69,15 @@ hand_results_at-requires c =
         arith,
         few,
         c.packets_at.ensures.0,
-        start.requires.3,
+        start.requires.2,
       ),
       clear,
     )
 
 pub returns : goal.returns
 returns c =
-    let good : Sound (session_of c.args.bytes.now) = let xs = c.args.bytes.now in sound (session_of xs) (requests_many xs) (plans_many xs) c.requires.1 in
-    let in_use : c.args.at < (session_of c.args.bytes.now).head.count = omega (arith, c.requires.2, good.done_in) in
+    let good = sound_there c.args.bytes.now c.requires.0.1 in
+    let in_use : c.args.at < (session_of c.args.bytes.now).head.count = omega (arith, c.requires.1, good.done_in) in
     let in_table : c.args.at < 64 = omega (arith, in_use, good.count_in) in
     let request_is : c.request_at-request.result ≡ get_or (requests_of c.args.bytes.now)
     c.args.at blank_request = let start = c in
@@ -98,6 +98,6 @@ returns c =
           + c.packets_at.result) a.results.now
           c.packets_before-from.ensures
           to_is read
-          c.is_done.ensures
+          refl
           c.hand_results_at.ensures,
     )

@@ -1,5 +1,5 @@
--- The invariant: the results still to write, written into the lent ones as they are now, give the goal. The measure is how many plans are left.
-use Rattle.std.proofs.Common.{◌≡◌, ◌+◌, ◌-◌, ◌≤◌, map, length}
+-- The invariant: the results still to write, written into the lent ones as they are now, give the goal.
+use Rattle.std.proofs.Common.{◌≡◌, ◌+◌, map, length}
 use lib.Seq.{slice, sets}
 use Rattle.session.specs.Reclaim.{result_word}
 use Rattle.port.specs.Places.{plans_of}
@@ -7,8 +7,5 @@ use Rattle.port.proofs.reclaim.hand_results_at.Given as goal
 
 abbrev pub invariant-loop-at : goal.invariant-loop-at
 invariant-loop-at l =
-    (l.from + l.n ≡ l.to) × (l.at ≤ l.n) × (length l.results ≡ length l.initial.results)
+    (length l.results ≡ length l.initial.results)
     × (sets l.results l.at (map result_word (slice (l.from + l.at) l.to (plans_of l.bytes))) ≡ sets l.initial.results 0 (map result_word (slice l.from l.to (plans_of l.bytes))))
-
-abbrev pub decreases-loop-at : goal.decreases-loop-at
-decreases-loop-at l = l.n - l.at

@@ -14,10 +14,9 @@ pub hand_out_at-requires : goal.hand_out_at-requires
 hand_out_at-requires c =
     let head_is : c.head_at-head.result ≡ (session_of c.args.bytes.now).head = c.head_at-head.ensures ∙ head_there c.args.bytes.now in (
       c.requires.0,
-      c.requires.1,
       omega (arith, c.if-at-head.true, ap (λ (h : IsoHead). h.done) head_is),
+      c.requires.1,
       c.requires.2,
-      c.requires.3,
     )
 
 pub returns-then-at-head : goal.returns-then-at-head
@@ -46,7 +45,7 @@ returns-then-at-head c =
 pub returns-then-at-head-2 : goal.returns-then-at-head-2
 returns-then-at-head-2 c =
     let head_is : c.head_at-head.result ≡ (session_of c.args.bytes.now).head = c.head_at-head.ensures ∙ head_there c.args.bytes.now in
-    let same : Left c.args.bytes.now c.args.bytes.now (session_of c.args.bytes.now) = loaded_left c.args.bytes.now c.requires.0 (λ i. omega (arith, c.slice_known-1.given i)) in
+    let same : Left c.args.bytes.now c.args.bytes.now (session_of c.args.bytes.now) = loaded_left c.args.bytes.now c.requires.0.0 (λ i. omega (arith, c.slice_known-1.given i)) in
     let a = c.args in
     let s = session_of a.bytes.now in
     let eh = head_is in
@@ -61,7 +60,7 @@ returns-then-at-head-2 c =
 pub returns : goal.returns
 returns c =
     let head_is : c.head_at-head.result ≡ (session_of c.args.bytes.now).head = c.head_at-head.ensures ∙ head_there c.args.bytes.now in
-    let same : Left c.args.bytes.now c.args.bytes.now (session_of c.args.bytes.now) = loaded_left c.args.bytes.now c.requires.0 (λ i. omega (arith, c.slice_known-1.given i)) in
+    let same : Left c.args.bytes.now c.args.bytes.now (session_of c.args.bytes.now) = loaded_left c.args.bytes.now c.requires.0.0 (λ i. omega (arith, c.slice_known-1.given i)) in
     let a = c.args in
     let s = session_of a.bytes.now in
     let eh = head_is in

@@ -19,7 +19,7 @@ returns-then-at-head c =
     omega (arith, c.if-at-head.true, ap (λ (h : IsoHead). h.done) head_is) in
     let stays = looked_found s {at = a.at} refl a.event a.ring.now less refl in
     let same =
-    loaded_left xs c.requires.0
+    loaded_left xs c.requires.0.0
     (λ i. omega (arith, c.slice_known-1.given i)) in (
       record {
         taken = ap (λ (r : IsoReply). r.taken) stays.0;

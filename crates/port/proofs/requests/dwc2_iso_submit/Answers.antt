@@ -1,26 +1,24 @@
 -- Refused at the bytes, a kind that names nothing, or submitted where the bytes stand: a law for each way out.
-use Rattle.std.proofs.Common.{arith}
-use Rattle.port.proofs.Laws.Requests.{submit_refused_lem, submit_done}
+use Rattle.std.proofs.Common.{refl, arith}
+use Rattle.port.proofs.Laws.Requests.{submit_refused_lem, submit_kind, submit_done}
+use Rattle.port.proofs.Laws.Verdict.{verdict_refused, verdict_told}
 use Rattle.port.proofs.requests.dwc2_iso_submit.Goals as goal
 
-pub returns-then-verdict-ne0 : goal.returns-then-verdict-ne0
-returns-then-verdict-ne0 c =
-    let start = c in
-    submit_refused_lem start.args.session.now
-    start.args.transfer start.args.lengths.now
-    start.args.ring.now c.verdict_at-verdict.ensures.refusal c.if-verdict-ne0.true
-    c.submit_refused.ensures
+pub returns-in-Err : goal.returns-in-Err
+returns-in-Err c =
+    let a = c.args in
+    let told = verdict_refused a.session.now c.in-Err.ensures in
+    submit_refused_lem a.session.now a.transfer a.lengths.now a.ring.now told.0 told.1 c.submit_refused.ensures
 
-pub returns : goal.returns
-returns c =
-    let start = c in
-    submit_done
-    start.args.session.now
-    start.args.transfer
-    start.args.lengths.now
-    start.args.ring.now
-    c.verdict_at-verdict.ensures.refusal
-    c.if-verdict-ne0.false
-    (omega arith)
-    c.transfer_of-t.ensures c.submit_at.ensures.0
-    c.submit_at.ensures.1 c.submit_at.ensures.2
+pub returns-then-transfer-gt3 : goal.returns-then-transfer-gt3
+returns-then-transfer-gt3 c =
+    let a = c.args in
+    submit_kind a.session.now a.transfer a.lengths.now a.ring.now refl (verdict_told a.session.now c.in-Ok.ensures) c.if-transfer-gt3.true
+    c.submit_refused-then-transfer-gt3.ensures
+
+pub returns-else-transfer-gt3 : goal.returns-else-transfer-gt3
+returns-else-transfer-gt3 c =
+    let a = c.args in
+    let done = c.submit_at.ensures in
+    submit_done a.session.now a.transfer a.lengths.now a.ring.now refl (verdict_told a.session.now c.in-Ok.ensures) (omega (arith, c.if-transfer-gt3.false))
+    c.transfer_of.ensures done.0 done.1 done.2

@@ -10,6 +10,6 @@ returns c =
     c.speed_tag.ensures
     c.direction_tag.ensures
     c.mode_tag.ensures
-    c.put_three.ensures
+    c.put.ensures
     c.put_u16.ensures
-    c.put_u16-2.ensures c.put_three-2.ensures
+    c.put_u16-2.ensures c.put-2.ensures

@@ -9,7 +9,7 @@ returns c =
     let a = early.args in
     head_put a.bytes.now a.head
     early.flag_tag.ensures
-    early.put_byte.ensures
+    early.put.ensures
     early.put_u64.ensures
     c.put_u32.ensures
     c.put_u16.ensures

@@ -5,4 +5,4 @@ use Rattle.port.proofs.save.put_mark.Goals as goal
 pub returns : goal.returns
 returns c =
     mark_put c.args.bytes.now
-    c.put_three.ensures c.put_u16.ensures
+    c.put.ensures c.put_u16.ensures

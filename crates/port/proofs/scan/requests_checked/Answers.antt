@@ -1,34 +1,31 @@
--- The invariant: a bad entry is among those still to be looked at exactly if one is in use, and the sum so far and their packets are the packets of
--- all. The measure is how many are left.
-use Rattle.std.proofs.Common.{◌≡◌, ◌+◌, ◌*◌, drop, ◌∙◌, arith}
+-- A bad one ends the walk; past a good one, what is left of the table is as bad as before, and so many packets are still to come.
+use Rattle.std.proofs.Common.{◌≡◌, ◌+◌, ◌*◌, cond, drop, ◌∙◌, ap, ap₂, sym, arith}
+use Rattle.std.specs.Prelude.{None, Some}
+use Rattle.session.specs.Session.{packets_of}
 use Rattle.session.proofs.Laws.Sums.{packets_past}
+use lib.Seq.{slice}
 use Rattle.port.specs.Places.{requests_of}
 use Rattle.port.specs.Scan.{is_bad_request_entry}
-use Rattle.port.proofs.Laws.Scans.{never}
-use Rattle.port.proofs.Laws.Tables.{any_found, any_more, any_end}
-use Rattle.port.proofs.Laws.Walks.{packets_more}
+use Rattle.port.proofs.Laws.Tables.{any_found, any_step, any_end}
+use Rattle.port.proofs.Laws.Walks.{packets_step}
 use Rattle.port.proofs.scan.requests_checked.Goals as goal
 
 pub returns-then-is_bad_entry : goal.returns-then-is_bad_entry
 returns-then-is_bad_entry c =
     let a = c.args in
     let l = c.loop-i in
-    let found = any_found is_bad_request_entry 20 a.n l.i l.at a.bytes.now (omega arith) c.is_bad_entry.ensures c.if-is_bad_entry.true in
-    (found ∙ l.invariant.3, λ e. absurd (never e))
+    let xs = a.bytes.now in
+    let found = any_found is_bad_request_entry 20 a.n l.i (40 + 20 * l.i) xs c.loop-i-test.true c.is_bad_entry.ensures c.if-is_bad_entry.true in
+    ap (λ b. cond b None (Some (packets_of (slice 0 a.n (requests_of xs))))) (found ∙ l.invariant.1)
 
 pub loop-i-preserved : goal.loop-i-preserved
 loop-i-preserved c =
     let a = c.args in
     let l = c.loop-i in
-    let xs = a.bytes.now in
-    let rest =
-    any_more is_bad_request_entry 20 a.n l.i l.at xs (omega arith) c.is_bad_entry.ensures c.if-is_bad_entry.false in
-    let place : l.at + 12 ≡ 52 + 20 * l.i = omega arith in (
-      omega arith,
-      omega arith,
-      omega (arith, c.u16_at.type_inv),
-      rest ∙ l.invariant.3,
-      packets_more xs a.n l.i l.sum _ (omega arith) (omega arith) place c.u16_at.ensures l.invariant.4,
+    let xs = a.bytes.now in (
+      omega (arith, c.packets_at-sum.ensures.1),
+      any_step is_bad_request_entry 20 a.n l.i 40 xs c.loop-i-test.true (sym c.is_bad_entry.ensures ∙ c.if-is_bad_entry.false) ∙ l.invariant.1,
+      packets_step xs a.n l.i l.sum _ c.loop-i-test.true c.requires.1 c.packets_at-sum.ensures.0 l.invariant.2,
     )
 
 pub returns : goal.returns
@@ -36,5 +33,7 @@ returns c =
     let a = c.args in
     let l = c.loop-i in
     let xs = a.bytes.now in
-    let none = any_end is_bad_request_entry 20 a.n l.i (drop l.at xs) (omega arith) in
-    (none ∙ l.invariant.3, λ e. omega (arith, packets_past l.i a.n (requests_of xs) (omega arith), l.invariant.4))
+    let none = any_end is_bad_request_entry 20 a.n l.i (drop (40 + 20 * l.i) xs) c.loop-i-test.false in
+    let all : l.sum ≡ packets_of (slice 0 a.n (requests_of xs)) =
+    omega (arith, packets_past l.i a.n (requests_of xs) c.loop-i-test.false, l.invariant.2) in
+    ap₂ (λ b n. cond b None (Some n)) (none ∙ l.invariant.1) all

@@ -14,12 +14,11 @@ use Rattle.port.proofs.submit.submit_at.Goals as goal
 pub scan_of-scan-requires : goal.scan_of-scan-requires
 scan_of-scan-requires c =
     let read : IsoChannelState = let start = c in
-    whole c.config_at-cfg.result c.head_at-head.result c.fatal_of-fatal.result
+    whole c.config_at-cfg.result c.head_at-head.result c.reason_at-fatal.result
     (session_of start.args.bytes.now).requests
     (session_of start.args.bytes.now).plans in
     let read_is : read ≡ session_of c.args.bytes.now = parts_read c.args.bytes.now
-    c.config_at-cfg.ensures c.head_at-head.ensures c.tagged_at.ensures
-    c.fatal_of-fatal.ensures in
+    c.config_at-cfg.ensures c.head_at-head.ensures c.reason_at-fatal.ensures in
     let pre = c.requires in
     let is = read_is in
     (pre.0, pre.1, ap (λ (s : IsoChannelState). s.cfg) is, ap (λ (s : IsoChannelState). s.head) is)
@@ -27,12 +26,11 @@ scan_of-scan-requires c =
 pub put_added-requires : goal.put_added-requires
 put_added-requires c =
     let read : IsoChannelState = let start = c in
-    whole c.config_at-cfg.result c.head_at-head.result c.fatal_of-fatal.result
+    whole c.config_at-cfg.result c.head_at-head.result c.reason_at-fatal.result
     (session_of start.args.bytes.now).requests
     (session_of start.args.bytes.now).plans in
     let read_is : read ≡ session_of c.args.bytes.now = parts_read c.args.bytes.now
-    c.config_at-cfg.ensures c.head_at-head.ensures c.tagged_at.ensures
-    c.fatal_of-fatal.ensures in
+    c.config_at-cfg.ensures c.head_at-head.ensures c.reason_at-fatal.ensures in
     let asked : Asked read
     c.args.transfer
     c.args.lengths.now
@@ -61,12 +59,11 @@ pub returns : goal.returns
 returns c =
     let octets : Octets c.args.bytes.now = (λ i. omega (arith, c.slice_known-1.given i)) in
     let read : IsoChannelState = let start = c in
-    whole c.config_at-cfg.result c.head_at-head.result c.fatal_of-fatal.result
+    whole c.config_at-cfg.result c.head_at-head.result c.reason_at-fatal.result
     (session_of start.args.bytes.now).requests
     (session_of start.args.bytes.now).plans in
     let read_is : read ≡ session_of c.args.bytes.now = parts_read c.args.bytes.now
-    c.config_at-cfg.ensures c.head_at-head.ensures c.tagged_at.ensures
-    c.fatal_of-fatal.ensures in
+    c.config_at-cfg.ensures c.head_at-head.ensures c.reason_at-fatal.ensures in
     let asked : Asked read
     c.args.transfer
     c.args.lengths.now

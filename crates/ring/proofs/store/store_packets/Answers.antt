@@ -1,18 +1,19 @@
--- The invariant: what is left of the plan, stored into the ring as it is now, gives the goal; two words went into each turn; `slot` is the next
--- packet's, and `addr` its address in 32 bits. The measure is what is left of the whole packets.
-use Rattle.std.proofs.Common.{◌≡◌, ℕ, ◌+◌, ◌-◌, ◌*◌, ◌%◌, max, map, get_or, take, sym, refl, ap, ◌∙◌, arith}
+-- A turn stores a whole packet, and what comes after the loop is the packet behind them: the last, or one that is cut.
+use Rattle.std.proofs.Common.{◌≡◌, ℕ, ◌+◌, ◌-◌, ◌*◌, ◌%◌, ◌<◌, max, length, map, get_or, take, false, eqb, sym, refl, ap, ◌∙◌, arith}
 use native.Mathlib.Nat.{mod-add-mod}
+use Rattle.std.proofs.lemmas.List.{get_or-take, length-take}
+use Rattle.words.specs.Words.{iso_status}
 use Rattle.ring.specs.Stores.{stored, stores_from, as_word}
 use Rattle.ring.proofs.Steps.{first_slot}
 use Rattle.ring.proofs.Stores.{slot_more, stored_whole, stored_some}
 use Rattle.ring.proofs.store.store_packets.Goals as goal
 
-pub loop-i-init : goal.loop-i-init
-loop-i-init c =
+pub loop-length-init : goal.loop-length-init
+loop-length-init c =
     let a = c.args in
+    let size : c.max-size.result ≡ max 1 a.slots = omega arith in
     let all : a.words - 0 ≡ a.words = omega arith in (
-      omega arith,
-      ap (λ (R : ℕ). a.insert % R) c.at_least_one-size.ensures ∙ sym (first_slot (max 1 a.slots) a.insert a.step),
+      ap (λ (R : ℕ). a.insert % R) size ∙ sym (first_slot (max 1 a.slots) a.insert a.step),
       refl,
       (
         a.base,
@@ -21,53 +22,58 @@ loop-i-init c =
       ),
     )
 
-pub loop-i-preserved : goal.loop-i-preserved
-loop-i-preserved c =
+pub loop-length-preserved : goal.loop-length-preserved
+loop-length-preserved c =
     let a = c.args in
-    let now = c.loop-i in
+    let now = c.loop-length in
+    let i = now.length-index in
+    let inv = now.invariant in
     let d = c.new_iso-desc in
     let put = c.put_some in
-    let len : ℕ = get_or a.lengths.now now.i 0 in
-    let some = c.at_least_one-size in
-    let size : max 1 some.result ≡ max 1 a.slots = omega arith in
-    let next = c.next_slot-slot.ensures ∙ ap (λ (R : ℕ). (now.slot + a.step) % R) size in (
-      omega arith,
-      slot_more (max 1 a.slots) a.insert a.step now.i now.slot c.next_slot-slot.result now.invariant.1 next,
-      put.auto.ring ∙ now.invariant.2,
+    let size : max 1 c.max-size.result ≡ max 1 a.slots = omega arith in
+    let next = c.next_slot-slot.ensures ∙ ap (λ (R : ℕ). (now.slot + a.step) % R) size in
+    let low : i < c.min-whole.result = omega (arith, length-take c.min-whole.result a.lengths.now) in
+    let len : get_or (take c.min-whole.result a.lengths.now) i 0 ≡ get_or a.lengths.now i 0 = get_or-take c.min-whole.result a.lengths.now i 0 low in (
+      slot_more (max 1 a.slots) a.insert a.step i now.slot c.next_slot-slot.result inv.0 next,
+      put.auto.ring ∙ inv.1,
       (
-        now.invariant.3.0 + len,
-        c.wrapping_add_u32-addr.ensures.value ∙ ap (λ (x : ℕ). (x + len) % 4_294_967_296) now.invariant.3.1 ∙ mod-add-mod now.invariant.3.0 4_294_967_296 len,
-        stored_whole (max 1 a.slots) a.insert a.step now.i now.invariant.3.0 a.lengths.now now.slot now.addr d.result
-            now.invariant.1
-            now.invariant.3.1
+        inv.2.0 + get_or a.lengths.now i 0,
+        ap (λ (n : ℕ). (now.addr + n) % 4_294_967_296) len ∙ ap (λ (x : ℕ). (x + get_or a.lengths.now i 0) % 4_294_967_296) inv.2.1
+            ∙ mod-add-mod inv.2.0 4_294_967_296 (get_or a.lengths.now i 0),
+        stored_whole (max 1 a.slots) a.insert a.step i inv.2.0 a.lengths.now now.slot now.addr d.result
+            inv.0
+            inv.2.1
             (omega arith)
-            d.ensures
-            (a.words - 2 * now.i)
-            (a.words - 2 * (now.i + 1))
+            (d.ensures ∙ ap (λ (n : ℕ). record { status = iso_status n false; paddr = now.addr }) len)
+            (a.words - 2 * i)
+            (a.words - 2 * (i + 1))
             now.ring
             put.new.ring
             (omega arith)
             put.ensures
-            ∙ now.invariant.3.2,
+            ∙ inv.2.2,
       ),
     )
 
-pub returns-then-i-lengths : goal.returns-then-i-lengths
-returns-then-i-lengths c =
+pub returns-in-Some : goal.returns-in-Some
+returns-in-Some c =
     let a = c.args in
-    let now = c.loop-i in
-    let d = c.new_iso-desc-then-i-lengths in
-    let put = c.put_some-then-i-lengths in
-    stored_some (max 1 a.slots) a.insert a.step now.i now.invariant.3.0 a.lengths.now now.slot now.addr d.result
-    now.invariant.1
-    now.invariant.3.1
-    (omega arith)
-    d.ensures
-    (a.words - 2 * now.i)
-    (a.words - 2 * c.before_last-whole.result)
+    let now = c.loop-length in
+    let inv = now.invariant in
+    let d = c.new_iso-desc-in-Some in
+    let put = c.put_some-in-Some in
+    let at : now.length-index ≡ c.min-whole.result = omega (arith, length-take c.min-whole.result a.lengths.now) in
+    let found = c.in-Some.ensures.lookup in
+    stored_some (max 1 a.slots) a.insert a.step now.length-index inv.2.0 a.lengths.now now.slot now.addr d.result
+    inv.0
+    inv.2.1
+    (omega (arith, at, found))
+    (rw (at) (d.ensures ∙ ap (λ (n : ℕ). record { status = iso_status n (eqb (c.min-whole.result + 1) (length a.lengths.now)); paddr = now.addr }) (found.3.1 0)))
+    (a.words - 2 * now.length-index)
+    (a.words - 2 * c.min-whole.result)
     now.ring
     put.new.ring
-    (omega arith)
-    (λ two. omega arith)
+    (omega (arith, at))
+    (λ two. omega (arith, at))
     put.ensures
-    ∙ now.invariant.3.2
+    ∙ inv.2.2

@@ -1,7 +1,7 @@
 -- `asked` answers from the walk: the first packet's slot goes by the newest's that it found, the clash by its marks.
-use mathlib.Core.Path.{◌∙◌}
+use mathlib.Core.Path.{◌∙◌, subst}
 use lib.ListN.{length}
-use Rattle.session.specs.Scan.{whole}
+use Rattle.session.specs.Scan.{whole, Scanned}
 use Rattle.session.specs.Way.{pending_plans}
 use Rattle.session.proofs.Laws.Held.{clash_marked}
 use Rattle.session.proofs.Laws.Scans.{found_at}
@@ -12,10 +12,8 @@ returns-then-lengths-le255 c = λ fatal requests plans w.
     let a = c.args in
     let insert = c.insert_of-insert in
     let s = whole a.cfg a.head fatal requests plans in
-    record {
-      bad = w.bad;
-      found = λ good.
-          let walked = w.found good in
-          found_at s a.transfer a.lengths.now a.ring.now _ walked.all walked.pending walked.tail insert.ensures (λ few.
-          c.clash.ensures ∙ clash_marked a.cfg a.scan.held (pending_plans s) walked.held insert.result (length a.lengths.now));
-    }
+    let walked = subst (Scanned s) c.in_ok-scan.was w in (
+      walked.0,
+      found_at s a.transfer a.lengths.now a.ring.now _ walked.1.all walked.1.pending walked.1.tail insert.ensures (λ few.
+          c.clash.ensures ∙ clash_marked a.cfg c.in_ok-scan.scan.held (pending_plans s) walked.1.held insert.result (length a.lengths.now)),
+    )

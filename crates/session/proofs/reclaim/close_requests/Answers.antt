@@ -1,9 +1,0 @@
--- The walk that moves entries down in the table. The measure is how many are left.
-use mathlib.Core.Path.{refl}
-use native.Mathlib.Omega.{arith}
-use Rattle.session.specs.Session.{blank_request}
-use Rattle.session.proofs.Laws.Lists.{walk_on}
-use Rattle.session.proofs.reclaim.close_requests.Goals as goal
-
-pub loop-i-preserved : goal.loop-i-preserved
-loop-i-preserved c = walk_on blank_request _ c.loop-i.invariant (omega arith) (omega arith) (λ rest. refl)
