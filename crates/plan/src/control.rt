@@ -1,5 +1,5 @@
 // Control transfers on endpoint 0: document 01, "Planning transfers"; USB 2.0, 8.5.3.
-ghost use Rattle.std.specs.Prelude.{◌≡◌, ◌≤◌, length, Ok, ⊤};
+ghost use Rattle.std.specs.Prelude.{◌≡◌, ◌≤◌, length, Ok};
 ghost use Rattle.plan.specs.Planning.{stage_of, laid_out};
 ghost use Rattle.plan.specs.ControlPlan.{control_size, status_direction, status_addr, control_hcchar, status_way, setup_stage, data_stage_of, status_stage, control_stages};
 ghost use Rattle.plan.specs.ControlPlan.{control_beyond, control_answer, planned_control, control_plan, control_array};

@@ -1,5 +1,5 @@
 // Bulk and interrupt transfers: document 01, "Planning transfers".
-ghost use Rattle.std.specs.Prelude.{◌≡◌, ◌<◌, ◌≤◌, false, length, nat_lt, Ok, ⊤};
+ghost use Rattle.std.specs.Prelude.{◌≡◌, ◌<◌, ◌≤◌, false, length, nat_lt, Ok};
 ghost use Rattle.words.specs.Words.{initial_len};
 ghost use Rattle.plan.specs.Planning.{split_of, laid_out};
 ghost use Rattle.plan.specs.DataStages.{is_in, size_of, data_hcchar, data_stage, blank_plan, with_stage, data_answer, data_stages, planned_data, data_plan, data_array};

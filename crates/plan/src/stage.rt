@@ -1,5 +1,5 @@
 // A stage's descriptors in the caller's array, written before it runs and read back after: document 01, "Planning transfers".
-ghost use Rattle.std.specs.Prelude.{◌≡◌, ◌+◌, ◌-◌, ◌*◌, ◌<◌, ◌≤◌, length, ◌==◌, slice_set, Ok, ⊤};
+ghost use Rattle.std.specs.Prelude.{◌≡◌, ◌+◌, ◌-◌, ◌*◌, ◌<◌, ◌≤◌, length, ◌==◌, slice_set, Ok};
 ghost use Rattle.plan.specs.declared.types.Dwc2StageRole.TheVariants.{Data};
 ghost use Rattle.std.proofs.lemmas.List.Edits.{sets};
 ghost use Rattle.words.specs.Field.{get};

@@ -11,6 +11,7 @@ use crate::reply::{IsoCompletion, IsoEvent, IsoReply, Reclaimed, done};
 use crate::tables::packets_of;
 use crate::types::{IsoChannelState, IsoOutcome, IsoPacketPlan, IsoRequest, TransferStatus};
 
+// Public for who holds a record in bytes (docs/PROMISES.md); here the library's `==` says the same.
 pub fn is_done(outcome: IsoOutcome) -> bool
     ensures { result ≡ is_done outcome }
 {

@@ -1,6 +1,6 @@
 // Refusal 18: document 01, "Refusal numbers". The entries in use are walked where they stand, by lent parts of the tables. What a
 // submission asks of the tables is found on the way.
-ghost use Rattle.std.specs.Prelude.{◌≡◌, not, ◌||◌, ◌&&◌, cond, false, ℕ, ◌≤◌, ◌<◌, leb, ltb, get_or, length};
+ghost use Rattle.std.specs.Prelude.{◌≡◌, not, ◌||◌, ◌&&◌, false, ℕ, ◌<◌, leb, ltb, get_or, length};
 ghost use Rattle.session.specs.Record.{is_bad_config, is_bad_request, any_bad_request, is_bad_plan, any_bad_plan, is_bad_record};
 ghost use Rattle.session.specs.Scan.{Scanned};
 ghost use Rattle.session.specs.Session.{has_reason, room, blank_plan};
@@ -59,6 +59,7 @@ pub fn is_bad_plan(limit: u16, slots: u16, plan: IsoPacketPlan) -> bool
     (plan.planned > limit) | ((plan.actual > plan.planned) | (plan.desc_index >= slots))
 }
 
+// Public for who holds a record in bytes (docs/PROMISES.md); here the library's method says the same.
 pub fn has_reason(fatal: Option<IsoHaltReason>) -> bool
     ensures { result ≡ has_reason fatal }
 {

@@ -1,7 +1,7 @@
 // Submission: document 01, "Submit". The way is decided first; nothing is stored before the last check but gate 2. What the way does
 // to ring, numbers, answer and start is `submit_parts`, on small things; the tables are written in place, by who holds them, since a
 // method that is handed the session copies it.
-ghost use Rattle.std.specs.Prelude.{◌≡◌, Option, Some, None, List, ◌+◌, ◌≤◌, T, length, take};
+ghost use Rattle.std.specs.Prelude.{◌≡◌, Option, Some, List, ◌+◌, ◌≤◌, T, length, take};
 ghost use Rattle.session.specs.declared.types.IsoHaltReason.{IsoHaltReason};
 ghost use Rattle.session.specs.declared.types.IsoRequest.{IsoRequest};
 ghost use Rattle.session.specs.declared.types.IsoPacketPlan.{IsoPacketPlan};

@@ -37,7 +37,7 @@ pub(crate) fn packets_of(requests: &[IsoRequest]) -> usize
         .sum()
 }
 
-// What is left of `all`.
+// What is left of `all`. Public for who holds a record in bytes (docs/PROMISES.md); here the library's method says the same.
 pub fn rest(all: u32, used: u32) -> usize
     ensures { result ≡ all - used }
 {

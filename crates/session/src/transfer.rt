@@ -33,7 +33,7 @@ pub struct SubmitScan {
 }
 
 // The way that a submission goes: refused with nothing altered, refused with its number spent, unplugged at a gate, cut, or
-// accepted.
+// accepted. Ring, numbers and answer each follow it by a match of their own: one match for all three would say three things at once.
 #[derive(Clone, Copy, Debug, PartialEq, Eq)]
 pub enum SubmitWay {
     Refuse(IsoRefusal),

@@ -20,6 +20,7 @@ use crate::transfer::{IsoTransfer, SubmitScan, SubmitWay};
 use crate::types::{IsoConfig, IsoHaltReason, IsoHead, IsoMode};
 use ring::{Speed, iso_max_xfer_size};
 
+// Public for who holds a record in bytes (docs/PROMISES.md); here the library's `==` says the same.
 pub fn is_guarded(mode: IsoMode) -> bool
     ensures { result ≡ is_guarded mode }
 {
