@@ -14,7 +14,7 @@ use Rattle.session.specs.declared.transfer.SubmitScan.{SubmitScan}
 use Rattle.session.specs.declared.transfer.SubmitWay.{SubmitWay}
 use Rattle.session.specs.declared.transfer.SubmitWay.TheVariants.{Refuse, TooLong, Spend, Early, Cut, Late, Accept}
 use Rattle.session.specs.Session.{slots, ring_words, cleared, all_packets, pending_packets}
-use Rattle.session.specs.Record.{is_bad_record}
+use Rattle.session.specs.Record.{any_bad_plan, is_bad_record}
 use Rattle.ring.specs.Stores.{stored, stores_from}
 use Rattle.session.specs.Place.{step_of, start_at, tail_slot, insert_of}
 use Rattle.session.specs.Way.{is_held, pending_plans, is_clash}
@@ -33,6 +33,11 @@ pub record Walked (s : IsoChannelState) (r : RecordScan) : Type 0 where
   pub pending : r.pending ≡ pending_packets s
   pub tail : r.tail ≡ tail_slot s
   pub held : (k : ℕ) → k < 256 → get_or r.held k false ≡ is_held (pending_plans s) k
+
+-- the slots that the plans of pending packets have, where none of these is bad
+abbrev pub Marked : ℕ → ℕ → List IsoPacketPlan → Option (List Bool) → Type 0
+Marked limit size plans None = any_bad_plan limit size plans ≡ true
+Marked limit size plans (Some held) = (any_bad_plan limit size plans ≡ false) × ((k : ℕ) → k < 256 → get_or held k false ≡ is_held plans k)
 
 -- a record that the walk finds nothing of is bad
 abbrev pub Scanned : IsoChannelState → Option RecordScan → Type 0

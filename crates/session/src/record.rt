@@ -1,13 +1,11 @@
 // Refusal 18: document 01, "Refusal numbers". The entries in use are walked where they stand, by lent parts of the tables. What a
 // submission asks of the tables is found on the way.
-ghost use Rattle.std.specs.Prelude.{◌≡◌, not, ◌||◌, ◌&&◌, false, ℕ, ◌<◌, leb, ltb, get_or, length};
+ghost use Rattle.std.specs.Prelude.{◌≡◌, not, ◌||◌, ◌&&◌, ◌≤◌, leb, ltb, ◌*◌, cond, None, Some, IfSome, length};
 ghost use Rattle.session.specs.Record.{is_bad_config, is_bad_request, any_bad_request, is_bad_plan, any_bad_plan, is_bad_record};
-ghost use Rattle.session.specs.Scan.{Scanned};
-ghost use Rattle.session.specs.Session.{has_reason, room, blank_plan};
-ghost use Rattle.session.specs.Way.{is_held};
+ghost use Rattle.session.specs.Scan.{Scanned, Marked};
+ghost use Rattle.session.specs.Session.{has_reason, room, packets_of};
 
 use crate::place::{slots_of, step_of};
-use crate::tables::packets_of;
 use crate::types::{IsoChannelState, IsoConfig, IsoHaltReason, IsoHead, IsoPacketPlan, IsoRequest};
 use ring::{iso_max_packets, iso_max_xfer_size};
 
@@ -73,10 +71,20 @@ pub fn is_bad_state(head: IsoHead, slots: u16, fatal: Option<IsoHaltReason>) -> 
     (head.td_last >= slots) | (!head.live & ((head.done < head.count) | fatal.is_some()))
 }
 
-fn any_bad_request(requests: &[IsoRequest]) -> bool
-    ensures { result ≡ any_bad_request requests.now }
+// The packets of requests, unless one of these is bad.
+fn packets_counted(requests: &[IsoRequest]) -> Option<usize>
+    requires { length requests.now ≤ 64 }
+    ensures counted { result ≡ cond (any_bad_request requests.now) None (Some (packets_of requests.now)) }
+    ensures few { IfSome result (λ packets. packets ≤ 65535 * 64) }
 {
-    requests.iter().any(|&request| is_bad_request(request))
+    let mut sum = 0;
+    for request in requests {
+        if is_bad_request(*request) {
+            return None;
+        }
+        sum += usize::from(request.packets);
+    }
+    Some(sum)
 }
 
 fn any_bad_plan(limit: u16, slots: u16, plans: &[IsoPacketPlan]) -> bool
@@ -85,16 +93,19 @@ fn any_bad_plan(limit: u16, slots: u16, plans: &[IsoPacketPlan]) -> bool
     plans.iter().any(|&plan| is_bad_plan(limit, slots, plan))
 }
 
-// A mark for each slot that one of the plans has.
-fn marks_of(plans: &[IsoPacketPlan]) -> [bool; 256]
-    requires { (i : ℕ) → i < length plans.now → (get_or plans.now i blank_plan).desc_index < 256 }
-    ensures { (k : ℕ) → k < 256 → get_or result k false ≡ is_held plans.now k }
+// A mark for each slot that one of the plans has, unless one of these is bad.
+fn marks_of(limit: u16, slots: u16, plans: &[IsoPacketPlan]) -> Option<[bool; 256]>
+    requires { slots ≤ 256 }
+    ensures { Marked limit slots plans.now result }
 {
     let mut held = [false; 256];
     for plan in plans {
+        if is_bad_plan(limit, slots, *plan) {
+            return None;
+        }
         held[plan.desc_index as usize] = true;
     }
-    held
+    Some(held)
 }
 
 impl IsoChannelState {
@@ -115,25 +126,26 @@ impl IsoChannelState {
         if is_bad_config(self.cfg) | ((head.count < head.done) | (head.count > 64)) {
             return None;
         }
-        if any_bad_request(&self.requests[..count]) {
-            return None;
-        }
-        let all = packets_of(&self.requests[..count]);
-        let pending = packets_of(&self.requests[done..count]);
+        let before = packets_counted(&self.requests[..done])?;
+        let pending = packets_counted(&self.requests[done..count])?;
+        let all = before + pending;
         if (all > 1_024) | (pending > room(self.cfg) as usize) {
             return None;
         }
+        let limit = iso_max_xfer_size(self.cfg.speed);
         let slots = slots_of(self.cfg);
-        if any_bad_plan(iso_max_xfer_size(self.cfg.speed), slots, &self.plans[..all])
-            | is_bad_state(head, slots, self.fatal)
-        {
+        if any_bad_plan(limit, slots, &self.plans[..before]) {
+            return None;
+        }
+        let held = marks_of(limit, slots, &self.plans[before..all])?;
+        if is_bad_state(head, slots, self.fatal) {
             return None;
         }
         Some(RecordScan {
             all: all as u32,
             pending: pending as u32,
             tail: self.plans[all.saturating_sub(1)].desc_index,
-            held: marks_of(&self.plans[all - pending..all]),
+            held,
         })
     }
 }

@@ -1,5 +1,8 @@
 -- What a walk over the tables finds: slots of the ring, and what a submission asks.
-use mathlib.Core.Path.{◌≡◌, ◌∙◌, sym, ap}
+use mathlib.Core.Path.{◌≡◌, ◌∙◌, sym, ap, refl, subst⁻¹}
+use Rattle.std.proofs.Common.{ap₂, take-add}
+use Rattle.std.specs.List.{list_any}
+use Rattle.std.proofs.lemmas.List.Folds.{list_any-append}
 use mathlib.Core.Bool.{Bool, true, false, not, ◌||◌, ◌&&◌, cond}
 use mathlib.Core.List.{List}
 use Prim.Native.Nat.{ℕ, ◌+◌, ◌-◌, ◌≤◌, ◌<◌}
@@ -18,8 +21,9 @@ use Rattle.session.specs.declared.transfer.SubmitScan.{SubmitScan}
 use Rattle.session.specs.Session.{blank_plan, slots, room, packets_of, all_packets, pending_packets, has_reason}
 use Rattle.session.specs.Place.{step_of, tail_slot, insert_at, insert_of}
 use Rattle.session.specs.Way.{is_guarded, any_held, pending_plans}
-use Rattle.session.specs.Scan.{Found, Asked, none_asked}
-use Rattle.session.specs.Record.{is_bad_config, is_bad_counts, any_bad_request, is_bad_sums, any_bad_plan, is_bad_state, is_bad_record}
+use Rattle.session.specs.declared.record.RecordScan.{RecordScan}
+use Rattle.session.specs.Scan.{Scanned, Found, Asked, none_asked}
+use Rattle.session.specs.Record.{is_bad_config, is_bad_counts, is_bad_request, any_bad_request, is_bad_sums, is_bad_plan, any_bad_plan, is_bad_state, is_bad_record}
 use Rattle.words.proofs.Laws.Tests.{neither}
 use Rattle.session.proofs.Laws.Sums.{packets_split}
 use Rattle.session.proofs.Laws.Record.{good_plans}
@@ -37,6 +41,24 @@ slots_below limit size all f plans e few fits h i l =
     ∙ sym (get_or-take all plans (f + i) blank_plan (omega arith)) in
     let good = good_plans limit size (take all plans) e (f + i) (omega (arith, length-take-le all plans fits)) in
     omega (arith, ap (λ (p : IsoPacketPlan). p.desc_index) same, good.slot)
+
+-- a count of packets that is there, and one that is not
+counted_none : (b : Bool) (m : ℕ) → None ≡ cond b None (Some m) → b ≡ true
+counted_none true m e = refl
+counted_none false m e = grind arith
+
+pub counted_some : (b : Bool) {n m : ℕ} → Some n ≡ cond b None (Some m) → (b ≡ false) × (n ≡ m)
+counted_some true e = grind arith
+counted_some false e = (refl, grind arith)
+
+-- a first part of a list and what stands behind it, up to an end
+parts : {A : Type 0} (test : A → Bool) (from to : ℕ) (l : List A) → from ≤ to
+    → list_any test (take to l) ≡ (list_any test (take from l) || list_any test (take (to - from) (drop from l)))
+parts test from to l h =
+    let all : from + (to - from) ≡ to = omega (arith, h) in
+    sym (ap (λ (n : ℕ). list_any test (take n l)) all)
+    ∙ ap (list_any test) (take-add from (to - from) l)
+    ∙ list_any-append test (take from l) (take (to - from) (drop from l))
 
 -- what the walk counts, from what its tests answered
 module _ (s : IsoChannelState) (long : length s.requests ≡ 64) {config : Bool} (is : config ≡ is_bad_config s.cfg) (past : (config || is_bad_counts s) ≡ false) where
@@ -57,6 +79,56 @@ module _ (s : IsoChannelState) (long : length s.requests ≡ 64) {config : Bool}
       let within : s.head.count ≤ length s.requests = omega (arith, ltb-false 64 s.head.count fits.1) in
       omega (arith, packets_split s.head.done s.head.count s.requests done_in within)
 
+  -- the completed requests and the pending ones, each counted where none is bad
+  abbrev Done : Option ℕ → Type 0
+  Done r = r ≡ cond (any_bad_request (take s.head.done s.requests)) None (Some (packets_of (take s.head.done s.requests)))
+
+  abbrev Pending : Option ℕ → Type 0
+  Pending r =
+      let rs = take (s.head.count - s.head.done) (drop s.head.done s.requests) in
+      r ≡ cond (any_bad_request rs) None (Some (packets_of rs))
+
+  both_parts :
+      any_bad_request (slice 0 s.head.count s.requests)
+      ≡ (any_bad_request (take s.head.done s.requests) || any_bad_request (take (s.head.count - s.head.done) (drop s.head.done s.requests)))
+  both_parts = parts is_bad_request s.head.done s.head.count s.requests done_in
+
+  bad_requests : any_bad_request (slice 0 s.head.count s.requests) ≡ true → is_bad_record s ≡ true
+  bad_requests e = rw (past_counts, e)
+
+  pub bad_done : Done None → is_bad_record s ≡ true
+  bad_done e =
+      let bad = counted_none (any_bad_request (take s.head.done s.requests)) _ e in
+      bad_requests
+      (both_parts ∙ ap (λ (b : Bool). b || any_bad_request (take (s.head.count - s.head.done) (drop s.head.done s.requests))) bad)
+
+  module _ {before : ℕ} (ed : Done (Some before)) where
+    clear : any_bad_request (take s.head.done s.requests) ≡ false
+    clear = (counted_some (any_bad_request (take s.head.done s.requests)) ed).0
+
+    pub bad_pending : Pending None → is_bad_record s ≡ true
+    bad_pending e =
+        let rs = take (s.head.count - s.head.done) (drop s.head.done s.requests) in
+        let bad = counted_none (any_bad_request rs) _ e in
+        bad_requests (both_parts ∙ ap₂ (λ (a b : Bool). a || b) clear bad)
+
+    module _ {pending : ℕ} (ep : Pending (Some pending)) where
+      pub none_bad : false ≡ any_bad_request (slice 0 s.head.count s.requests)
+      none_bad =
+          let rs = take (s.head.count - s.head.done) (drop s.head.done s.requests) in
+          sym (both_parts ∙ ap₂ (λ (a b : Bool). a || b) clear (counted_some (any_bad_request rs) ep).0)
+
+      pub its_pending : pending ≡ pending_packets s
+      its_pending =
+          let rs = take (s.head.count - s.head.done) (drop s.head.done s.requests) in
+          (counted_some (any_bad_request rs) ep).1 ∙ pending_is
+
+      pub its_all : before + pending ≡ all_packets s
+      its_all =
+          let within : s.head.count ≤ length s.requests = omega (arith, long, ltb-false 64 s.head.count fits.1) in
+          omega
+          (arith, (counted_some (any_bad_request (take s.head.done s.requests)) ed).1, its_pending, packets_split s.head.done s.head.count s.requests done_in within)
+
   -- the tests that follow decide, one behind the other
   module _ {requests : Bool} (er : requests ≡ any_bad_request (slice 0 s.head.count s.requests)) (good : requests ≡ false) {all pending most : ℕ}
       (ea : all ≡ all_packets s) (ep : pending ≡ pending_packets s) (em : most ≡ room s.cfg) where
@@ -72,6 +144,21 @@ module _ (s : IsoChannelState) (long : length s.requests ≡ 64) {config : Bool}
     pub few_plans : (ltb 1024 all || ltb most pending) ≡ false → all ≤ 1024
     few_plans e = ltb-false 1024 all (neither (ltb 1024 all) (ltb most pending) e).0
 
+    -- the plans of completed requests and of pending ones are all plans in use
+    pub plan_parts :
+        (limit size before : ℕ) → before ≤ all
+        → (any_bad_plan limit size (take before s.plans) || any_bad_plan limit size (take (all - before) (drop before s.plans))) ≡ any_bad_plan limit size (take all s.plans)
+    plan_parts limit size before h = sym (parts (is_bad_plan limit size) before all s.plans h)
+
+    pub bad_left :
+        {limit size : ℕ} {plans : Bool} → (ltb 1024 all || ltb most pending) ≡ false → limit ≡ packet_limit s.cfg.speed → size ≡ slots s.cfg
+        → plans ≡ any_bad_plan limit size (take all s.plans) → plans ≡ true
+        → is_bad_record s ≡ true
+    bad_left e el ez eb is =
+        let sums : is_bad_sums s ≡ false = sym sums_are ∙ e in
+        let bad : any_bad_plan (packet_limit s.cfg.speed) (slots s.cfg) (slice 0 (all_packets s) s.plans) ≡ true = rw (← el, ← ez, ← ea, ← eb) is in
+        rw (past_counts, past_requests, sums, bad)
+
     pub not_bad_left :
         {limit size : ℕ} {plans state : Bool} → (ltb 1024 all || ltb most pending) ≡ false → limit ≡ packet_limit s.cfg.speed → size ≡ slots s.cfg
         → plans ≡ any_bad_plan limit size (take all s.plans)
@@ -83,6 +170,10 @@ module _ (s : IsoChannelState) (long : length s.requests ≡ 64) {config : Bool}
         let none : any_bad_plan (packet_limit s.cfg.speed) (slots s.cfg) (slice 0 (all_packets s) s.plans) ≡ false = rw (← el, ← ez, ← ea, ← eb) n.0 in
         let well : is_bad_state s ≡ false = rw (← ez, ← es) n.1 in
         rw (past_counts, past_requests, sums, none, well)
+
+-- nothing is found of a bad record
+pub scanned_none : (s : IsoChannelState) {r : Option RecordScan} → r ≡ None → is_bad_record s ≡ true → Scanned s r
+scanned_none s e bad = subst⁻¹ (Scanned s) e bad
 
 -- what was asked of a record that is not bad
 pub asked_found :
