@@ -1,11 +1,15 @@
 // The list, line by line: the call is made, and its answers are judged.
+ghost use Rattle.std.specs.Prelude.{IfSome, ◌<◌};
+
 use crate::answers::{Line, Verdict, put};
 use crate::kinds::{Kind, kind_of};
 use crate::session_calls::store;
 use crate::tally::Tally;
 
 // The value of a figure or a capital from A to F.
-fn digit(byte: u8) -> Option<u8> {
+fn digit(byte: u8) -> Option<u8>
+    ensures { IfSome result (λ digit. digit < 16) }
+{
     match byte {
         b'0'..=b'9' => Some(byte - b'0'),
         b'A'..=b'F' => Some(byte - b'A' + 10),
