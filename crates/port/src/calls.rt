@@ -80,10 +80,12 @@ pub fn dwc2_iso_poll(
         ≡ words_by session.old ring.old
         (λ (s : IsoChannelState). polled_ring s (event_of reported unplugged hcint) ring.old)) }
 {
-    let event = event_of(reported, unplugged, hcint);
     match verdict_at(session) {
         Err(refusal) => reply_refused(refusal),
-        Ok(sums) => poll_on(session, sums.is_none(), event, ring),
+        Ok(sums) => {
+            let bad = sums.is_none();
+            poll_on(session, bad, event_of(reported, unplugged, hcint), ring)
+        }
     }
 }
 

@@ -115,7 +115,8 @@ pub(crate) fn is_bad_front(bytes: &[u8]) -> bool
                 | ((byte_at(bytes, 7) > 1) | ((byte_at(bytes, 15) > 1) | is_bad_reason(bytes)))))
 }
 
-// Refuses bytes that are no session of the layout.
+// Refuses bytes that are no session of the layout. Few calls need it, and so it is put into none.
+#[inline(never)]
 pub(crate) fn layout_refusal(bytes: &[u8]) -> Result<(), IsoRefusal>
     ensures { result ≡ layout_refusal bytes.now }
 {

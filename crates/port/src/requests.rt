@@ -99,7 +99,8 @@ pub fn dwc2_iso_submit(
     match verdict_at(session) {
         Err(refusal) => submit_refused(refusal),
         Ok(sums) => {
-            if transfer.kind > 3 {
+            let unnamed = transfer.kind > 3;
+            if unnamed {
                 return submit_refused(IsoRefusal::BadRecord);
             }
             submit_at(session, sums, transfer_of(transfer), lengths, ring)

@@ -7,7 +7,8 @@ use crate::load::layout_refusal;
 use crate::scan::{RequestSums, sums_at};
 use session::IsoRefusal;
 
-// Refused, or what the record tells: nothing where it is bad.
+// Refused, or what the record tells: nothing where it is bad. It is put into each call, so that an empty session is told before a walk is called.
+#[inline(always)]
 pub(crate) fn verdict_at(bytes: &[u8]) -> Result<Option<RequestSums>, IsoRefusal>
     ensures { result ≡ verdict_of bytes.now }
 {

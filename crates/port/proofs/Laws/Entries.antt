@@ -137,6 +137,23 @@ pub pair : (ys : List ℕ) → u16_of ys ≡ byte_of ys + 256 * byte_of (drop 1 
 unfolding u16_of byte_of
 pair ys = ap (λ (n : ℕ). get_or ys 0 0 + 256 * n) (sym (get_or-drop 1 ys 0 0))
 
+-- eight bytes by the fields of a plan, which are the last seven of them
+pub by_plan :
+    (ys : List ℕ)
+    → u64_of ys
+    ≡ byte_of ys
+    + 256 * u16_of (drop 1 ys)
+    + 16777216 * u16_of (drop 3 ys)
+    + 1099511627776 * u16_of (drop 5 ys)
+    + 72057594037927936 * byte_of (drop 7 ys)
+unfolding u64_of u32_of u16_of byte_of
+by_plan ys =
+    let at : (k i : ℕ) → get_or (drop k ys) i 0 ≡ get_or ys (k + i) 0 = λ k i. get_or-drop k ys i 0 in
+    let six : drop 2 (drop 4 ys) ≡ drop 6 ys = drop-drop 2 4 ys in
+    let low = ap (λ (l : List ℕ). get_or l 0 0) six in
+    let high = ap (λ (l : List ℕ). get_or l 1 0) six in
+    omega (arith, low, high, at 1 0, at 1 1, at 2 0, at 2 1, at 3 0, at 3 1, at 4 0, at 4 1, at 5 0, at 5 1, at 6 0, at 6 1, at 7 0)
+
 -- where the number ends with its first two bytes, the six behind them are the tag 0 without fault and word
 module _ (ys : List ℕ) (h : u64_of ys < 65536) where
   pub ends_here : u16_of ys ≡ u64_of ys

@@ -5,7 +5,7 @@ use borrow.Rule.Slice.PartMut.{put_mid}
 use Rattle.std.specs.List.{copy_within}
 use Rattle.std.proofs.lemmas.Slice.{put_mid-paste, between_is}
 use lib.Seq.{slice, sets, paste, sets-eq, length-sets, take-set-le, drop-set-add, length-slice}
-use Rattle.session.proofs.Laws.Lists.{slice_after_set}
+use Rattle.session.proofs.Laws.Lists.{slice_after_set, slice_split}
 
 module _ {A : Type 0} where
   -- one run behind another is one run
@@ -93,6 +93,23 @@ module _ {A : Type 0} where
       ∙ ap (λ (r : List A). ws ++ r) (drop_sets (0 + length ws) l 0 vs (omega (arith, many)))
       ∙ sym (sets-eq ws l 0 (omega (arith, many)))
 
+  -- the part of `n` from `from` on moves down to `into`: where `k` are moved and `next` has `w` more, what is left to move gives the same list
+  pub moved_on :
+      (into from n k w : ℕ) (l : List A) {next : List A} → into ≤ from → k + w ≤ n → from + n ≤ length l
+      → next ≡ sets l (into + k) (slice (from + k) (from + (k + w)) l)
+      → sets next (into + (k + w)) (slice (from + (k + w)) (from + n) next) ≡ sets l (into + k) (slice (from + k) (from + n) l)
+  moved_on into from n k w l h few fits e =
+      let part : List A = slice (from + k) (from + (k + w)) l in
+      let left : List A = slice (from + (k + w)) (from + n) l in
+      let many : length part ≡ w = length-slice (from + k) (from + (k + w)) l (omega arith) ∙ omega arith in
+      let on : into + (k + w) ≡ into + k + length part = omega (arith, many) in
+      ap (λ (m : List A). sets m (into + (k + w)) (slice (from + (k + w)) (from + n) m)) e
+      ∙ ap (sets (sets l (into + k) part) (into + (k + w)))
+      (slice_sets_after part l (into + k) (from + (k + w)) (from + n) (omega (arith, many)) (omega arith))
+      ∙ ap (λ (i : ℕ). sets (sets l (into + k) part) i left) on
+      ∙ sets_append part l (into + k) left
+      ∙ ap (sets l (into + k)) (sym (slice_split (from + k) (from + (k + w)) (from + n) l (omega arith) (omega arith) fits))
+
   pub slice_take : (f n : ℕ) (l : List A) → f ≤ length l → take n (drop f l) ≡ slice f (f + n) l
   slice_take f n l h = sym (ap (drop f) (take-add f n l) ∙ drop_at (take f l) (take n (drop f l)) f (length-take-le f l h))
 
@@ -113,6 +130,18 @@ module _ {A : Type 0} where
   pub moved : (into from n : ℕ) (l : List A) → into ≤ from → from + n ≤ length l → copy_within l from (from + n) into ≡ sets l into (slice from (from + n) l)
   moved into from n l h k =
       pasted l into (drop from l) (from + n - from) (omega arith) (omega (arith, length-drop from l)) ∙ ap (sets l into) (between_is l from (from + n))
+
+  -- where `k` of the `n` are moved, and what is left to move gives the goal, the library moves what is left
+  pub moved_rest :
+      (into from n k : ℕ) (l : List A) {goal : List A} → into ≤ from → k ≤ n → from + n ≤ length l
+      → sets l (into + k) (slice (from + k) (from + n) l) ≡ goal
+      → copy_within l (from + k) (from + n) (into + k) ≡ goal
+  moved_rest into from n k l h few fits e =
+      let ends : from + k + (n - k) ≡ from + n = omega arith in
+      sym (ap (λ (t : ℕ). copy_within l (from + k) t (into + k)) ends)
+      ∙ moved (into + k) (from + k) (n - k) l (omega arith) (omega arith)
+      ∙ ap (λ (t : ℕ). sets l (into + k) (slice (from + k) t l)) ends
+      ∙ e
 
 -- n entries from i on, each read at its place, are the rest from there
 abbrev places : List ℕ → ℕ → ℕ → List ℕ

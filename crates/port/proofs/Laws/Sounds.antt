@@ -1,9 +1,9 @@
 -- Both checks of a session's bytes in one walk, of the layout and of the record: each test in the code's order, and what each way out says of the two.
 use Rattle.std.specs.Prelude.{Option, None, Some}
-use Rattle.std.specs.List.{list_any, range_with_len}
-use Rattle.std.proofs.Common.{cond, ◌≡◌, ℕ, ◌+◌, ◌-◌, ◌*◌, ◌<◌, ◌≤◌, Bool, true, false, not, ◌&&◌, ◌||◌, eqb, ltb, leb, List, drop, sym, refl, ap, ◌∙◌, ap₂, arith, ltb-false}
+use Rattle.std.proofs.Common.{cond, ◌≡◌, ℕ, ◌+◌, ◌-◌, ◌*◌, ◌/◌, ◌%◌, ◌^◌, ◌<◌, ◌≤◌, Bool, true, false, not, ◌&&◌, ◌||◌, eqb, ltb, leb, List, drop, sym, refl, ap, ◌∙◌, ap₂, arith, drop-drop, ltb-false, le-ltb, ne_eqb}
 use mathlib.Core.Bool.{or_assoc}
 use lib.Seq.{slice}
+use borrow.Author.Tests.{lt-leb}
 use Rattle.words.proofs.Laws.Tests.{neither}
 use Rattle.ring.specs.RingSums.{packet_limit}
 use Rattle.session.specs.declared.types.IsoConfig.{IsoConfig}
@@ -12,17 +12,18 @@ use Rattle.session.specs.declared.types.IsoHead.{IsoHead}
 use Rattle.session.specs.declared.types.IsoChannelState.{IsoChannelState}
 use Rattle.session.specs.Session.{slots, room, packets_of, all_packets, pending_packets, has_reason}
 use Rattle.session.specs.Record.{is_bad_config, is_bad_counts, is_bad_request, any_bad_request, is_bad_sums, is_bad_plan, any_bad_plan, is_bad_state}
-use Rattle.session.proofs.Laws.Sums.{packets_split}
+use Rattle.session.proofs.Laws.Sums.{packets_past, packets_split}
 use Rattle.session.proofs.Laws.Tests.{none}
-use Rattle.port.specs.Bytes.{u16_of, u64_of}
+use Rattle.port.specs.Bytes.{byte_of, u16_of, u64_of}
 use Rattle.port.specs.Layout.{config_of, head_of, request_of, plan_of, any_of, is_bad_request_bytes, is_bad_plan_bytes, is_bad_mark, is_bad_head, is_bad_layout, session_of}
 use Rattle.port.specs.Layout.{requests_in, plans_in}
 use Rattle.port.specs.Places.{requests_of}
 use Rattle.port.specs.Scan.{is_bad_request_entry, is_bad_plan_entry, is_unsound, is_bad_numbers, sums_of, sums_in}
-use Rattle.port.proofs.Laws.Entries.{field, ends_here, no_outcome}
+use Rattle.port.proofs.Laws.Entries.{field, by_plan, ends_here, no_outcome}
+use Rattle.port.proofs.Laws.Kept.{Octets, octets_drop, byte_small, u16_small}
 use Rattle.port.proofs.Laws.Scans.{same_tests, front_test, state_test, counts_in}
 use Rattle.port.proofs.Laws.Placed.{config_there, head_there, requests_many}
-use Rattle.port.proofs.Laws.Tables.{any_either, any_places}
+use Rattle.port.proofs.Laws.Tables.{any_either}
 use Rattle.port.proofs.Laws.Walks.{requests_in_lem, plans_in_lem}
 
 -- ---- one entry
@@ -38,6 +39,44 @@ good_entry xs at {word} e h =
     let small : u64_of ys < 65536 = omega (arith, few, e) in
     let packets : word ≡ u16_of (drop 12 (drop at xs)) = e ∙ sym (ends_here ys small) ∙ field u16_of 12 at xs in
     sym (none (sym (no_outcome xs at small)) (sym (ap (λ (n : ℕ). eqb n 0 || ltb 255 n) packets) ∙ h))
+
+-- the same of the word less 1, which wraps where it is 0
+pub plain_entry :
+    (xs : List ℕ) (at : ℕ) {word less : ℕ} → word ≡ u64_of (drop (at + 12) xs) → (less + 1) % 2 ^ 64 ≡ word → less ≤ 254
+    → false ≡ is_bad_request_entry (drop at xs)
+plain_entry xs at {word} {less} e wraps few =
+    let some : word ≡ less + 1 = omega arith in
+    good_entry xs at e (none (ne_eqb word 0 (λ z. omega arith)) (le-ltb 255 word (omega arith)))
+
+-- the word of a plan that is not settled, with the byte before it: below 2^24 for each slot of the ring
+pub good_packet :
+    (xs : List ℕ) → Octets xs → (at limit size : ℕ) {word : ℕ} → size ≤ 65535 → word ≡ u64_of (drop at xs) → word < 16777216 * size
+    → word / 256 % 65536 ≤ limit
+    → false ≡ is_bad_plan_entry limit size (drop (at + 1) xs)
+unfolding plan_of is_bad_plan_bytes
+good_packet xs octets at limit size {word} narrow ew below short =
+    let ys : List ℕ = drop at xs in
+    let zs : List ℕ = drop (at + 1) xs in
+    let on : (k : ℕ) → drop (1 + k) ys ≡ drop k zs =
+    λ k.
+    let same : at + (1 + k) ≡ at + 1 + k = omega arith in
+    drop-drop (1 + k) at xs ∙ ap (λ (n : ℕ). drop n xs) same ∙ sym (drop-drop k (at + 1) xs) in
+    let parts = by_plan ys in
+    let few : byte_of ys < 256 = byte_small ys (octets_drop at xs octets) in
+    let narrow_length : u16_of (drop 1 ys) < 65536 = u16_small (drop 1 ys) (octets_drop 1 ys (octets_drop at xs octets)) in
+    let length_is : u16_of (drop 1 ys) ≡ word / 256 % 65536 = omega (arith, parts, ew, few, narrow_length) in
+    let planned = ap u16_of (drop-drop 1 at xs) in
+    let slot = ap u16_of (on 2) in
+    let moved = ap u16_of (on 4) in
+    let tag = ap byte_of (on 6) in
+    let in_ring : u16_of (drop 2 zs) < size = omega (arith, parts, slot, ew, below) in
+    let unmoved : u16_of (drop 4 zs) ≡ 0 = omega (arith, parts, moved, ew, below) in
+    let done : byte_of (drop 6 zs) ≡ 0 = omega (arith, parts, tag, ew, below) in
+    let long : u16_of zs ≤ limit = omega (arith, short, planned, length_is) in
+    sym
+    (none (le-ltb 1 (byte_of (drop 6 zs)) (omega (arith, done)))
+    (none (le-ltb limit (u16_of zs) long)
+    (none (le-ltb (u16_of zs) (u16_of (drop 4 zs)) (omega (arith, unmoved))) (lt-leb size (u16_of (drop 2 zs)) in_ring))))
 
 -- ---- the tests that ask no entry
 
@@ -220,11 +259,12 @@ module _ (xs : List ℕ) where
     pub start_bad : (first || second) ≡ true → is_unsound xs ≡ true
     start_bad e = bad_start xs (ap₂ (λ (a b : Bool). a || b) (sym is_first) (sym is_second) ∙ e)
 
+    pub start_good : (first || second) ≡ false → ((is_bad_mark xs || is_bad_head xs) ≡ false) × (is_bad_numbers (session_of xs) ≡ false)
+    start_good good = let both = neither first second good in (sym is_first ∙ both.0, sym is_second ∙ both.1)
+
     module _ (good : (first || second) ≡ false) {h : IsoHead} (is_head : h ≡ head_of xs) where
       start : ((is_bad_mark xs || is_bad_head xs) ≡ false) × (is_bad_numbers (session_of xs) ≡ false)
-      start =
-          let both = neither first second good in
-          (sym is_first ∙ both.0, sym is_second ∙ both.1)
+      start = start_good good
 
       there : h ≡ (session_of xs).head
       there = is_head ∙ head_there xs
@@ -273,14 +313,13 @@ module _ (xs : List ℕ) where
     sums_bad e = bad_sums xs (sym sums_are ∙ e)
 
     pub plans_tell :
-        {limit size : ℕ} {bad : Bool} → (ltb 1024 all || over) ≡ false → limit ≡ packet_limit cfg.speed → size ≡ slots cfg
-        → bad ≡ list_any (λ (i : ℕ). is_bad_plan_entry limit size (drop (1320 + 7 * i) xs)) (range_with_len 0 all)
+        {bad : Bool} → (ltb 1024 all || over) ≡ false
+        → bad ≡ any_of (is_bad_plan_entry (packet_limit cfg.speed) (slots cfg)) 7 all (drop 1320 xs)
         → bad ≡ is_unsound xs
-    plans_tell {limit} {size} e el ez eb =
+    plans_tell e eb =
         let s : IsoChannelState = session_of xs in
-        any_places (is_bad_plan_entry limit size) 7 all 1320 xs eb
-        ∙ ap₂ (λ (l z : ℕ). any_of (is_bad_plan_entry l z) 7 all (drop 1320 xs)) (el ∙ ap (λ (k : IsoConfig). packet_limit k.speed) there_cfg)
-        (ez ∙ ap slots there_cfg)
+        eb
+        ∙ ap (λ (k : IsoConfig). any_of (is_bad_plan_entry (packet_limit k.speed) (slots k)) 7 all (drop 1320 xs)) there_cfg
         ∙ ap (λ (n : ℕ). any_of (is_bad_plan_entry (packet_limit s.cfg.speed) (slots s.cfg)) 7 n (drop 1320 xs)) w.all_is
         ∙ sym (by_plans xs w.numbers w.front w.requests (sym sums_are ∙ e))
 
@@ -294,3 +333,22 @@ module _ (xs : List ℕ) where
       → Some (record { all = all; pending = pending }) ≡ sums_in xs
   some_counted e ea ep =
       ap₂ (λ (n m : ℕ). Some (record { all = n; pending = m })) ea ep ∙ sym (ap (λ (b : Bool). cond b None (Some (sums_of (session_of xs)))) e)
+
+  -- without requests no entry is in use
+  no_entry : (bad : List ℕ → Bool) (w n : ℕ) (ys : List ℕ) → 0 ≡ n → any_of bad w n ys ≡ false
+  unfolding any_of
+  no_entry bad w n ys e = sym (ap (λ (k : ℕ). any_of bad w k ys) e)
+
+  pub empty_counted :
+      (is_bad_mark xs || is_bad_head xs) ≡ false → is_bad_numbers (session_of xs) ≡ false → 0 ≡ (session_of xs).head.count
+      → Some (record { all = 0; pending = 0 }) ≡ sums_in xs
+  empty_counted front numbers empty =
+      let s : IsoChannelState = session_of xs in
+      let all : 0 ≡ all_packets s = sym (packets_past 0 s.head.count s.requests (omega (arith, empty))) in
+      let pending : 0 ≡ pending_packets s = sym (packets_past s.head.done s.head.count s.requests (omega (arith, empty))) in
+      let sums : is_bad_sums s ≡ false =
+      none (le-ltb 1024 (all_packets s) (omega (arith, all))) (le-ltb (room s.cfg) (pending_packets s) (omega (arith, pending))) in
+      some_counted
+      (by_plans xs numbers front (no_entry is_bad_request_entry 20 s.head.count (drop 40 xs) empty) sums
+      ∙ no_entry (is_bad_plan_entry (packet_limit s.cfg.speed) (slots s.cfg)) 7 (all_packets s) (drop 1320 xs) all)
+      all pending

@@ -1,5 +1,5 @@
 -- Facts that docs/LANDINGS.md names and no proof leans on.
-use Rattle.std.proofs.Common.{◌≡◌, ℕ, suc, max, ltb-true, ltb-false, List, ◌++◌, ◌+◌, ◌-◌, ◌*◌, ◌/◌, ◌%◌, ◌<◌, ◌≤◌, Bool, true, false, not, ◌||◌, ltb, length, get_or, take, drop, set, replicate, refl, sym, ap, ◌∙◌, ap₂, subst, arith, take_all, le-ltb, drop-drop, get_or-drop, mod-eq_of_lt}
+use Rattle.std.proofs.Common.{◌≡◌, ℕ, suc, max, ltb-true, ltb-false, List, ◌++◌, ◌+◌, ◌-◌, ◌*◌, ◌/◌, ◌%◌, ◌<◌, ◌≤◌, Bool, true, false, not, ◌||◌, eqb, ltb, cond, eq-eqb, length, get_or, take, drop, set, replicate, refl, sym, ap, ◌∙◌, ap₂, subst, arith, take_all, le-ltb, mod-eq_of_lt}
 use native.Mathlib.Nat.{add-mul-mod_self_left}
 use lib.Seq.{slice, sets, sets-eq, length-sets, length-slice}
 use Rattle.words.specs.Words.{is_set, active}
@@ -9,18 +9,23 @@ use Rattle.ring.specs.declared.speed.Speed.TheVariants.{High}
 use Rattle.session.specs.declared.types.IsoConfig.{IsoConfig}
 use Rattle.session.specs.declared.types.IsoChannelState.{IsoChannelState}
 use Rattle.session.specs.declared.reply.IsoReply.{IsoReply}
-use Rattle.session.specs.Session.{slots, ring_words, room, blank_request, blank_plan, all_packets}
+use Rattle.session.specs.Session.{slots, ring_words, room, blank_request, blank_plan, all_packets, pending_packets}
+use Rattle.session.specs.Record.{is_bad_record}
+use Rattle.session.proofs.Laws.Record.{sound}
+use Rattle.words.proofs.Laws.Tests.{neither}
 use Rattle.session.specs.Settle.{is_served, oldest_from, oldest_to, drained}
-use Rattle.session.proofs.Laws.Sums.{packets_past, room_fits}
+use Rattle.session.proofs.Laws.Sums.{packets_past, packets_split, room_fits}
 use Rattle.session.proofs.Laws.Settled.{drained_stop}
 use Rattle.port.specs.declared.answers.PortReply.{PortReply}
-use Rattle.port.specs.Bytes.{byte_of, u16_of, u32_of, u64_of}
+use Rattle.port.specs.Bytes.{byte_of}
 use Rattle.port.specs.Tags.{speed_of}
-use Rattle.port.specs.Layout.{any_of, config_of, layout_number, left_bytes, session_of}
+use Rattle.port.specs.Layout.{any_of, config_of, is_bad_layout, layout_number, left_bytes, session_of}
+use Rattle.port.specs.Scan.{is_unsound}
+use Rattle.port.proofs.Laws.Placed.{requests_many, plans_many}
+use mathlib.Core.Path.{subst⁻¹}
 use Rattle.port.specs.Calls.{port_reply, reply_port, reply_refused, reply_by, bytes_by}
 use Rattle.port.specs.Places.{Left}
 use Rattle.port.proofs.Laws.Calls.{done}
-use Rattle.port.proofs.Laws.Entries.{pair}
 use Rattle.port.proofs.Laws.Runs.{sets_append, take_sets, drop_sets}
 use Rattle.session.proofs.Laws.Lists.{slice_split}
 use Rattle.port.proofs.Laws.Settling.{oldest_ends}
@@ -74,38 +79,6 @@ module _ (bad : List ℕ → Bool) (w : ℕ) where
       ap (λ (m : ℕ). any_of bad w m (drop at xs)) all
       ∙ any_split bad w (n - k) k at xs
       ∙ ap₂ (λ (x y : Bool). x || y) (any_less bad w i (n - k) (drop at xs) reach before) last
-
--- eight bytes as one number, byte by byte; and by the fields of a plan, which are the last seven of them
-by_bytes_lem :
-    (ys : List ℕ)
-    → u64_of ys
-    ≡ byte_of ys
-    + 256 * byte_of (drop 1 ys)
-    + 65536 * byte_of (drop 2 ys)
-    + 16777216 * byte_of (drop 3 ys)
-    + 4294967296 * byte_of (drop 4 ys)
-    + 1099511627776 * byte_of (drop 5 ys)
-    + 281474976710656 * byte_of (drop 6 ys)
-    + 72057594037927936 * byte_of (drop 7 ys)
-unfolding u64_of u32_of u16_of byte_of
-by_bytes_lem ys =
-    let at : (k i : ℕ) → get_or (drop k ys) i 0 ≡ get_or ys (k + i) 0 = λ k i. get_or-drop k ys i 0 in
-    let six : drop 2 (drop 4 ys) ≡ drop 6 ys = drop-drop 2 4 ys in
-    let low = ap (λ (l : List ℕ). get_or l 0 0) six in
-    let high = ap (λ (l : List ℕ). get_or l 1 0) six in
-    omega (arith, low, high, at 1 0, at 2 0, at 2 1, at 3 0, at 4 0, at 4 1, at 5 0, at 6 0, at 6 1, at 7 0)
-
-pub by_plan :
-    (ys : List ℕ)
-    → u64_of ys
-    ≡ byte_of ys
-    + 256 * u16_of (drop 1 ys)
-    + 16777216 * u16_of (drop 3 ys)
-    + 1099511627776 * u16_of (drop 5 ys)
-    + 72057594037927936 * byte_of (drop 7 ys)
-by_plan ys =
-    let on : (k : ℕ) → byte_of (drop 1 (drop k ys)) ≡ byte_of (drop (k + 1) ys) = λ k. ap byte_of (drop-drop 1 k ys) in
-    omega (arith, by_bytes_lem ys, pair (drop 1 ys), on 1, pair (drop 3 ys), on 3, pair (drop 5 ys), on 5)
 
 -- without requests there are no packets
 pub empty_all : (xs : List ℕ) → (session_of xs).head.count ≡ 0 → 0 ≡ all_packets (session_of xs)
@@ -179,3 +152,67 @@ reply_read p few taken halt =
     ap (λ (k : ℕ). k % 2) flags ∙ add-mul-mod_self_left p.taken 2 p.halt ∙ mod-eq_of_lt (omega arith) in
     let third : n / 8589934592 ≡ p.halt = omega arith in
     ap₂ (λ (a b : ℕ). port_reply a b (n / 8589934592)) first second ∙ ap (port_reply p.refusal p.taken) third
+
+-- ---- a verdict as one number, the packets of good bytes: what it was read as, and what it told
+
+pub record Verdict : Type 0 where
+  pub refusal : ℕ
+  pub bad : Bool
+  pub all : ℕ
+  pub pending : ℕ
+
+abbrev good_number : ℕ → ℕ → ℕ
+good_number all pending = all + 65536 * pending
+
+abbrev good_verdict : ℕ → ℕ → Verdict
+good_verdict all pending = record { refusal = 0; bad = false; all = all; pending = pending }
+
+abbrev not_good : ℕ → Verdict
+not_good refusal = record { refusal = refusal; bad = true; all = 0; pending = 0 }
+
+abbrev verdict_of : ℕ → Verdict
+verdict_of v =
+    cond (eqb (v / 4294967296) 0) (good_verdict (v % 65536) (v / 65536))
+    (cond (eqb (v / 4294967296) 1) (not_good 0) (not_good (v / 4294967296 % 65536)))
+
+pub record Told (xs : List ℕ) (r : Verdict) : Type 0 where
+  pub refusal : r.refusal ≡ layout_number xs
+  pub bad : layout_number xs ≡ 0 → r.bad ≡ is_bad_record (session_of xs)
+  pub all : r.bad ≡ false → r.all ≡ all_packets (session_of xs)
+  pub pending : r.bad ≡ false → r.pending ≡ pending_packets (session_of xs)
+
+good_read : (all pending : ℕ) → all ≤ 1024 → pending ≤ 1024 → verdict_of (good_number all pending) ≡ good_verdict all pending
+good_read all pending a p =
+    let n : ℕ = good_number all pending in
+    let none : n / 4294967296 ≡ 0 = omega arith in
+    let first : n % 65536 ≡ all = omega arith in
+    let second : n / 65536 ≡ pending = omega arith in
+    ap (λ (b : Bool). cond b (good_verdict (n % 65536) (n / 65536)) (cond (eqb (n / 4294967296) 1) (not_good 0) (not_good (n / 4294967296 % 65536))))
+    (eq-eqb (n / 4294967296) 0 none)
+    ∙ ap₂ good_verdict first second
+
+module _ (xs : List ℕ) (long : 8488 ≤ length xs) where
+  number_is : layout_number xs ≡ cond (is_bad_layout xs) 18 0
+  number_is = ap (λ (b : Bool). cond b 17 (cond (is_bad_layout xs) 18 0)) (le-ltb (length xs) 8488 long)
+
+  -- bytes that pass both checks
+  both_pass : is_unsound xs ≡ false → (0 ≡ layout_number xs) × (false ≡ is_bad_record (session_of xs))
+  both_pass good =
+      let two = neither (is_bad_layout xs) (is_bad_record (session_of xs)) good in (
+        sym (number_is ∙ ap (λ (x : Bool). cond x 18 0) two.0),
+        sym two.1,
+      )
+
+  passed_number :
+      {all pending v : ℕ} → is_unsound xs ≡ false → all ≡ all_packets (session_of xs) → pending ≡ pending_packets (session_of xs)
+      → v ≡ good_number all pending
+      → Told xs (verdict_of v)
+  passed_number {all} {pending} good ea ep ev =
+      let two = both_pass good in
+      let s : IsoChannelState = session_of xs in
+      let g = sound s (requests_many xs) (plans_many xs) (sym two.1) in
+      let parts = packets_split s.head.done s.head.count s.requests g.done_in (omega (arith, g.count_in, g.requests_long)) in
+      let few : all ≤ 1024 = omega (arith, ea, g.all_few) in
+      let fewer : pending ≤ 1024 = omega (arith, ea, ep, parts, few) in
+      subst⁻¹ (Told xs) (ap verdict_of ev ∙ good_read all pending few fewer)
+      (record { refusal = two.0; bad = λ z. two.1; all = λ h. ea; pending = λ h. ep })

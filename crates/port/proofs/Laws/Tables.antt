@@ -109,7 +109,7 @@ module _ (bad : List ℕ → Bool) (w : ℕ) where
       ∙ any_clear n i (drop w xs) (omega arith) (neither (bad xs) (any_of bad w n (drop w xs)) e).1
 
   -- the entries asked by their places, as a chain over these asks them
-  any_range :
+  pub any_range :
       (n i at : ℕ) (xs : List ℕ) → list_any (λ (k : ℕ). bad (drop (at + w * k) xs)) (range_with_len i n) ≡ any_of bad w n (drop (at + w * i) xs)
   unfolding any_of
   any_range zero i at xs = refl

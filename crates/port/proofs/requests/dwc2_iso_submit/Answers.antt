@@ -10,15 +10,15 @@ returns-in-Err c =
     let told = verdict_refused a.session.now c.in-Err.ensures in
     submit_refused_lem a.session.now a.transfer a.lengths.now a.ring.now told.0 told.1 c.submit_refused.ensures
 
-pub returns-then-transfer-gt3 : goal.returns-then-transfer-gt3
-returns-then-transfer-gt3 c =
+pub returns-then-unnamed : goal.returns-then-unnamed
+returns-then-unnamed c =
     let a = c.args in
-    submit_kind a.session.now a.transfer a.lengths.now a.ring.now refl (verdict_told a.session.now c.in-Ok.ensures) c.if-transfer-gt3.true
-    c.submit_refused-then-transfer-gt3.ensures
+    submit_kind a.session.now a.transfer a.lengths.now a.ring.now refl (verdict_told a.session.now c.in-Ok.ensures) (omega (arith, c.if-unnamed.true))
+    c.submit_refused-then-unnamed.ensures
 
-pub returns-else-transfer-gt3 : goal.returns-else-transfer-gt3
-returns-else-transfer-gt3 c =
+pub returns-else-unnamed : goal.returns-else-unnamed
+returns-else-unnamed c =
     let a = c.args in
     let done = c.submit_at.ensures in
-    submit_done a.session.now a.transfer a.lengths.now a.ring.now refl (verdict_told a.session.now c.in-Ok.ensures) (omega (arith, c.if-transfer-gt3.false))
+    submit_done a.session.now a.transfer a.lengths.now a.ring.now refl (verdict_told a.session.now c.in-Ok.ensures) (omega (arith, c.if-unnamed.false))
     c.transfer_of.ensures done.0 done.1 done.2
