@@ -93,13 +93,18 @@ fn is_bad_packet(bytes: &[u8], at: usize, limit: u16, slots: u16) -> bool
     is_bad_plan_at(bytes, at) | is_bad_plan(limit, slots, plan_at(bytes, at))
 }
 
-// Whether one of the plans from `from` to `to` is bad by either check.
+// Whether one of the plans from `from` to `to` is bad by either check. All are asked, so that a turn has no branch but the loop's. Only what is settled
+// needs it, and so it stands once.
+#[inline(never)]
 fn any_bad_packet(bytes: &[u8], from: usize, to: usize, limit: u16, slots: u16) -> bool
     requires { (8488 ≤ length bytes.now) × (from ≤ to) × (to ≤ 1024) }
-    ensures { result
-        ≡ list_any (λ i. is_bad_plan_entry limit slots (drop (1320 + 7 * i) bytes.now)) (range_with_len from (to - from)) }
+    ensures { result ≡ any_of (is_bad_plan_entry limit slots) 7 (to - from) (drop (1320 + 7 * from) bytes.now) }
 {
-    (from..to).any(|i| is_bad_packet(bytes, 1_320 + 7 * i, limit, slots))
+    let mut bad = false;
+    for i in from..to {
+        bad |= is_bad_packet(bytes, 1_320 + 7 * i, limit, slots);
+    }
+    bad
 }
 
 // None of the plans from `from` to `to` is settled or bad. Of one that is not settled the last three bytes, what it moved and its status, are 0: its
@@ -142,9 +147,20 @@ fn are_bad_numbers(bytes: &[u8]) -> bool
     is_bad_config(cfg) | (counts | is_bad_state(head, iso_ring_size(cfg.speed), reason_at(bytes)))
 }
 
-// The packets counted of the entries in use, where those pass both checks. It is a function of its own, so that a call saves no register for the walk
-// where there is no entry.
-#[inline(never)]
+// The packets of the completed requests. Where all are completed these are the packets of all, which are not counted twice.
+fn done_packets(bytes: &[u8], done: u16, count: u16, all: usize) -> usize
+    requires { (8488 ≤ length bytes.now) × (done ≤ 64) × (all ≡ packets_of (slice 0 count (requests_of bytes.now))) }
+    ensures { result ≡ packets_of (slice 0 done (requests_of bytes.now)) }
+{
+    if done == count {
+        return all;
+    }
+    packets_before(bytes, done)
+}
+
+// The packets counted of the entries in use, where those pass both checks. It is put into each call: as a function of its own it takes a third longer beside few
+// requests.
+#[inline(always)]
 fn entries_at(bytes: &[u8]) -> Option<RequestSums>
     requires { (8488 ≤ length bytes.now)
         × ((is_bad_mark bytes.now || is_bad_head bytes.now) ≡ false)
@@ -153,7 +169,7 @@ fn entries_at(bytes: &[u8]) -> Option<RequestSums>
 {
     let head = head_at(bytes);
     let all = requests_checked(bytes, head.count)?;
-    let before = packets_before(bytes, head.done);
+    let before = done_packets(bytes, head.done, head.count, all);
     let pending = all - before;
     let cfg = config_at(bytes);
     if (all > 1_024) | is_over_room(cfg, pending as u64) {

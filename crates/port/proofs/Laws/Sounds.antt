@@ -247,7 +247,7 @@ pub record Walked (xs : List ℕ) (all before : ℕ) : Type 0 where
   pub pending_is : all - before ≡ pending_packets (session_of xs)
 
 module _ (xs : List ℕ) where
-  counted_some : (b : Bool) {n m : ℕ} → Some n ≡ cond b None (Some m) → (b ≡ false) × (n ≡ m)
+  pub counted_some : (b : Bool) {n m : ℕ} → Some n ≡ cond b None (Some m) → (b ≡ false) × (n ≡ m)
   counted_some true e = grind arith
   counted_some false e = (refl, grind arith)
 

@@ -29,7 +29,7 @@ module _ (bad : List ℕ → Bool) (w : ℕ) where
   unfolding any_of
   any_next n at xs = ap (λ (ys : List ℕ). bad (drop at xs) || any_of bad w n ys) (drop-drop w at xs)
 
-  any_by :
+  pub any_by :
       (n i at : ℕ) (xs : List ℕ) (b : Bool) → i < n → b ≡ bad (drop at xs)
       → (b || any_of bad w (n - (i + 1)) (drop (at + w) xs)) ≡ any_of bad w (n - i) (drop at xs)
   any_by n i at xs b h e =
@@ -109,7 +109,7 @@ module _ (bad : List ℕ → Bool) (w : ℕ) where
       ∙ any_clear n i (drop w xs) (omega arith) (neither (bad xs) (any_of bad w n (drop w xs)) e).1
 
   -- the entries asked by their places, as a chain over these asks them
-  pub any_range :
+  any_range :
       (n i at : ℕ) (xs : List ℕ) → list_any (λ (k : ℕ). bad (drop (at + w * k) xs)) (range_with_len i n) ≡ any_of bad w n (drop (at + w * i) xs)
   unfolding any_of
   any_range zero i at xs = refl

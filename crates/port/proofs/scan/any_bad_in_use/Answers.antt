@@ -1,15 +1,14 @@
 -- The plans of completed requests and those behind them are all plans in use.
 use Rattle.std.proofs.Common.{◌≡◌, ℕ, ◌+◌, ◌-◌, ◌*◌, ◌≤◌, Bool, ◌||◌, List, drop, sym, refl, ap, ◌∙◌, ap₂, arith}
-use Rattle.std.specs.List.{list_any, range_with_len}
 use Rattle.port.specs.Layout.{any_of}
 use Rattle.port.specs.Scan.{is_bad_plan_entry}
-use Rattle.port.proofs.Laws.Tables.{any_range, any_split}
+use Rattle.port.proofs.Laws.Tables.{any_split}
 use Rattle.port.proofs.scan.any_bad_in_use.Goals as goal
 
--- a first part, told place by place, and what is behind it
+-- a first part, and what is behind it
 parts :
     (before all : ℕ) (xs : List ℕ) {limit size l z : ℕ} {first second : Bool} → before ≤ all → limit ≡ l → size ≡ z
-    → first ≡ list_any (λ (k : ℕ). is_bad_plan_entry limit size (drop (1320 + 7 * k) xs)) (range_with_len 0 (before - 0))
+    → first ≡ any_of (is_bad_plan_entry limit size) 7 (before - 0) (drop (1320 + 7 * 0) xs)
     → second ≡ any_of (is_bad_plan_entry limit size) 7 (all - before) (drop (1320 + 7 * before) xs)
     → (first || second) ≡ any_of (is_bad_plan_entry l z) 7 all (drop 1320 xs)
 parts before all xs {limit} {size} h el ez e f =
@@ -17,7 +16,7 @@ parts before all xs {limit} {size} h el ez e f =
     let front : before - 0 ≡ before = omega arith in
     let here : 1320 + 7 * 0 ≡ 1320 = omega arith in
     let whole : before + (all - before) ≡ all = omega (arith, h) in
-    ap₂ (λ (a b : Bool). a || b) (e ∙ any_range bad 7 (before - 0) 0 1320 xs ∙ ap₂ (λ (n k : ℕ). any_of bad 7 n (drop k xs)) front here) f
+    ap₂ (λ (a b : Bool). a || b) (e ∙ ap₂ (λ (n k : ℕ). any_of bad 7 n (drop k xs)) front here) f
     ∙ sym (any_split bad 7 before (all - before) 1320 xs)
     ∙ ap (λ (n : ℕ). any_of bad 7 n (drop 1320 xs)) whole
     ∙ ap₂ (λ (m n : ℕ). any_of (is_bad_plan_entry m n) 7 all (drop 1320 xs)) el ez
@@ -46,7 +45,5 @@ returns c =
     let xs = a.bytes.now in
     let limit = c.iso_max_xfer_size-limit in
     let slots = c.iso_ring_size-slots in
-    let behind =
-    c.any_bad_packet-2.ensures ∙ any_range (is_bad_plan_entry limit.result slots.result) 7 (a.all - a.before) a.before 1320 xs in
     ap (λ (b : Bool). b || c.any_bad_packet-2.result) (sym c.if-any_bad_packet.false)
-    ∙ parts a.before a.all xs c.requires.1 limit.ensures slots.ensures c.any_bad_packet.ensures behind
+    ∙ parts a.before a.all xs c.requires.1 limit.ensures slots.ensures c.any_bad_packet.ensures c.any_bad_packet-2.ensures
