@@ -70,17 +70,17 @@ pub(crate) fn put_u64(bytes: &mut [u8], at: usize, x: u64)
     put(bytes, at, x.to_le_bytes());
 }
 
-// The `n` bytes from `from` on move down to `into`, eight a turn, and then those that are left: `copy_within` alone moves bytes to a place fewer
+// The `n` bytes from `from` on move down to `into`, sixteen a turn, and then those that are left: `copy_within` alone moves bytes to a place fewer
 // than 32 before them one by one. It is a function of its own, since of a move by a fixed distance the compiler makes a call of C's `memmove`.
 #[inline(never)]
 pub(crate) fn move_down(bytes: &mut [u8], into: usize, from: usize, n: usize)
     requires { (into ≤ from) × (from + n ≤ length bytes.old) }
     ensures { bytes.new ≡ sets bytes.old into (slice from (from + n) bytes.old) }
 {
-    for k in 0..n / 8 {
-        let eight: [u8; 8] = part(bytes, from + 8 * k);
-        put(bytes, into + 8 * k, eight);
+    for k in 0..n / 16 {
+        let some: [u8; 16] = part(bytes, from + 16 * k);
+        put(bytes, into + 16 * k, some);
     }
-    let done = n / 8 * 8;
+    let done = n / 16 * 16;
     bytes.copy_within(from + done..from + n, into + done);
 }

@@ -42,8 +42,8 @@ fn joined(a: u64, b: u64) -> u64
     a | b
 }
 
-// The packets of the first `n` requests, where all are such: the words, each less 1, are up to 254. Their bits are put together without a test of
-// each, so that one test speaks of all.
+// The packets of the first `n` requests, where each has such a number: less 1 it is up to 254. The bits of all are put together without a test of each,
+// so that one test speaks of all.
 fn plain_packets(bytes: &[u8], n: u16) -> Option<u64>
     requires { (8488 ≤ length bytes.now) × (n ≤ 64) }
     ensures { IfSome result
@@ -120,7 +120,7 @@ fn are_unsettled(bytes: &[u8], from: usize, to: usize, limit: u16, slots: u16) -
     (words < 16_777_216 * u64::from(slots)) & (words / 256 % 65_536 <= u64::from(limit))
 }
 
-// The same of all plans in use. Those of completed requests, before `before`, are settled; of the others mostly none is.
+// Whether one of all plans in use is bad by either check. Those of completed requests, the first `before`, are settled; of the others mostly none is.
 fn any_bad_in_use(bytes: &[u8], before: usize, all: usize, speed: Speed) -> bool
     requires { (8488 ≤ length bytes.now) × (before ≤ all) × (all ≤ 1024) }
     ensures { result ≡ any_of (is_bad_plan_entry (packet_limit speed) (ring_size speed)) 7 all (drop 1320 bytes.now) }
@@ -158,8 +158,8 @@ fn done_packets(bytes: &[u8], done: u16, count: u16, all: usize) -> usize
     packets_before(bytes, done)
 }
 
-// The packets counted of the entries in use, where those pass both checks. It is put into each call: as a function of its own it takes a third longer beside few
-// requests.
+// The packets of the entries in use, where those pass both checks. It is put into each call: as a function of its own it takes a third longer beside
+// few requests.
 #[inline(always)]
 fn entries_at(bytes: &[u8]) -> Option<RequestSums>
     requires { (8488 ≤ length bytes.now)
